@@ -1,0 +1,122 @@
+ghost use Rattle.std.specs.Prelude.{◌≡◌, ◌≤◌, ◌<◌, ◌∷◌, ◌++◌, [], Bool, true, IfOk, OnOk};
+ghost use Rattle.wires.specs.Events.{events_of};
+ghost use Rattle.bit_bus.specs.Planned.{IsPlan};
+ghost use Rattle.bit_bus.specs.Levels.{idle, low_run, whole_levels, cut_levels, levels, first_cut, EndsHigh};
+ghost use Rattle.bit_bus.specs.Word.{event_word};
+
+use crate::plan::{Plan, Slot};
+use std::alloc::{AllocError, Global};
+use wires::Sample;
+
+/// The samples of a frame, one a tick of 5 µs, and the slot in which it was cut, if any.
+#[derive(Debug, Drop)]
+pub struct Driven {
+    pub samples: Vec<Sample>,
+    pub cut: Option<usize>,
+}
+
+/// The longest low period of the clock, in ticks, that isn't a timeout: 25 ms (SMBus 3.2, t_TIMEOUT).
+const LONGEST_LOW: u16 = 5000;
+
+fn push_low(samples: &mut Vec<Sample>, sda: bool, alert: bool, ticks: u16) -> Result<(), AllocError>
+    ensures { OnOk result (samples.new.items ≡ samples.old.items ++ low_run alert sda ticks) }
+{
+    for _ in 0..ticks {
+        samples.push(Sample {
+            scl: false,
+            sda,
+            alert,
+        })?;
+    }
+    Ok(())
+}
+
+fn push_high(samples: &mut Vec<Sample>, sda: bool, alert: bool) -> Result<(), AllocError>
+    ensures { OnOk result (samples.new.items ≡ samples.old.items ++ record { scl = true; sda = sda; alert = alert } ∷ []) }
+{
+    samples.push(Sample {
+        scl: true,
+        sda,
+        alert,
+    })?;
+    Ok(())
+}
+
+fn push_whole(
+    samples: &mut Vec<Sample>,
+    slot: Slot,
+    hold: u16,
+    alert: bool,
+) -> Result<(), AllocError>
+    requires { hold < 5000 }
+    ensures { OnOk result (samples.new.items ≡ samples.old.items ++ whole_levels alert slot hold) }
+{
+    match slot {
+        Slot::Bit(sda) => {
+            push_low(samples, sda, alert, hold + 1)?;
+            push_high(samples, sda, alert)?;
+        }
+        Slot::Again => {
+            push_low(samples, true, alert, hold + 1)?;
+            push_high(samples, true, alert)?;
+            push_high(samples, false, alert)?;
+        }
+        Slot::End => {
+            push_low(samples, false, alert, hold + 1)?;
+            push_high(samples, false, alert)?;
+            push_high(samples, true, alert)?;
+        }
+    }
+    Ok(())
+}
+
+fn push_cut(samples: &mut Vec<Sample>, slot: Slot, hold: u16, alert: bool) -> Result<(), AllocError>
+    requires { 5000 ≤ hold }
+    ensures { OnOk result (samples.new.items ≡ samples.old.items ++ cut_levels alert slot hold) }
+{
+    let sda = match slot {
+        Slot::Bit(sda) => sda,
+        Slot::Again => true,
+        Slot::End => false,
+    };
+    push_low(samples, sda, alert, LONGEST_LOW)?;
+    push_low(samples, false, alert, hold - (LONGEST_LOW - 1))?;
+    push_high(samples, false, alert)?;
+    push_high(samples, true, alert)?;
+    Ok(())
+}
+
+fn drive_slots(alloc: Global, plan: &Plan, alert: bool) -> Result<Driven, AllocError>
+    ensures samples { IfOk result (λ driven. driven.samples.items ≡ levels alert plan.now) }
+    ensures cut { IfOk result (λ driven. driven.cut ≡ first_cut plan.now) }
+    ensures valid { IsPlan plan.now }
+{
+    let count = plan.count();
+    let mut samples = Vec::new(alloc);
+    push_high(&mut samples, false, alert)?;
+    for place in 0..count {
+        let (slot, hold) = plan.slot(place);
+        if hold >= LONGEST_LOW {
+            push_cut(&mut samples, slot, hold, alert)?;
+            return Ok(Driven {
+                samples,
+                cut: Some(place),
+            });
+        }
+        push_whole(&mut samples, slot, hold, alert)?;
+    }
+    Ok(Driven { samples, cut: None })
+}
+
+/// Drives SCL and SDA through a plan, with this level of the alert line throughout: a START, and then
+/// the slots in order. Where a slot's low period is over 5000 ticks it is cut by a STOP, and nothing
+/// follows. Fails only for want of memory.
+pub fn drive(alloc: Global, plan: &Plan, alert: bool) -> Result<Driven, AllocError>
+    ensures samples { IfOk result (λ driven. driven.samples.items ≡ levels alert plan.now) }
+    ensures cut { IfOk result (λ driven. driven.cut ≡ first_cut plan.now) }
+    // After an idle sample they are read as the event word of the slots.
+    ensures word { IfOk result (λ driven. (before : Bool) → events_of (idle before ∷ driven.samples.items) ≡ event_word plan.now) }
+    ensures free { IfOk result (λ driven. EndsHigh driven.samples.items) }
+{
+    drive_slots(alloc, plan, alert)
+}

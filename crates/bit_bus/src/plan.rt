@@ -1,0 +1,116 @@
+ghost use Rattle.std.specs.Prelude.{◌≡◌, ◌<◌, ◌↔◌, IsTrue, IsSome, IfSome, Some, length, slice_get, slice_index};
+ghost use Rattle.bit_bus.specs.Planned.{planned, IsPlan, EndsOnce, ends_frame, are_inside, are_short};
+
+use std::marker::Model;
+
+/// One step of a frame, which the clock drives (UM10204, 3.1.3 and 3.1.4).
+#[derive(Clone, Copy, Debug, PartialEq, Eq)]
+pub enum Slot {
+    /// A bit, with the level of SDA.
+    Bit(bool),
+    /// A repeated START.
+    Again,
+    /// The STOP.
+    End,
+}
+
+/// The slots of a frame, each with its hold: the number of ticks for which the clock is held low longer
+/// (UM10204, 3.1.9). There are 1 to 4096 slots, the last is the only `End`, and each hold is at most
+/// 6999.
+#[derive(Debug, Drop)]
+pub struct Plan {
+    slots: Vec<Slot>,
+    holds: Vec<u16>,
+}
+
+impl Model for Plan {
+    ghost use Rattle.std.specs.Prelude.{List, ℕ};
+    ghost use Rattle.bit_bus.specs.declared.plan.Slot.{Slot};
+
+    ghost Value = { List (Slot × ℕ) };
+
+    ghost use Rattle.bit_bus.specs.Planned.{planned, IsPlan};
+
+    ghost view = { λ p. planned p.slots.items p.holds.items };
+
+    ghost invariant = { λ p. IsPlan (planned p.slots.items p.holds.items) };
+}
+
+const MOST_SLOTS: usize = 4096;
+
+const LONGEST_HOLD: u16 = 6999;
+
+fn is_end(slot: Slot) -> bool
+    ensures { result ≡ ends_frame slot }
+{
+    match slot {
+        Slot::End => true,
+        _ => false,
+    }
+}
+
+fn are_inside(slots: &[Slot]) -> bool
+    ensures { result ≡ are_inside slots.now }
+{
+    slots.iter().all(|slot| !is_end(*slot))
+}
+
+fn are_short(holds: &[u16]) -> bool
+    ensures { result ≡ are_short holds.now }
+{
+    holds.iter().all(|hold| *hold <= LONGEST_HOLD)
+}
+
+fn ends_once(slots: &[Slot]) -> bool
+    ensures { IsTrue result ↔ EndsOnce slots.now }
+{
+    let Some((last, inside)) = slots.split_last() else {
+        return false;
+    };
+    is_end(*last) && are_inside(inside)
+}
+
+fn is_plan(slots: &[Slot], holds: &[u16]) -> bool
+    ensures { IsTrue result ↔ IsPlan (planned slots.now holds.now) }
+{
+    if slots.len() > MOST_SLOTS {
+        return false;
+    }
+    let counted = &holds[..holds.len().min(slots.len())];
+    ends_once(slots) && are_short(counted)
+}
+
+fn hold_at(holds: &[u16], place: usize) -> u16
+    ensures { result ≡ slice_index holds.now place }
+{
+    holds.get(place).copied().unwrap_or(0)
+}
+
+impl Plan {
+    /// The plan of these slots, or None where they can't be driven so. A missing hold is 0, and holds
+    /// past the last slot aren't looked at. Takes no memory.
+    pub fn new(slots: Vec<Slot>, holds: Vec<u16>) -> Option<Plan>
+        ensures valid { IsSome result ↔ IsPlan (planned slots.items holds.items) }
+        ensures plan { IfSome result (λ plan. plan ≡ planned slots.items holds.items) }
+    {
+        if is_plan(&slots, &holds) {
+            Some(Plan { slots, holds })
+        } else {
+            None
+        }
+    }
+
+    pub(crate) fn count(&self) -> usize
+        ensures count { result ≡ length self.now }
+        ensures valid { IsPlan self.now }
+    {
+        self.slots.len()
+    }
+
+    pub(crate) fn slot(&self, place: usize) -> (Slot, u16)
+        requires { place < length self.now }
+        ensures { slice_get self.now place ≡ Some result }
+    {
+        (self.slots[place], hold_at(&self.holds, place))
+    }
+}

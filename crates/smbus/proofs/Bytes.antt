@@ -1,0 +1,115 @@
+-- A byte and its bits.
+use Rattle.std.proofs.Common.{◌≡◌, ℕ, zero, suc, ◌+◌, ◌-◌, ◌*◌, ◌/◌, ◌%◌, ◌^◌, ◌<◌, ◌≤◌, ◌==◌, inl, inr, Bool, true, false, not, if◌then◌else◌, List, [], ◌∷◌, ◌++◌, length, take, get_or, refl, sym, ap, ◌∙◌, arith}
+use Rattle.std.proofs.lemmas.Bool.{cases_Bool, eqb-true}
+use Rattle.std.proofs.lemmas.Bool.Decides.{nat_tests}
+use Rattle.std.proofs.lemmas.List.{length-take, take_more, take_all}
+use Rattle.std.proofs.lemmas.Nat.{mod-pow-add, mod_below}
+use Rattle.std.proofs.lemmas.Nat.Bits.{bit_at_cat_low, bit_at_cat_high}
+use native.Mathlib.Numerals.{unary_clauses}
+use Rattle.std.specs.Int.{bit_at}
+use Rattle.wires.specs.Bits.{bit, bits_of, number_of}
+use Rattle.smbus.specs.Frames.{byte_bits}
+use Rattle.smbus.specs.Machine.{byte_of}
+
+pub length-bits_of : (k n : ℕ) → length (bits_of k n) ≡ k
+length-bits_of zero n = refl
+length-bits_of (suc k) n = ap suc (length-bits_of k n)
+
+top : (n k : ℕ) → n % 2 ^ suc k ≡ (n / 2 ^ k % 2) * 2 ^ k + n % 2 ^ k
+top n k = let e : suc k ≡ 1 + k = omega arith in rw e (mod-pow-add n 1 k)
+
+bit_zero : (b : ℕ) → b < 2 → (b == 1) ≡ false → b ≡ 0
+bit_zero b lt h = grind (arith, nat_tests)
+
+pub number_of-bits_of : (k n : ℕ) → number_of (bits_of k n) ≡ n % 2 ^ k
+number_of-bits_of zero n = let b : n % 1 < 1 = mod_below n 1 (omega arith) in omega arith
+number_of-bits_of (suc k) n =
+    let t = top n k in
+    let ih = number_of-bits_of k n in
+    let l = length-bits_of k n in
+    elim (cases_Bool (bit n k)) [
+      | inl h ↦ let e : n / 2 ^ k % 2 ≡ 1 = eqb-true _ _ h in let t' : n % 2 ^ suc k ≡ 1 * 2 ^ k + n % 2 ^ k = rw e at t in rw (h, l) (omega arith)
+      | inr f ↦ let e : n / 2 ^ k % 2 ≡ 0 = bit_zero _ (mod_below _ 2 (omega arith)) f in let t' : n % 2 ^ suc k ≡ 0 * 2 ^ k + n % 2 ^ k = rw e at t in rw f (omega arith)
+    ]
+
+pub number_of-lt : (bits : List Bool) → number_of bits < 2 ^ length bits
+number_of-lt [] = omega arith
+number_of-lt (true ∷ bits) = let h = number_of-lt bits in let p : 2 ^ suc (length bits) ≡ 2 ^ length bits * 2 = simp unary_clauses in omega arith
+number_of-lt (false ∷ bits) = let h = number_of-lt bits in let p : 2 ^ suc (length bits) ≡ 2 ^ length bits * 2 = simp unary_clauses in omega arith
+
+low_bits : (j k a b : ℕ) → j ≤ k → bits_of j (a * 2 ^ k + b) ≡ bits_of j b
+low_bits zero k a b le = refl
+low_bits (suc j) k a b le =
+    let e : bit_at (a * 2 ^ k + b) j ≡ bit_at b j = bit_at_cat_low a k b j (omega arith) in
+    rw (e, low_bits j k a b (omega arith)) refl
+
+high_bit : (k a b : ℕ) → b < 2 ^ k → bit_at (a * 2 ^ k + b) k ≡ a % 2
+high_bit k a b lt = let z : k - k ≡ 0 = omega arith in bit_at_cat_high a k b k lt (omega arith) ∙ rw z (let o : a / 1 ≡ a = omega arith in rw o refl)
+
+pub bits_of-number_of : (bits : List Bool) → bits_of (length bits) (number_of bits) ≡ bits
+bits_of-number_of [] = refl
+bits_of-number_of (true ∷ bits) =
+    let e : 2 ^ length bits + number_of bits ≡ 1 * 2 ^ length bits + number_of bits = omega arith in
+    rw (e, high_bit (length bits) 1 (number_of bits) (number_of-lt bits), low_bits (length bits) (length bits) 1 (number_of bits) (omega arith)) (ap (λ (l : List Bool). true ∷ l) (bits_of-number_of bits))
+bits_of-number_of (false ∷ bits) =
+    let e : 0 + number_of bits ≡ 0 * 2 ^ length bits + number_of bits = omega arith in
+    rw (e, high_bit (length bits) 0 (number_of bits) (number_of-lt bits), low_bits (length bits) (length bits) 0 (number_of bits) (omega arith)) (ap (λ (l : List Bool). false ∷ l) (bits_of-number_of bits))
+
+-- only the lowest eight bits of a number are sent
+pub byte_bits-mod : (n : ℕ) (a : Bool) → byte_bits (n % 256, a) ≡ byte_bits (n, a)
+unfolding byte_bits
+byte_bits-mod n a =
+    let e : n ≡ n / 256 * 2 ^ 8 + n % 256 = omega arith in
+    let b : bits_of 8 n ≡ bits_of 8 (n % 256) = ap (bits_of 8) e ∙ low_bits 8 8 (n / 256) (n % 256) (omega arith) in
+    ap (λ (l : List Bool). l ++ not a ∷ []) (sym b)
+
+pub length-byte_bits : (b : ℕ × Bool) → length (byte_bits b) ≡ 9
+unfolding byte_bits
+length-byte_bits b = refl
+
+not-not : (b : Bool) → not (not b) ≡ b
+not-not true = refl
+not-not false = refl
+
+pub byte_of-byte_bits : (b : ℕ × Bool) → b.0 < 256 → byte_of (byte_bits b) ≡ b
+unfolding byte_bits byte_of
+byte_of-byte_bits b lt =
+    let n : number_of (bits_of 8 b.0) ≡ b.0 % 256 = number_of-bits_of 8 b.0 in
+    let m : b.0 % 256 ≡ b.0 = omega arith in
+    let e : number_of (bits_of 8 b.0) ≡ b.0 = n ∙ m in
+    rw (not-not b.1) (ap (λ (x : ℕ). (x, b.1)) e)
+
+nine : (bits : List Bool) → length bits ≡ 9 → bits_of 8 (number_of (take 8 bits)) ++ not (not (get_or bits 8 false)) ∷ [] ≡ bits
+nine bits e =
+    let l : length (take 8 bits) ≡ 8 = simp length-take (omega arith) in
+    let b : bits_of 8 (number_of (take 8 bits)) ≡ take 8 bits = (rw l at (bits_of-number_of (take 8 bits))) in
+    ap (λ (l : List Bool). l ++ not (not (get_or bits 8 false)) ∷ []) b ∙ ap (λ (x : Bool). take 8 bits ++ x ∷ []) (not-not (get_or bits 8 false)) ∙ sym (take_more bits 8 false (omega arith)) ∙ take_all 9 bits (omega arith)
+
+pub byte_bits-byte_of : (bits : List Bool) → length bits ≡ 9 → byte_bits (byte_of bits) ≡ bits
+unfolding byte_bits byte_of
+byte_bits-byte_of bits e = nine bits e
+
+pub byte_of-lt : (bits : List Bool) → length bits ≡ 9 → (byte_of bits).0 < 256
+unfolding byte_of
+byte_of-lt bits e =
+    let l : length (take 8 bits) ≡ 8 = simp length-take (omega arith) in
+    let h : number_of (take 8 bits) < 2 ^ 8 = rw l at (number_of-lt (take 8 bits)) in
+    h
+
+abbrev pub weighed : Bool → ℕ → ℕ
+weighed b n = if b then n else 0
+
+pub number_of-nine : (bits : List Bool) → length bits ≡ 9
+    → weighed (get_or bits 0 false) 128 + weighed (get_or bits 1 false) 64 + weighed (get_or bits 2 false) 32 + weighed (get_or bits 3 false) 16
+    + (weighed (get_or bits 4 false) 8 + weighed (get_or bits 5 false) 4 + weighed (get_or bits 6 false) 2 + weighed (get_or bits 7 false) 1)
+    ≡ number_of (take 8 bits)
+number_of-nine [] e = cc
+number_of-nine (a ∷ []) e = absurd (omega arith)
+number_of-nine (a ∷ b ∷ []) e = absurd (omega arith)
+number_of-nine (a ∷ b ∷ c ∷ []) e = absurd (omega arith)
+number_of-nine (a ∷ b ∷ c ∷ d ∷ []) e = absurd (omega arith)
+number_of-nine (a ∷ b ∷ c ∷ d ∷ f ∷ []) e = absurd (omega arith)
+number_of-nine (a ∷ b ∷ c ∷ d ∷ f ∷ g ∷ []) e = absurd (omega arith)
+number_of-nine (a ∷ b ∷ c ∷ d ∷ f ∷ g ∷ h ∷ []) e = absurd (omega arith)
+number_of-nine (a ∷ b ∷ c ∷ d ∷ f ∷ g ∷ h ∷ i ∷ []) e = absurd (omega arith)
+number_of-nine (a ∷ b ∷ c ∷ d ∷ f ∷ g ∷ h ∷ i ∷ j ∷ more) e = omega arith

@@ -1,0 +1,9 @@
+pub mod Bytes
+pub mod EventByEvent
+pub mod PartsOfFrames
+pub mod FrameMarks
+pub mod MarksOut
+pub mod FirstCut
+pub mod MarkCounts
+pub mod OneFrameOfMessage
+pub mod FrameWords

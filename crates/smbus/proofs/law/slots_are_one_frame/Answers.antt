@@ -1,0 +1,8 @@
+use Rattle.smbus.proofs.OneFrameOfMessage.{slots_are_one_frame, frames_are_unique}
+use Rattle.smbus.proofs.law.slots_are_one_frame.Goals as goal
+
+pub returns-clause-one : goal.returns-clause-one
+returns-clause-one c = slots_are_one_frame
+
+pub returns-clause-unique : goal.returns-clause-unique
+returns-clause-unique c = frames_are_unique

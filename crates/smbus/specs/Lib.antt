@@ -1,0 +1,12 @@
+pub mod Shown
+pub mod Frames
+pub mod Asked
+pub mod Answered
+pub mod Protocol
+pub mod Slots
+pub mod Whole
+pub mod OneFrame
+pub mod Text
+pub mod Faults
+pub mod Parts
+pub mod Machine

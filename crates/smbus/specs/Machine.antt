@@ -1,0 +1,57 @@
+-- Reading event by event. Nothing public cites this: `Frames` says what is read.
+use Rattle.std.specs.Prelude.{ℕ, ◌==◌, Bool, true, false, not, if◌then◌else◌, Option, Some, None, List, [], ◌∷◌, ◌++◌, take, length, slice_index_or}
+use Rattle.wires.specs.declared.event.Event.{Event}
+use Rattle.wires.specs.declared.event.Event.TheVariants.{Start, Stop, Rise}
+use Rattle.wires.specs.Bits.{number_of}
+use Rattle.smbus.specs.Shown.{Shown}
+use Rattle.smbus.specs.declared.observing.Reading.{Reading}
+
+unfoldable pub byte_of : List Bool → ℕ × Bool
+byte_of bits = (number_of (take 8 bits), not (slice_index_or bits 8 false))
+
+-- the frames, and of the next frame its segments, the bytes of its last segment and the bits after them
+pub record State : Type 0 where
+  pub frames : List Shown
+  pub is_open : Bool
+  pub segments : List (List (ℕ × Bool))
+  pub bytes : List (ℕ × Bool)
+  pub bits : List Bool
+
+abbrev pub reading_of : Reading → State
+reading_of r = record { frames = r.frames.items; is_open = r.is_open; segments = r.segments.items; bytes = r.bytes.items; bits = r.bits.items }
+
+abbrev pub grown : State → State
+grown s = record { frames = s.frames; is_open = s.is_open; segments = s.segments; bytes = s.bytes ++ byte_of s.bits ∷ []; bits = [] }
+
+abbrev pub with_bits : List Bool → State → State
+with_bits bits s = record { frames = s.frames; is_open = s.is_open; segments = s.segments; bytes = s.bytes; bits = bits }
+
+-- the ninth bit of a byte may belong to the STOP, so a byte is made with the bit after it
+abbrev pub risen : Bool → State → State
+risen bit s = if length s.bits == 9 then with_bits (bit ∷ []) (grown s) else with_bits (s.bits ++ bit ∷ []) s
+
+abbrev pub is_again : List Bool → Bool
+is_again [] = false
+is_again (b ∷ []) = b
+is_again (b ∷ c ∷ bits) = false
+
+abbrev pub ends_low : List Bool → Bool
+ends_low [] = false
+ends_low (b ∷ []) = not b
+ends_low (b ∷ c ∷ bits) = ends_low (c ∷ bits)
+
+abbrev pub all_but_last : List Bool → List Bool
+all_but_last [] = []
+all_but_last (b ∷ []) = []
+all_but_last (b ∷ c ∷ bits) = b ∷ all_but_last (c ∷ bits)
+
+abbrev pub step : State → Event → Option State
+step s (Rise bit) = if s.is_open then Some (risen bit s) else None
+step s Start = if s.is_open
+    then (if is_again s.bits then Some (record { frames = s.frames; is_open = true; segments = s.segments ++ s.bytes ∷ []; bytes = []; bits = [] }) else None)
+    else Some (record { frames = s.frames; is_open = true; segments = s.segments; bytes = s.bytes; bits = s.bits })
+step s Stop = if s.is_open
+    then (if ends_low s.bits
+    then Some (record { frames = s.frames ++ record { segments = s.segments ++ s.bytes ∷ []; tail = all_but_last s.bits } ∷ []; is_open = false; segments = []; bytes = []; bits = [] })
+    else None)
+    else None

@@ -1,0 +1,21 @@
+//! SMBus messages as slots of the bus, and events of the bus as frames.
+#![tactic(auto)]
+
+mod fault;
+mod frame;
+mod law;
+mod message;
+mod observing;
+mod slots;
+mod text;
+
+pub use fault::{ObserveFault, SmbusFault};
+pub use frame::{Frame, Segment};
+pub use law::slots_are_one_frame;
+pub use message::{Answer, Form, Message};
+pub use observing::observe;
+pub use slots::frame_slots;
+pub use text::frame_text;
+
+#[cfg(test)]
+mod tests;

@@ -1,0 +1,135 @@
+ghost use Rattle.std.specs.Prelude.{◌≡◌, ◌≤◌, if◌then◌else◌, ◌∷◌, ◌++◌, [], List, length, IfOk, IfErr, IsTrue, OnOk, MatchOption, MatchResult, MatchBool};
+ghost use Rattle.smbus.specs.Shown.{Shown};
+ghost use Rattle.smbus.specs.Frames.{AreFrames, FaultIs};
+ghost use Rattle.smbus.specs.Machine.{byte_of, reading_of, risen, step};
+
+use crate::fault::ObserveFault;
+use crate::frame::{Frame, Segment};
+use std::alloc::{AllocError, Global};
+use std::mem;
+use wires::Event;
+
+/// What was read so far: the frames, and the beginning of the next.
+#[derive(Drop)]
+struct Reading {
+    frames: Vec<Frame>,
+    is_open: bool,
+    segments: Vec<Segment>,
+    bytes: Vec<(u8, bool)>,
+    bits: Vec<bool>,
+}
+
+fn weighed(bit: bool, weight: u8) -> u8
+    ensures value { result ≡ (if bit then weight else 0) }
+    ensures bound { result ≤ weight }
+{
+    if bit { weight } else { 0 }
+}
+
+/// Eight bits, and the ninth, which is low for an acknowledge.
+fn byte_from(bits: &[bool]) -> (u8, bool)
+    requires { length bits.now ≡ 9 }
+    ensures { result ≡ byte_of bits.now }
+{
+    let high = weighed(bits[0], 128)
+        + weighed(bits[1], 64)
+        + weighed(bits[2], 32)
+        + weighed(bits[3], 16);
+    let low = weighed(bits[4], 8) + weighed(bits[5], 4) + weighed(bits[6], 2) + weighed(bits[7], 1);
+    (high + low, !bits[8])
+}
+
+impl Reading {
+    fn rise(&mut self, bit: bool) -> Result<(), AllocError>
+        ensures { OnOk result (reading_of self.new ≡ risen bit (reading_of self.old)) }
+    {
+        if self.bits.len() == 9 {
+            let byte = byte_from(&self.bits);
+            self.bytes.push(byte)?;
+            self.bits.clear();
+        }
+        self.bits.push(bit)?;
+        Ok(())
+    }
+
+    fn start(&mut self, alloc: Global) -> Result<bool, AllocError>
+        ensures { IfOk result (λ taken. MatchBool taken (step (reading_of self.old) Event.Start ≡ Some (reading_of self.new)) (step (reading_of self.old) Event.Start ≡ None)) }
+    {
+        if !self.is_open {
+            self.is_open = true;
+            return Ok(true);
+        }
+        if self.bits.len() != 1 {
+            return Ok(false);
+        }
+        if !self.bits[0] {
+            return Ok(false);
+        }
+        let bytes = mem::replace(&mut self.bytes, Vec::new(alloc));
+        self.segments.push(Segment { bytes })?;
+        self.bits = Vec::new(alloc);
+        Ok(true)
+    }
+
+    fn stop(&mut self, alloc: Global) -> Result<bool, AllocError>
+        ensures { IfOk result (λ taken. MatchBool taken (step (reading_of self.old) Event.Stop ≡ Some (reading_of self.new)) (step (reading_of self.old) Event.Stop ≡ None)) }
+    {
+        if !self.is_open {
+            return Ok(false);
+        }
+        let Some(last) = self.bits.pop() else {
+            return Ok(false);
+        };
+        if last {
+            return Ok(false);
+        }
+        let bytes = mem::replace(&mut self.bytes, Vec::new(alloc));
+        self.segments.push(Segment { bytes })?;
+        let segments = mem::replace(&mut self.segments, Vec::new(alloc));
+        let tail = mem::replace(&mut self.bits, Vec::new(alloc));
+        self.frames.push(Frame { segments, tail })?;
+        self.is_open = false;
+        Ok(true)
+    }
+
+    fn take(&mut self, alloc: Global, event: Event) -> Result<bool, AllocError>
+        ensures { IfOk result (λ taken. MatchBool taken (step (reading_of self.old) event ≡ Some (reading_of self.new)) (step (reading_of self.old) event ≡ None)) }
+    {
+        match event {
+            Event::Start => self.start(alloc),
+            Event::Stop => self.stop(alloc),
+            Event::Rise(bit) => {
+                if !self.is_open {
+                    return Ok(false);
+                }
+                self.rise(bit)?;
+                Ok(true)
+            }
+        }
+    }
+}
+
+/// The frames of which these are the events.
+pub fn observe(alloc: Global, events: &[Event]) -> Result<Vec<Frame>, ObserveFault>
+    ensures frames { IfOk result (λ frames. AreFrames events.now frames.items) }
+    // They are the events of no other frames.
+    ensures only { IfOk result (λ frames. (others : List Shown) → AreFrames events.now others → others ≡ frames.items) }
+    ensures fault { IfErr result (FaultIs events.now) }
+{
+    let mut reading = Reading {
+        frames: Vec::new(alloc),
+        is_open: false,
+        segments: Vec::new(alloc),
+        bytes: Vec::new(alloc),
+        bits: Vec::new(alloc),
+    };
+    for (place, event) in events.iter().enumerate() {
+        if !reading.take(alloc, *event)? {
+            return Err(ObserveFault::NotFrames(place));
+        }
+    }
+    if reading.is_open {
+        return Err(ObserveFault::NotFrames(events.len()));
+    }
+    Ok(reading.frames)
+}

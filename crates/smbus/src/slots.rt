@@ -1,0 +1,262 @@
+ghost use Rattle.std.specs.Prelude.{◌≡◌, ◌<◌, ◌^◌, ◌++◌, ◌↔◌, false, is_none, length, take, slice_index, IfOk, OnOk, IfSome, IfNone, IsTrue, IsErrOf};
+ghost use Rattle.smbus.specs.Protocol.{sent, got, byte_marks, marks_of, HasLength, AreGoodCounts};
+ghost use Rattle.smbus.specs.Protocol.{low, high, sent_count, whole, IsNumbered};
+ghost use Rattle.smbus.specs.Parts.{first_bytes, has_repeat, returned_bytes, controller_bytes, rest_of, IsAfter};
+ghost use Rattle.smbus.specs.Slots.{marks_sent, slots_of, IsGoodData, IsGoodBlock};
+
+use crate::fault::SmbusFault;
+use crate::message::{Answer, Form, Message};
+use bit_bus::Slot;
+use std::alloc::{AllocError, Global};
+
+/// The bytes that the controller sends up to a repeated START, or all of them.
+fn first_bytes(alloc: Global, message: &Message) -> Result<Vec<u8>, AllocError>
+    requires { AreGoodCounts message.now.form (length message.now.out) 1 }
+    ensures { IfOk result (λ bytes. bytes.items ≡ first_bytes message.now) }
+{
+    let to_write = 2 * message.address;
+    let to_read = to_write + 1;
+    let mut bytes = Vec::new(alloc);
+    match message.form {
+        Form::Quick(is_read) => bytes.push(to_write + u8::from(is_read))?,
+        Form::ReceiveByte | Form::Alert => bytes.push(to_read)?,
+        Form::SendByte | Form::ReadByte | Form::ReadWord | Form::BlockRead => {
+            bytes.extend_from_slice(&[to_write, message.code])?;
+        }
+        Form::WriteByte | Form::WriteWord | Form::ProcessCall => {
+            bytes.extend_from_slice(&[to_write, message.code])?;
+            bytes.extend_from_slice(&message.out)?;
+        }
+        Form::BlockWrite | Form::BlockProcessCall => {
+            let count = message.out.len() as u8;
+            bytes.extend_from_slice(&[to_write, message.code, count])?;
+            bytes.extend_from_slice(&message.out)?;
+        }
+    }
+    Ok(bytes)
+}
+
+fn has_repeat(form: Form) -> bool
+    ensures { result ≡ has_repeat form }
+{
+    match form {
+        Form::ReadByte
+        | Form::ReadWord
+        | Form::ProcessCall
+        | Form::BlockRead
+        | Form::BlockProcessCall => true,
+        _ => false,
+    }
+}
+
+/// The bytes that a target sends.
+fn returned_bytes(
+    alloc: Global,
+    form: Form,
+    value: u16,
+    block: &[u8],
+) -> Result<Vec<u8>, AllocError>
+    requires { AreGoodCounts form 1 (length block.now) }
+    ensures { IfOk result (λ bytes. bytes.items ≡ returned_bytes form value block.now) }
+{
+    let low = (value % 256) as u8;
+    let high = (value / 256) as u8;
+    let mut bytes = Vec::new(alloc);
+    match form {
+        Form::ReceiveByte | Form::ReadByte | Form::Alert => bytes.push(low)?,
+        Form::ReadWord | Form::ProcessCall => bytes.extend_from_slice(&[low, high])?,
+        Form::BlockRead | Form::BlockProcessCall => {
+            bytes.push(block.len() as u8)?;
+            bytes.extend_from_slice(block)?;
+        }
+        _ => {}
+    }
+    Ok(bytes)
+}
+
+/// The bits of a byte, most significant first, and its acknowledge.
+#[tactic(auto, unfolding(crate::specs::Frames::byte_bits))]
+fn push_byte(slots: &mut Vec<Slot>, byte: u8, acknowledged: bool) -> Result<(), AllocError>
+    ensures { OnOk result (slots.new.items ≡ slots.old.items ++ byte_marks byte acknowledged) }
+{
+    slots.extend_from_slice(&[
+        Slot::Bit(byte / 128 % 2 == 1),
+        Slot::Bit(byte / 64 % 2 == 1),
+        Slot::Bit(byte / 32 % 2 == 1),
+        Slot::Bit(byte / 16 % 2 == 1),
+        Slot::Bit(byte / 8 % 2 == 1),
+        Slot::Bit(byte / 4 % 2 == 1),
+        Slot::Bit(byte / 2 % 2 == 1),
+        Slot::Bit(byte / 1 % 2 == 1),
+        Slot::Bit(!acknowledged),
+    ])
+}
+
+fn push_sent(slots: &mut Vec<Slot>, bytes: &[u8]) -> Result<(), AllocError>
+    ensures { OnOk result (slots.new.items ≡ slots.old.items ++ marks_of (sent bytes.now)) }
+{
+    for byte in bytes {
+        push_byte(slots, *byte, true)?;
+    }
+    Ok(())
+}
+
+fn push_got(slots: &mut Vec<Slot>, bytes: &[u8]) -> Result<(), AllocError>
+    ensures { OnOk result (slots.new.items ≡ slots.old.items ++ marks_of (got bytes.now)) }
+{
+    let count = bytes.len();
+    for (place, byte) in bytes.iter().enumerate() {
+        let is_last = count - place == 1;
+        push_byte(slots, *byte, !is_last)?;
+    }
+    Ok(())
+}
+
+/// The bytes before the one of this number, and that one, which isn't acknowledged.
+fn push_refused(slots: &mut Vec<Slot>, bytes: &[u8], number: usize) -> Result<(), AllocError>
+    requires { number < length bytes.now }
+    ensures { OnOk result (slots.new.items
+        ≡ slots.old.items ++ marks_of (sent (take number bytes.now)) ++ byte_marks (slice_index bytes.now number) false) }
+{
+    push_sent(slots, &bytes[..number])?;
+    push_byte(slots, bytes[number], false)
+}
+
+/// The number of the refused byte, where it is one of the first so many.
+fn refused_among(refuse: Option<u16>, count: usize) -> Option<usize>
+    ensures among { IfSome result (λ number. (refuse ≡ Some number) × (number < count)) }
+    ensures after { IfNone result (IsAfter refuse count) }
+{
+    match refuse {
+        Some(number) if (number as usize) < count => Some(number as usize),
+        _ => None,
+    }
+}
+
+/// What follows the first bytes of the controller, if all of these were acknowledged.
+fn push_rest(
+    alloc: Global,
+    slots: &mut Vec<Slot>,
+    message: &Message,
+    answer: &Answer,
+) -> Result<(), AllocError>
+    requires { IsGoodBlock message.now answer.now }
+    ensures { OnOk result (slots.new.items ≡ slots.old.items
+        ++ marks_of (rest_of (has_repeat message.now.form) (is_none answer.now.refuse) message.now.address
+        (returned_bytes message.now.form answer.now.value answer.now.bytes))) }
+{
+    if has_repeat(message.form) {
+        let is_accepted = answer.refuse.is_none();
+        slots.push(Slot::Again)?;
+        push_byte(slots, 2 * message.address + 1, is_accepted)?;
+        if !is_accepted {
+            return Ok(());
+        }
+    }
+    let returned = returned_bytes(alloc, message.form, answer.value, &answer.bytes)?;
+    push_got(slots, &returned)
+}
+
+/// The marks of a frame, up to the byte that is refused.
+fn push_frame(
+    alloc: Global,
+    slots: &mut Vec<Slot>,
+    message: &Message,
+    answer: &Answer,
+) -> Result<(), AllocError>
+    requires numbered { IsNumbered answer.now.refuse (sent_count (whole message.now answer.now.value answer.now.bytes)) }
+    requires counted { IsGoodBlock message.now answer.now }
+    ensures { OnOk result (slots.new.items
+        ≡ slots.old.items ++ marks_sent message.now answer.now.refuse answer.now.value answer.now.bytes) }
+{
+    let first = first_bytes(alloc, message)?;
+    match refused_among(answer.refuse, first.len()) {
+        Some(number) => push_refused(slots, &first, number),
+        None => {
+            push_sent(slots, &first)?;
+            push_rest(alloc, slots, message, answer)
+        }
+    }
+}
+
+fn has_length(form: Form, count: usize) -> bool
+    ensures { IsTrue result ↔ HasLength form count }
+{
+    match form {
+        Form::WriteByte => count == 1,
+        Form::WriteWord | Form::ProcessCall => count == 2,
+        Form::BlockWrite | Form::BlockProcessCall => true,
+        _ => count == 0,
+    }
+}
+
+/// How many bytes the controller sends, of which so many are data.
+fn controller_bytes(form: Form, data_count: usize) -> usize
+    requires fits { HasLength form data_count }
+    requires short { data_count < 2 ^ 63 }
+    ensures { result ≡ controller_bytes form data_count }
+{
+    match form {
+        Form::Quick(_) | Form::ReceiveByte | Form::Alert => 1,
+        Form::SendByte => 2,
+        Form::WriteByte | Form::ReadByte | Form::ReadWord | Form::BlockRead => 3,
+        Form::WriteWord => 4,
+        Form::ProcessCall => 5,
+        Form::BlockWrite => data_count + 3,
+        Form::BlockProcessCall => data_count + 4,
+    }
+}
+
+fn is_good_data(message: &Message, answer: &Answer) -> bool
+    ensures { IsTrue result ↔ IsGoodData message.now answer.now }
+{
+    let data_count = message.out.len();
+    if !has_length(message.form, data_count) {
+        return false;
+    }
+    match answer.refuse {
+        None => true,
+        Some(number) => (number as usize) < controller_bytes(message.form, data_count),
+    }
+}
+
+fn is_good_block(form: Form, written: usize, returned: usize) -> bool
+    ensures { IsTrue result ↔ AreGoodCounts form written returned }
+{
+    match form {
+        Form::BlockWrite => (1..=255).contains(&written),
+        Form::BlockRead => (1..=255).contains(&returned),
+        Form::BlockProcessCall => {
+            0 < written && 0 < returned && written <= 255 && returned <= 255 - written
+        }
+        _ => true,
+    }
+}
+
+/// The slots of a message under an answer: the whole frame, or its beginning up to the byte that the
+/// answer refuses, and then `End`. The holds of the answer aren't looked at.
+///
+/// BadData comes before BadBlock, and neither with want of memory.
+pub fn frame_slots(
+    alloc: Global,
+    message: &Message,
+    answer: &Answer,
+) -> Result<Vec<Slot>, SmbusFault>
+    ensures slots { IfOk result (λ slots. slots.items ≡ slots_of message.now answer.now) }
+    ensures good_data { OnOk result (IsGoodData message.now answer.now) }
+    ensures good_block { OnOk result (IsGoodBlock message.now answer.now) }
+    ensures bad_data { IsErrOf result SmbusFault.BadData ↔ (IsGoodData message.now answer.now → ⊥) }
+    ensures bad_block { IsErrOf result SmbusFault.BadBlock
+        ↔ (IsGoodData message.now answer.now × (IsGoodBlock message.now answer.now → ⊥)) }
+{
+    if !is_good_data(message, answer) {
+        return Err(SmbusFault::BadData);
+    }
+    if !is_good_block(message.form, message.out.len(), answer.bytes.len()) {
+        return Err(SmbusFault::BadBlock);
+    }
+    let mut slots = Vec::new(alloc);
+    push_frame(alloc, &mut slots, message, answer)?;
+    slots.push(Slot::End)?;
+    Ok(slots)
+}

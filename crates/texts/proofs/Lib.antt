@@ -1,0 +1,3 @@
+pub mod DecimalTexts
+pub mod HexDigits
+pub mod HexLaws

@@ -1,0 +1,5 @@
+pub mod Decimal
+pub mod Hex
+pub mod Names
+pub mod Reading
+pub mod Words
