@@ -6,8 +6,11 @@ use Rattle.std.specs.Str.Parse.{digits_value}
 
 -- digits, the first not 0 unless it is the only one
 abbrev pub is_decimal : List ℕ → Bool
-is_decimal text = (nat_lt 0 (length text) && list_all is_ascii_digit text) && not (nat_lt 1 (length text) && (slice_index text 0 == 48))
+is_decimal text =
+    (nat_lt 0 (length text) && list_all is_ascii_digit text)
+    && not (nat_lt 1 (length text) && (slice_index text 0 == 48))
 
 -- the number that a text spells, if it is at most `most`
 abbrev pub decimal_within : ℕ → List ℕ → Option ℕ
-decimal_within most text = if is_decimal text && nat_le (digits_value 10 text) most then Some (digits_value 10 text) else None
+decimal_within most text =
+    if is_decimal text && nat_le (digits_value 10 text) most then Some (digits_value 10 text) else None

@@ -10,7 +10,8 @@ is_digit c = (nat_le 48 c && nat_le c 57) || (nat_le 65 c && nat_le c 70)
 -- the number that a text of so many digits, least to most, spells
 abbrev pub number_of_digits : ℕ → ℕ → List ℕ → Option ℕ
 number_of_digits least most text =
-    if (nat_le least (length text) && nat_le (length text) most) && list_all is_digit text then Some (digits_value 16 text) else None
+    if (nat_le least (length text) && nat_le (length text) most) && list_all is_digit text
+    then Some (digits_value 16 text) else None
 
 -- the byte that two digits spell
 abbrev pub pair_of : List ℕ → Option ℕ
@@ -24,7 +25,8 @@ hex_number text = number_of_digits 1 4 text
 unfoldable pub pairs_of : List ℕ → Option (List ℕ)
 pairs_of [] = Some []
 pairs_of (c ∷ []) = None
-pairs_of (high ∷ low ∷ rest) = option_and_then (λ b. option_map (λ bs. b ∷ bs) (pairs_of rest)) (pair_of (high ∷ low ∷ []))
+pairs_of (high ∷ low ∷ rest) =
+    option_and_then (λ b. option_map (λ bs. b ∷ bs) (pairs_of rest)) (pair_of (high ∷ low ∷ []))
 
 -- the digit of a number below 16
 abbrev pub digit_of : ℕ → ℕ

@@ -19,4 +19,6 @@ pub record IsName (text : List ℕ) : Type 0 where
 
 -- the same as a test
 abbrev pub is_name : List ℕ → Bool
-is_name text = (nat_lt 0 (length text) && nat_le (length text) 32) && (is_letter (slice_index text 0) && list_all is_name_byte text)
+is_name text =
+    (nat_lt 0 (length text) && nat_le (length text) 32)
+    && (is_letter (slice_index text 0) && list_all is_name_byte text)

@@ -1,0 +1,9 @@
+pub mod Codes
+pub mod Commands
+pub mod Forms
+pub mod Operation
+pub mod Protect
+pub mod Rows
+pub mod Status
+pub mod Table
+pub mod Voltage

@@ -1,0 +1,22 @@
+//! The PMBus commands of this profile, what write protection permits, and what status words and
+//! voltages mean.
+#![tactic(auto)]
+
+pub mod code;
+mod command;
+mod name;
+mod operation;
+mod protect;
+mod status;
+mod table;
+mod voltage;
+
+pub use command::{Command, by_code};
+pub use name::{by_name, name_of};
+pub use operation::enables;
+pub use protect::permits;
+pub use status::{StatusWord, reported_good};
+pub use voltage::within;
+
+#[cfg(test)]
+mod tests;

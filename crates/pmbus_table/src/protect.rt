@@ -1,0 +1,22 @@
+ghost use Rattle.std.specs.Prelude.{◌≡◌, ◌↔◌, IsTrue, IsSome};
+ghost use Rattle.pmbus_table.specs.Protect.{permits, is_protection};
+
+use crate::code::{ON_OFF_CONFIG, OPERATION, PAGE, VOUT_COMMAND, WRITE_PROTECT};
+
+/// Whether a WRITE_PROTECT value permits a write of a command code; `None` for a value that is
+/// none of 00h, 20h, 40h and 80h.
+pub fn permits(protect: u8, code: u8) -> Option<bool>
+    ensures value { result ≡ permits protect code }
+    ensures valid { IsSome result ↔ IsTrue (is_protection protect) }
+{
+    match protect {
+        0x80 => Some(code == WRITE_PROTECT),
+        0x40 => Some(matches!(code, WRITE_PROTECT | OPERATION | PAGE)),
+        0x20 => Some(matches!(
+            code,
+            WRITE_PROTECT | OPERATION | PAGE | ON_OFF_CONFIG | VOUT_COMMAND
+        )),
+        0x00 => Some(true),
+        _ => None,
+    }
+}
