@@ -1,0 +1,14 @@
+pub mod Texts
+pub mod Intake
+pub mod Bundles
+pub mod Faults
+pub mod Views
+pub mod Fields
+pub mod Messages
+pub mod Outcomes
+pub mod Replies
+pub mod FrameReplies
+pub mod Commands
+pub mod Sessions
+pub mod WellFormed
+pub mod Devices

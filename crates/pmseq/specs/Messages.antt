@@ -1,0 +1,124 @@
+-- A message line: what the controller asks, and the answer that it gets.
+use Rattle.std.specs.Prelude.{ℕ, ◌+◌, List, [], ◌∷◌, ◌==◌, length, Bool, true, false, not, ◌&&◌, nat_le, slice_index, filter, Option, Some, None, option_and_then, Result, Ok, Err, if◌then◌else◌, codes}
+use Rattle.std.specs.List.{enumerate_from}
+use Rattle.std.specs.Str.{bytes_eq}
+use Rattle.texts.specs.Reading.{◌>>=◌, some_or, value_if}
+use Rattle.texts.specs.Words.{words_of}
+use Rattle.texts.specs.Hex.{pair_of}
+use Rattle.smbus.specs.Asked.{Asked}
+use Rattle.smbus.specs.Answered.{Answered}
+use Rattle.smbus.specs.declared.message.Form.{Form}
+use Rattle.smbus.specs.declared.message.Form.TheVariants.{Quick, SendByte, ReceiveByte, WriteByte, WriteWord, ReadByte, ReadWord, ProcessCall, BlockWrite, BlockRead, BlockProcessCall, Alert}
+use Rattle.pmseq.specs.declared.fault.InputFault.{InputFault}
+use Rattle.pmseq.specs.declared.fault.InputFault.TheVariants as faults
+use Rattle.pmseq.specs.declared.fault.BundleFault.TheVariants.{BadMessage}
+use Rattle.pmseq.specs.declared.message.Exchange.{Exchange}
+use Rattle.pmseq.specs.Bundles.{Line, Section, is_blank}
+use Rattle.pmseq.specs.Fields.{value_of, rest_of, refuse_of, number_of, bytes_of, holds_of}
+
+unfoldable pub form_of : List ℕ → Option Form
+form_of word =
+    if bytes_eq word (codes "quickwrite") then Some (Quick false)
+    else if bytes_eq word (codes "quickread") then Some (Quick true)
+    else if bytes_eq word (codes "send") then Some SendByte
+    else if bytes_eq word (codes "receive") then Some ReceiveByte
+    else if bytes_eq word (codes "writebyte") then Some WriteByte
+    else if bytes_eq word (codes "writeword") then Some WriteWord
+    else if bytes_eq word (codes "readbyte") then Some ReadByte
+    else if bytes_eq word (codes "readword") then Some ReadWord
+    else if bytes_eq word (codes "call") then Some ProcessCall
+    else if bytes_eq word (codes "blockwrite") then Some BlockWrite
+    else if bytes_eq word (codes "blockread") then Some BlockRead
+    else if bytes_eq word (codes "blockcall") then Some BlockProcessCall
+    else None
+
+-- whether messages of this form carry a code: a Send Byte's is its data byte
+abbrev pub takes_code : Form → Bool
+takes_code (Quick direction) = false
+takes_code ReceiveByte = false
+takes_code Alert = false
+takes_code _ = true
+
+-- two digits exactly where the form takes a code
+abbrev pub code_of : Form → Option (List ℕ) → Option ℕ
+code_of form None = if takes_code form then None else Some 0
+code_of form (Some text) = if takes_code form then pair_of text else None
+
+-- seven bits, but not the alert response address
+abbrev pub target_of : ℕ → Option ℕ
+target_of address = if nat_le address 127 && not (address == 0x0C) then Some address else None
+
+abbrev pub address_of : List ℕ → Option ℕ
+address_of text = option_and_then target_of (pair_of text)
+
+-- ---- the words of a line, in order
+
+abbrev pub past_form : List (List ℕ) → List (List ℕ)
+past_form words = rest_of (codes "form=") words
+
+abbrev pub past_address : List (List ℕ) → List (List ℕ)
+past_address words = rest_of (codes "address=") (past_form words)
+
+abbrev pub past_code : List (List ℕ) → List (List ℕ)
+past_code words = rest_of (codes "code=") (past_address words)
+
+abbrev pub past_asked : List (List ℕ) → List (List ℕ)
+past_asked words = rest_of (codes "out=") (past_code words)
+
+abbrev pub past_holds : List (List ℕ) → List (List ℕ)
+past_holds words = rest_of (codes "holds=") words
+
+abbrev pub past_refuse : List (List ℕ) → List (List ℕ)
+past_refuse words = rest_of (codes "refuse=") (past_holds words)
+
+abbrev pub past_value : List (List ℕ) → List (List ℕ)
+past_value words = rest_of (codes "value=") (past_refuse words)
+
+abbrev pub past_bytes : List (List ℕ) → List (List ℕ)
+past_bytes words = rest_of (codes "bytes=") (past_value words)
+
+abbrev pub bad_message : ℕ → InputFault
+bad_message number = faults.Bundle (BadMessage number)
+
+-- `form=F address=HH code=HH out=PAIRS`
+unfoldable pub asked_of : ℕ → List (List ℕ) → Result Asked InputFault
+asked_of number words = do
+  form ← some_or (bad_message number) (option_and_then form_of (value_of (codes "form=") words))
+  address ← some_or (bad_message number) (option_and_then address_of (value_of (codes "address=") (past_form words)))
+  code ← some_or (bad_message number) (code_of form (value_of (codes "code=") (past_address words)))
+  out ← some_or (bad_message number) (bytes_of (value_of (codes "out=") (past_code words)))
+  Ok (record { address = address; form = form; code = code; out = out })
+
+-- `holds=SLOT:K,.. refuse=N value=DIGITS bytes=PAIRS`, each of which may be missing
+unfoldable pub answer_of : ℕ → List (List ℕ) → Result Answered InputFault
+answer_of number words = do
+  holds ← some_or (bad_message number) (holds_of (value_of (codes "holds=") words))
+  refuse ← some_or (bad_message number) (refuse_of (value_of (codes "refuse=") (past_holds words)))
+  value ← some_or (bad_message number) (number_of (value_of (codes "value=") (past_refuse words)))
+  bytes ← some_or (bad_message number) (bytes_of (value_of (codes "bytes=") (past_value words)))
+  Ok (record { holds = holds; refuse = refuse; value = value; bytes = bytes; took = false; alerts = 0 })
+
+-- what the controller asks, and then the answer
+unfoldable pub exchange_of : ℕ → Line → Result Exchange InputFault
+exchange_of number line = do
+  message ← asked_of number (words_of line)
+  answer ← answer_of number (past_asked (words_of line))
+  whole ← value_if (bad_message number) (length (past_bytes (past_asked (words_of line))) == 0) answer
+  Ok (record { message = message; answer = whole })
+
+-- blank lines and those that begin with `#` don't count
+abbrev pub is_counted : Line → Bool
+is_counted line = not (is_blank line) && not (slice_index line 0 == 35)
+
+abbrev pub counted_lines : Section → List (ℕ × Line)
+counted_lines section = filter (λ (numbered : ℕ × Line). is_counted numbered.1) (enumerate_from section.first_line section.lines)
+
+-- the one line that counts: where there is none, the fault is at the line below the bundle's last, and
+-- where there is a second, at that
+unfoldable pub only_exchange : ℕ → List (ℕ × Line) → Result Exchange InputFault
+only_exchange last [] = Err (bad_message last)
+only_exchange last (first ∷ []) = exchange_of first.0 first.1
+only_exchange last (first ∷ second ∷ later) = exchange_of first.0 first.1 >>= λ exchange. Err (bad_message second.0)
+
+abbrev pub exchange_in : Section → Result Exchange InputFault
+exchange_in section = only_exchange (section.first_line + length section.lines) (counted_lines section)

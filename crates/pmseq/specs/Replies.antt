@@ -1,0 +1,25 @@
+-- The reply to an input: a status, and what is written.
+use Rattle.std.specs.Prelude.{ℕ, List, string_bytes}
+use Rattle.pmseq.specs.Faults.{fault_text}
+use Rattle.pmseq.specs.declared.fault.InputFault.{InputFault as Fault}
+use Rattle.pmseq.specs.declared.reply.Reply.{Reply as ReplyCode}
+use Rattle.pmseq.specs.declared.reply.Status.{Status}
+use Rattle.pmseq.specs.declared.reply.Status.TheVariants.{Accepted, Refused, InputFault, DeviceFault}
+
+-- the exit status
+abbrev pub code_of : Status → ℕ
+code_of Accepted = 0
+code_of Refused = 1
+code_of InputFault = 2
+code_of DeviceFault = 3
+
+pub record Reply : Type 0 where
+  pub status : Status
+  pub text : List ℕ
+
+abbrev pub reply_view : ReplyCode → Reply
+reply_view reply = record { status = reply.status; text = string_bytes reply.text }
+
+-- the reply to an input with a fault
+abbrev pub refusal : Fault → Reply
+refusal fault = record { status = InputFault; text = fault_text fault }

@@ -1,0 +1,48 @@
+ghost use Rattle.std.specs.Prelude.{◌≡◌};
+ghost use Rattle.pmseq.specs.Bundles.{header_text, headers_of, command_of};
+
+/// What a bundle asks for, by its first line.
+#[derive(Clone, Copy, Debug, PartialEq, Eq)]
+pub enum Command {
+    Frame,
+}
+
+/// What a section holds, by the line above it.
+#[derive(Clone, Copy, Debug, PartialEq, Eq)]
+pub enum Header {
+    Message,
+}
+
+const FRAME_HEADERS: [Header; 1] = [Header::Message];
+
+impl Header {
+    /// The header line.
+    pub fn text(self) -> &'static str
+        ensures { result.now ≡ header_text self }
+    {
+        match self {
+            Header::Message => "%message",
+        }
+    }
+}
+
+impl Command {
+    /// The headers of the sections that a command wants, in order.
+    pub fn headers(self) -> &'static [Header]
+        ensures { result.now ≡ headers_of self }
+    {
+        match self {
+            Command::Frame => &FRAME_HEADERS,
+        }
+    }
+
+    /// The command of a first line.
+    pub fn of_line(line: &str) -> Option<Command>
+        ensures { result ≡ command_of line.now }
+    {
+        match line {
+            "%frame" => Some(Command::Frame),
+            _ => None,
+        }
+    }
+}

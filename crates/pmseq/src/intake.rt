@@ -1,0 +1,109 @@
+ghost use Rattle.std.specs.Prelude.{◌≡◌, ◌++◌, List, ℕ, IfOk, OnOk, OnErr, IfSome, vec_len, ◌<◌, length};
+ghost use Rattle.std.specs.Io.KnownBytes.{Appends, IsAtEnd};
+ghost use Rattle.pmseq.specs.declared.intake.ReadFault.TheVariants.{Memory};
+ghost use Rattle.pmseq.specs.Intake.{IsFrontOf, AppendsBeginning};
+
+use std::alloc::{AllocError, Global};
+use std::io::{Read, Write};
+
+/// The most bytes that are kept.
+const KEPT_LIMIT: usize = 16_777_216;
+
+/// The most calls of `read`.
+const READ_CALLS: u32 = 1_048_576;
+
+/// The most bytes of one call.
+const PAGE: usize = 65_536;
+
+/// Why a reader wasn't read to its end.
+#[derive(Clone, Copy, Debug, PartialEq, Eq)]
+pub enum ReadFault {
+    Memory,
+    Reader,
+}
+
+impl From<AllocError> for ReadFault {
+    ghost from_gives = { λ _ e. e ≡ Memory };
+
+    fn from(_e: AllocError) -> ReadFault {
+        ReadFault::Memory
+    }
+}
+
+/// The writer failed, or took nothing of a nonempty rest.
+#[derive(Clone, Copy, Debug, PartialEq, Eq)]
+pub struct WriteFault;
+
+/// What is kept of a reader's bytes.
+#[derive(Debug, Drop)]
+pub struct Input {
+    pub bytes: Vec<u8>,
+    pub too_large: bool,
+}
+
+/// Takes one more piece of the bytes. Of those past the limit only the fact is kept.
+fn keep(input: &mut Input, piece: &[u8]) -> Result<(), AllocError>
+    ensures { OnOk result ((all : List ℕ) → IsFrontOf input.old.bytes.items input.old.too_large all
+        → IsFrontOf input.new.bytes.items input.new.too_large (all ++ piece.now)) }
+{
+    let room = KEPT_LIMIT.saturating_sub(input.bytes.len());
+    let count = piece.len().min(room);
+    input.bytes.extend_from_slice(&piece[..count])?;
+    if count < piece.len() {
+        input.too_large = true;
+    }
+    Ok(())
+}
+
+/// Reads to the end of a reader, with room for the bytes of one call.
+fn gather<R: Read>(alloc: Global, reader: &mut R, page: &mut [u8]) -> Result<Input, ReadFault>
+    requires { 0 < length page.old }
+    ensures kept { IfOk result (λ input. IfSome (R.remaining reader.old)
+        (IsFrontOf input.bytes.items input.too_large)) }
+    ensures ended { OnOk result (IsAtEnd (R.remaining reader.new)) }
+{
+    let mut input = Input {
+        bytes: Vec::new(alloc),
+        too_large: false,
+    };
+    for _ in 0..READ_CALLS {
+        match reader.read(page) {
+            Ok(0) => return Ok(input),
+            Ok(count) => keep(&mut input, &page[..count])?,
+            Err(_) => return Err(ReadFault::Reader),
+        }
+    }
+    Err(ReadFault::Reader)
+}
+
+/// An empty page.
+fn empty_page(alloc: Global) -> Result<Vec<u8>, AllocError>
+    ensures { IfOk result (λ page. vec_len page ≡ PAGE) }
+{
+    vec![in alloc; 0u8; PAGE]
+}
+
+/// Reads to the end of a reader.
+pub fn read_input<R: Read>(alloc: Global, reader: &mut R) -> Result<Input, ReadFault>
+    ensures kept { IfOk result (λ input. IfSome (R.remaining reader.old)
+        (IsFrontOf input.bytes.items input.too_large)) }
+    ensures ended { OnOk result (IsAtEnd (R.remaining reader.new)) }
+{
+    let mut page = empty_page(alloc)?;
+    gather(alloc, reader, &mut page)
+}
+
+/// Sends all of a text, or a beginning of it.
+pub fn send<W: Write>(writer: &mut W, text: &[u8]) -> Result<(), WriteFault>
+    ensures ok { OnOk result (Appends (W.contents writer.old) (W.contents writer.new) text.now) }
+    ensures err { OnErr result (AppendsBeginning (W.contents writer.old) (W.contents writer.new) text.now) }
+{
+    let mut rest = text;
+    while !rest.is_empty() {
+        match writer.write(rest) {
+            Ok(0) | Err(_) => return Err(WriteFault),
+            Ok(count) => rest = &rest[count..],
+        }
+    }
+    Ok(())
+}

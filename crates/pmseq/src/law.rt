@@ -1,0 +1,8 @@
+ghost use Rattle.pmseq.specs.WellFormed.{WellFormedBundlesAreRead, NoOthersAreRead};
+
+/// The bundles that are read are those with exactly the headers of their command, in order, and only
+/// blank lines above the first of them. Their sections are the lines between.
+pub fn well_formed_bundles_are_read()
+    ensures read { WellFormedBundlesAreRead }
+    ensures no_others { NoOthersAreRead }
+{}

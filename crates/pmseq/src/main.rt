@@ -1,0 +1,27 @@
+//! Reads a bundle from standard input and answers it on standard output.
+#![tactic(auto)]
+
+mod bundle;
+mod command;
+mod commands;
+mod fault;
+mod field;
+mod frame;
+mod intake;
+mod law;
+mod message;
+mod outcome;
+mod reply;
+mod section;
+mod session;
+
+use session::session;
+use std::process::ExitCode;
+
+#[cfg(test)]
+mod tests;
+
+fn main(rt: HostRuntime) -> ExitCode {
+    let status = session(rt.alloc(), &mut rt.stdin(), &mut rt.stdout());
+    ExitCode::from(status.code())
+}

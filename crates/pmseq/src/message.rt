@@ -1,0 +1,219 @@
+ghost use Rattle.std.specs.Prelude.{◌≡◌, option_copied, option_map, option_and_then, codes, IfOk, IfSome, OnOk, map, ◌≢◌, ◌≤◌, length, All};
+ghost use Rattle.texts.specs.Reading.{Gives};
+ghost use Rattle.pmseq.specs.Messages.{form_of, takes_code, code_of, address_of, asked_of, answer_of, exchange_of, past_asked, past_bytes, is_counted, counted_lines, only_exchange, exchange_in};
+ghost use Rattle.pmseq.specs.Texts.{texts_of};
+ghost use Rattle.pmseq.specs.Views.{section_view};
+ghost use Rattle.pmseq.specs.Fields.{value_of, rest_of, bytes_of};
+
+use crate::bundle::is_blank;
+use crate::fault::{BundleFault, InputFault};
+use crate::field::{Fields, bytes_of, holds_of, number_of, refuse_of};
+use crate::section::Section;
+use smbus::{Answer, Form, Message};
+use std::alloc::{AllocError, Global};
+use texts::{ReadError, pair_of, words_of};
+
+/// A message, and the answer that it gets.
+#[derive(Debug, Drop)]
+pub struct Exchange {
+    pub message: Message,
+    pub answer: Answer,
+}
+
+/// The form of a form word.
+#[tactic(auto, unfolding(crate::specs::Messages::form_of))]
+fn form_of(word: &str) -> Option<Form>
+    ensures value { result ≡ form_of word.now }
+    ensures target { IfSome result (λ form. form ≢ Form.Alert) }
+{
+    match word {
+        "quickwrite" => Some(Form::Quick(false)),
+        "quickread" => Some(Form::Quick(true)),
+        "send" => Some(Form::SendByte),
+        "receive" => Some(Form::ReceiveByte),
+        "writebyte" => Some(Form::WriteByte),
+        "writeword" => Some(Form::WriteWord),
+        "readbyte" => Some(Form::ReadByte),
+        "readword" => Some(Form::ReadWord),
+        "call" => Some(Form::ProcessCall),
+        "blockwrite" => Some(Form::BlockWrite),
+        "blockread" => Some(Form::BlockRead),
+        "blockcall" => Some(Form::BlockProcessCall),
+        _ => None,
+    }
+}
+
+/// Whether messages of this form carry a code.
+fn takes_code(form: Form) -> bool
+    ensures { result ≡ takes_code form }
+{
+    !matches!(form, Form::Quick(_) | Form::ReceiveByte | Form::Alert)
+}
+
+/// The code, which stands exactly where the form takes one.
+fn code_of(form: Form, text: Option<&str>) -> Option<u8>
+    ensures { result ≡ code_of form (option_copied text.entry) }
+{
+    match (takes_code(form), text) {
+        (true, Some(text)) => pair_of(text),
+        (false, None) => Some(0),
+        _ => None,
+    }
+}
+
+/// The address of a target.
+fn address_of(text: &str) -> Option<u8>
+    ensures value { result ≡ address_of text.now }
+    ensures seven_bits { IfSome result (λ address. address ≤ 127) }
+{
+    let address = pair_of(text)?;
+    if address <= 127 && address != 0x0C {
+        Some(address)
+    } else {
+        None
+    }
+}
+
+/// The fault of a line that is no message.
+fn bad_message(line: usize) -> ReadError<InputFault>
+    ensures { result ≡ ReadError.Fault (InputFault.Bundle (BundleFault.BadMessage line)) }
+{
+    BundleFault::BadMessage(line).error()
+}
+
+/// Takes the form word.
+fn take_form(words: &mut Fields<'_>) -> Option<Form>
+    ensures target { IfSome result (λ form. form ≢ Form.Alert) }
+    ensures value { result ≡ option_and_then form_of (value_of (codes "form=") (texts_of words.old.words.now)) }
+    ensures rest { texts_of words.new.words.now ≡ rest_of (codes "form=") (texts_of words.old.words.now) }
+{
+    form_of(words.take("form=")?)
+}
+
+/// Takes the address.
+fn take_address(words: &mut Fields<'_>) -> Option<u8>
+    ensures seven_bits { IfSome result (λ address. address ≤ 127) }
+    ensures value { result ≡ option_and_then address_of (value_of (codes "address=") (texts_of words.old.words.now)) }
+    ensures rest { texts_of words.new.words.now ≡ rest_of (codes "address=") (texts_of words.old.words.now) }
+{
+    address_of(words.take("address=")?)
+}
+
+/// What the controller asks, by the first words of a line.
+#[tactic(auto, unfolding(crate::specs::Messages::asked_of))]
+fn asked_of(
+    alloc: Global,
+    line: usize,
+    words: &mut Fields<'_>,
+) -> Result<Message, ReadError<InputFault>>
+    ensures value { Gives (λ m. m) result (asked_of line (texts_of words.old.words.now)) }
+    ensures rest { OnOk result (texts_of words.new.words.now ≡ past_asked (texts_of words.old.words.now)) }
+{
+    let Some(form) = take_form(words) else {
+        return Err(bad_message(line));
+    };
+    let Some(address) = take_address(words) else {
+        return Err(bad_message(line));
+    };
+    let Some(code) = code_of(form, words.take("code=")) else {
+        return Err(bad_message(line));
+    };
+    let Some(out) = bytes_of(alloc, words.take("out="))? else {
+        return Err(bad_message(line));
+    };
+    Ok(Message {
+        address,
+        form,
+        code,
+        out,
+    })
+}
+
+/// The answer, by the words behind what is asked.
+#[tactic(auto, unfolding(crate::specs::Messages::answer_of))]
+fn answer_of(
+    alloc: Global,
+    line: usize,
+    words: &mut Fields<'_>,
+) -> Result<Answer, ReadError<InputFault>>
+    ensures held { IfOk result (λ answer. All (λ hold. hold ≤ 6999) answer.holds) }
+    ensures value { Gives (λ a. a) result (answer_of line (texts_of words.old.words.now)) }
+    ensures rest { OnOk result (texts_of words.new.words.now ≡ past_bytes (texts_of words.old.words.now)) }
+{
+    let Some(holds) = holds_of(alloc, words.take("holds="))? else {
+        return Err(bad_message(line));
+    };
+    let Some(refuse) = refuse_of(words.take("refuse=")) else {
+        return Err(bad_message(line));
+    };
+    let Some(value) = number_of(words.take("value=")) else {
+        return Err(bad_message(line));
+    };
+    let Some(bytes) = bytes_of(alloc, words.take("bytes="))? else {
+        return Err(bad_message(line));
+    };
+    Ok(Answer {
+        holds,
+        refuse,
+        value,
+        bytes,
+        took: false,
+        alerts: 0,
+    })
+}
+
+/// The message and the answer of a line.
+#[tactic(auto, unfolding(crate::specs::Messages::exchange_of))]
+fn exchange_of(alloc: Global, number: usize, line: &str) -> Result<Exchange, ReadError<InputFault>>
+    ensures held { IfOk result (λ exchange. All (λ hold. hold ≤ 6999) exchange.answer.holds) }
+    ensures value { Gives (λ e. e) result (exchange_of number line.now) }
+{
+    let list = words_of(alloc, line)?;
+    let mut words = Fields { words: &list };
+    let message = asked_of(alloc, number, &mut words)?;
+    let answer = answer_of(alloc, number, &mut words)?;
+    if !words.words.is_empty() {
+        return Err(bad_message(number));
+    }
+    Ok(Exchange { message, answer })
+}
+
+/// Whether a line of the section says something.
+fn counts(line: &str) -> bool
+    ensures { result ≡ is_counted line.now }
+{
+    !is_blank(line) && line.as_bytes().first() != Some(&b'#')
+}
+
+/// The lines that count, with their numbers in the bundle.
+fn counted_lines<'a>(
+    alloc: Global,
+    section: &Section<'a>,
+) -> Result<Vec<(usize, &'a str)>, AllocError>
+    ensures { IfOk result (λ lines. map (λ l. (l.0, l.1.now)) lines.items ≡ counted_lines (section_view section.now)) }
+{
+    let mut counted = Vec::new(alloc);
+    for (place, line) in section.lines.iter().enumerate() {
+        if counts(line) {
+            counted.push((section.first_line + place, *line))?;
+        }
+    }
+    Ok(counted)
+}
+
+/// The message of a section.
+#[tactic(auto, unfolding(crate::specs::Messages::only_exchange))]
+pub fn exchange_in(alloc: Global, section: &Section<'_>) -> Result<Exchange, ReadError<InputFault>>
+    ensures held { IfOk result (λ exchange. All (λ hold. hold ≤ 6999) exchange.answer.holds) }
+    ensures value { Gives (λ e. e) result (exchange_in (section_view section.now)) }
+{
+    let counted = counted_lines(alloc, section)?;
+    match counted.as_slice() {
+        [] => Err(bad_message(section.first_line + section.lines.len())),
+        [(number, line)] => exchange_of(alloc, *number, line),
+        [(number, line), (other, _), ..] => {
+            exchange_of(alloc, *number, line)?;
+            Err(bad_message(*other))
+        }
+    }
+}
