@@ -1,14 +1,13 @@
 -- A message line: what the controller asks, and the answer that it gets.
-use Rattle.std.specs.Prelude.{ℕ, ◌+◌, List, [], ◌∷◌, ◌==◌, length, Bool, true, false, not, ◌&&◌, nat_le, slice_index, filter, Option, Some, None, option_and_then, Result, Ok, Err, if◌then◌else◌, codes}
+use Rattle.std.specs.Prelude.{ℕ, ◌+◌, List, [], ◌∷◌, ◌==◌, length, Bool, false, not, ◌&&◌, nat_le, slice_index, filter, Option, Some, None, option_and_then, Result, Ok, Err, if◌then◌else◌, codes}
 use Rattle.std.specs.List.{enumerate_from}
-use Rattle.std.specs.Str.{bytes_eq}
 use Rattle.texts.specs.Reading.{◌>>=◌, some_or, value_if}
 use Rattle.texts.specs.Words.{words_of}
 use Rattle.texts.specs.Hex.{pair_of}
 use Rattle.smbus.specs.Asked.{Asked}
 use Rattle.smbus.specs.Answered.{Answered}
 use Rattle.smbus.specs.declared.message.Form.{Form}
-use Rattle.smbus.specs.declared.message.Form.TheVariants.{Quick, SendByte, ReceiveByte, WriteByte, WriteWord, ReadByte, ReadWord, ProcessCall, BlockWrite, BlockRead, BlockProcessCall, Alert}
+use Rattle.smbus.specs.FormWords.{form_named, carries_code}
 use Rattle.pmseq.specs.declared.fault.InputFault.{InputFault}
 use Rattle.pmseq.specs.declared.fault.InputFault.TheVariants as faults
 use Rattle.pmseq.specs.declared.fault.BundleFault.TheVariants.{BadMessage}
@@ -16,33 +15,10 @@ use Rattle.pmseq.specs.declared.message.Exchange.{Exchange}
 use Rattle.pmseq.specs.Bundles.{Line, Section, is_blank}
 use Rattle.pmseq.specs.Fields.{value_of, rest_of, refuse_of, number_of, bytes_of, holds_of}
 
-unfoldable pub form_of : List ℕ → Option Form
-form_of word =
-    if bytes_eq word (codes "quickwrite") then Some (Quick false)
-    else if bytes_eq word (codes "quickread") then Some (Quick true)
-    else if bytes_eq word (codes "send") then Some SendByte
-    else if bytes_eq word (codes "receive") then Some ReceiveByte
-    else if bytes_eq word (codes "writebyte") then Some WriteByte
-    else if bytes_eq word (codes "writeword") then Some WriteWord
-    else if bytes_eq word (codes "readbyte") then Some ReadByte
-    else if bytes_eq word (codes "readword") then Some ReadWord
-    else if bytes_eq word (codes "call") then Some ProcessCall
-    else if bytes_eq word (codes "blockwrite") then Some BlockWrite
-    else if bytes_eq word (codes "blockread") then Some BlockRead
-    else if bytes_eq word (codes "blockcall") then Some BlockProcessCall
-    else None
-
--- whether messages of this form carry a code: a Send Byte's is its data byte
-abbrev pub takes_code : Form → Bool
-takes_code (Quick direction) = false
-takes_code ReceiveByte = false
-takes_code Alert = false
-takes_code _ = true
-
 -- two digits exactly where the form takes a code
 abbrev pub code_of : Form → Option (List ℕ) → Option ℕ
-code_of form None = if takes_code form then None else Some 0
-code_of form (Some text) = if takes_code form then pair_of text else None
+code_of form None = if carries_code form then None else Some 0
+code_of form (Some text) = if carries_code form then pair_of text else None
 
 -- seven bits, but not the alert response address
 abbrev pub target_of : ℕ → Option ℕ
@@ -83,7 +59,7 @@ bad_message number = faults.Bundle (BadMessage number)
 -- `form=F address=HH code=HH out=PAIRS`
 unfoldable pub asked_of : ℕ → List (List ℕ) → Result Asked InputFault
 asked_of number words = do
-  form ← some_or (bad_message number) (option_and_then form_of (value_of (codes "form=") words))
+  form ← some_or (bad_message number) (option_and_then form_named (value_of (codes "form=") words))
   address ← some_or (bad_message number) (option_and_then address_of (value_of (codes "address=") (past_form words)))
   code ← some_or (bad_message number) (code_of form (value_of (codes "code=") (past_address words)))
   out ← some_or (bad_message number) (bytes_of (value_of (codes "out=") (past_code words)))

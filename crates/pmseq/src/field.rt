@@ -95,7 +95,11 @@ fn hold_of(part: &str) -> Option<(usize, u16)>
 fn parts_of<'a>(alloc: Global, text: &'a str) -> Result<Vec<&'a str>, AllocError>
     ensures { IfOk result (λ parts. texts_of parts.items ≡ slice_split (λ b. b == 44) text.now) }
 {
-    text.split(',').collect(alloc)
+    let mut parts = Vec::new(alloc);
+    for part in text.split(',') {
+        parts.push(part)?;
+    }
+    Ok(parts)
 }
 
 /// Adds the hold of a slot behind the others.

@@ -13,7 +13,7 @@ const KEPT_LIMIT: usize = 16_777_216;
 const READ_CALLS: u32 = 1_048_576;
 
 /// The most bytes of one call.
-const PAGE: usize = 65_536;
+const PIECE_SIZE: usize = 65_536;
 
 /// Why a reader wasn't read to its end.
 #[derive(Clone, Copy, Debug, PartialEq, Eq)]
@@ -56,8 +56,8 @@ fn keep(input: &mut Input, piece: &[u8]) -> Result<(), AllocError>
 }
 
 /// Reads to the end of a reader, with room for the bytes of one call.
-fn gather<R: Read>(alloc: Global, reader: &mut R, page: &mut [u8]) -> Result<Input, ReadFault>
-    requires { 0 < length page.old }
+fn gather<R: Read>(alloc: Global, reader: &mut R, buffer: &mut [u8]) -> Result<Input, ReadFault>
+    requires { 0 < length buffer.old }
     ensures kept { IfOk result (λ input. IfSome (R.remaining reader.old)
         (IsFrontOf input.bytes.items input.too_large)) }
     ensures ended { OnOk result (IsAtEnd (R.remaining reader.new)) }
@@ -67,20 +67,20 @@ fn gather<R: Read>(alloc: Global, reader: &mut R, page: &mut [u8]) -> Result<Inp
         too_large: false,
     };
     for _ in 0..READ_CALLS {
-        match reader.read(page) {
+        match reader.read(buffer) {
             Ok(0) => return Ok(input),
-            Ok(count) => keep(&mut input, &page[..count])?,
+            Ok(count) => keep(&mut input, &buffer[..count])?,
             Err(_) => return Err(ReadFault::Reader),
         }
     }
     Err(ReadFault::Reader)
 }
 
-/// An empty page.
-fn empty_page(alloc: Global) -> Result<Vec<u8>, AllocError>
-    ensures { IfOk result (λ page. vec_len page ≡ PAGE) }
+/// A buffer for one call.
+fn empty_buffer(alloc: Global) -> Result<Vec<u8>, AllocError>
+    ensures { IfOk result (λ buffer. vec_len buffer ≡ PIECE_SIZE) }
 {
-    vec![in alloc; 0u8; PAGE]
+    vec![in alloc; 0u8; PIECE_SIZE]
 }
 
 /// Reads to the end of a reader.
@@ -89,8 +89,8 @@ pub fn read_input<R: Read>(alloc: Global, reader: &mut R) -> Result<Input, ReadF
         (IsFrontOf input.bytes.items input.too_large)) }
     ensures ended { OnOk result (IsAtEnd (R.remaining reader.new)) }
 {
-    let mut page = empty_page(alloc)?;
-    gather(alloc, reader, &mut page)
+    let mut buffer = empty_buffer(alloc)?;
+    gather(alloc, reader, &mut buffer)
 }
 
 /// Sends all of a text, or a beginning of it.

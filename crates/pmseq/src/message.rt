@@ -1,6 +1,7 @@
 ghost use Rattle.std.specs.Prelude.{◌≡◌, option_copied, option_map, option_and_then, codes, IfOk, IfSome, OnOk, map, ◌≢◌, ◌≤◌, length, All};
+ghost use Rattle.smbus.specs.FormWords.{form_named};
 ghost use Rattle.texts.specs.Reading.{Gives};
-ghost use Rattle.pmseq.specs.Messages.{form_of, takes_code, code_of, address_of, asked_of, answer_of, exchange_of, past_asked, past_bytes, is_counted, counted_lines, only_exchange, exchange_in};
+ghost use Rattle.pmseq.specs.Messages.{code_of, address_of, asked_of, answer_of, exchange_of, past_asked, past_bytes, is_counted, counted_lines, only_exchange, exchange_in};
 ghost use Rattle.pmseq.specs.Texts.{texts_of};
 ghost use Rattle.pmseq.specs.Views.{section_view};
 ghost use Rattle.pmseq.specs.Fields.{value_of, rest_of, bytes_of};
@@ -9,7 +10,7 @@ use crate::bundle::is_blank;
 use crate::fault::{BundleFault, InputFault};
 use crate::field::{Fields, bytes_of, holds_of, number_of, refuse_of};
 use crate::section::Section;
-use smbus::{Answer, Form, Message};
+use smbus::{Answer, Form, Message, carries_code, form_named};
 use std::alloc::{AllocError, Global};
 use texts::{ReadError, pair_of, words_of};
 
@@ -20,41 +21,11 @@ pub struct Exchange {
     pub answer: Answer,
 }
 
-/// The form of a form word.
-#[tactic(auto, unfolding(crate::specs::Messages::form_of))]
-fn form_of(word: &str) -> Option<Form>
-    ensures value { result ≡ form_of word.now }
-    ensures target { IfSome result (λ form. form ≢ Form.Alert) }
-{
-    match word {
-        "quickwrite" => Some(Form::Quick(false)),
-        "quickread" => Some(Form::Quick(true)),
-        "send" => Some(Form::SendByte),
-        "receive" => Some(Form::ReceiveByte),
-        "writebyte" => Some(Form::WriteByte),
-        "writeword" => Some(Form::WriteWord),
-        "readbyte" => Some(Form::ReadByte),
-        "readword" => Some(Form::ReadWord),
-        "call" => Some(Form::ProcessCall),
-        "blockwrite" => Some(Form::BlockWrite),
-        "blockread" => Some(Form::BlockRead),
-        "blockcall" => Some(Form::BlockProcessCall),
-        _ => None,
-    }
-}
-
-/// Whether messages of this form carry a code.
-fn takes_code(form: Form) -> bool
-    ensures { result ≡ takes_code form }
-{
-    !matches!(form, Form::Quick(_) | Form::ReceiveByte | Form::Alert)
-}
-
 /// The code, which stands exactly where the form takes one.
 fn code_of(form: Form, text: Option<&str>) -> Option<u8>
     ensures { result ≡ code_of form (option_copied text.entry) }
 {
-    match (takes_code(form), text) {
+    match (carries_code(form), text) {
         (true, Some(text)) => pair_of(text),
         (false, None) => Some(0),
         _ => None,
@@ -84,10 +55,10 @@ fn bad_message(line: usize) -> ReadError<InputFault>
 /// Takes the form word.
 fn take_form(words: &mut Fields<'_>) -> Option<Form>
     ensures target { IfSome result (λ form. form ≢ Form.Alert) }
-    ensures value { result ≡ option_and_then form_of (value_of (codes "form=") (texts_of words.old.words.now)) }
+    ensures value { result ≡ option_and_then form_named (value_of (codes "form=") (texts_of words.old.words.now)) }
     ensures rest { texts_of words.new.words.now ≡ rest_of (codes "form=") (texts_of words.old.words.now) }
 {
-    form_of(words.take("form=")?)
+    form_named(words.take("form=")?)
 }
 
 /// Takes the address.

@@ -8,5 +8,6 @@ pub mod Whole
 pub mod OneFrame
 pub mod Text
 pub mod Faults
+pub mod FormWords
 pub mod Parts
 pub mod Machine

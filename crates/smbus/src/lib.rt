@@ -8,6 +8,7 @@ mod message;
 mod observing;
 mod slots;
 mod text;
+mod word;
 
 pub use fault::{ObserveFault, SmbusFault};
 pub use frame::{Frame, Segment};
@@ -16,6 +17,7 @@ pub use message::{Answer, Form, Message};
 pub use observing::observe;
 pub use slots::frame_slots;
 pub use text::frame_text;
+pub use word::{carries_code, form_named};
 
 #[cfg(test)]
 mod tests;

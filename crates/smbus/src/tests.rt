@@ -207,3 +207,12 @@ fn addresses(rt: HostRuntime) -> Result<(), Fail> {
     assert_eq!(rt; segment.read(), Some(true));
     Ok(())
 }
+
+#[test]
+fn form_words(rt: HostRuntime) {
+    assert_eq!(rt; form_named("quickread"), Some(Form::Quick(true)));
+    assert_eq!(rt; form_named("blockcall"), Some(Form::BlockProcessCall));
+    assert_eq!(rt; form_named("alert"), None);
+    assert!(rt; carries_code(Form::SendByte));
+    assert!(rt; !carries_code(Form::ReceiveByte));
+}

@@ -9,7 +9,11 @@ use std::alloc::{AllocError, Global};
 pub fn lines_of<'a>(alloc: Global, text: &'a str) -> Result<Vec<&'a str>, AllocError>
     ensures { IfOk result (λ v. map (λ l. l.now) v.items ≡ lines text.now) }
 {
-    text.lines().collect(alloc)
+    let mut lines = Vec::new(alloc);
+    for line in text.lines() {
+        lines.push(line)?;
+    }
+    Ok(lines)
 }
 
 /// The words of a line, in order: its nonempty parts between spaces. Only the space parts words, a
@@ -17,5 +21,11 @@ pub fn lines_of<'a>(alloc: Global, text: &'a str) -> Result<Vec<&'a str>, AllocE
 pub fn words_of<'a>(alloc: Global, line: &'a str) -> Result<Vec<&'a str>, AllocError>
     ensures { IfOk result (λ v. map (λ w. w.now) v.items ≡ words_of line.now) }
 {
-    line.split(' ').filter(|w| !w.is_empty()).collect(alloc)
+    let mut words = Vec::new(alloc);
+    for part in line.split(' ') {
+        if !part.is_empty() {
+            words.push(part)?;
+        }
+    }
+    Ok(words)
 }

@@ -1,9 +1,12 @@
-//! The lines of the bus: their levels in each tick, and the events between neighbouring ticks.
+//! The lines of the bus: their levels in each tick, the events between neighbouring ticks, and the
+//! arbitration between senders.
 #![tactic(auto)]
 
+mod arbitration;
 mod event;
 mod lines;
 
+pub use arbitration::arbitrate;
 pub use event::{Event, events};
 pub use lines::{Sample, wired};
 

@@ -47,3 +47,16 @@ fn start_and_stop(rt: HostRuntime) -> Result<(), Fail> {
     assert_eq!(rt; seen.as_slice(), wanted.as_slice());
     Ok(())
 }
+
+#[test]
+fn lowest_byte_wins(rt: HostRuntime) -> Result<(), Fail> {
+    let alloc = rt.alloc();
+    let (byte, winners) = arbitrate(alloc, &[0x80, 0x42])?.ok_or("nobody")?;
+    assert_eq!(rt; byte, 0x42);
+    assert_eq!(rt; winners.as_slice(), [1].as_slice());
+    let (byte, winners) = arbitrate(alloc, &[5, 5])?.ok_or("nobody")?;
+    assert_eq!(rt; byte, 5);
+    assert_eq!(rt; winners.as_slice(), [0, 1].as_slice());
+    assert!(rt; arbitrate(alloc, &[])?.is_none());
+    Ok(())
+}
