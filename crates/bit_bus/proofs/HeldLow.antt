@@ -5,8 +5,9 @@ use Rattle.std.proofs.lemmas.Bool.{cases_Bool, ltb-true}
 use Rattle.wires.specs.declared.lines.Sample.{Sample}
 use Rattle.bit_bus.specs.declared.plan.Slot.{Slot}
 use Rattle.bit_bus.specs.declared.plan.Slot.TheVariants.{Bit, Again, End}
-use Rattle.bit_bus.specs.Levels.{level, low_run, is_cut, is_held_low, data_of, whole_levels, cut_levels, slot_levels, idle, EndsHigh}
+use Rattle.bit_bus.specs.Levels.{level, low_run, is_cut, data_of, whole_levels, cut_levels, slot_levels, levels, first_cut, idle, EndsHigh}
 use Rattle.bit_bus.specs.Word.{CutIsSeen, JoinsSilently}
+use Rattle.bit_bus.proofs.LowRuns.{is_held_low, held_is_timeout, timeout_is_held}
 use Rattle.wires.specs.declared.event.Event.{Event}
 use Rattle.wires.specs.Events.{events_between, events_after}
 
@@ -48,7 +49,11 @@ held a i (s ∷ later) = elim (cases_Bool (is_cut s.1)) [
 ]
 
 pub cut_is_seen : CutIsSeen
-cut_is_seen before alert plan = held alert 0 plan
+cut_is_seen before alert plan =
+    let e : is_held_low 0 (idle before ∷ levels alert plan) ≡ is_some (first_cut plan) = held alert 0 plan in (
+      λ timeout. sym e ∙ timeout_is_held (idle before ∷ levels alert plan) timeout,
+      λ cut. held_is_timeout (idle before ∷ levels alert plan) (e ∙ cut),
+    )
 
 joined_after : (alert : Bool) (s : Sample) (first later : List Sample) → EndsHigh (s ∷ first) → events_after s (first ++ idle alert ∷ later) ≡ events_after s first ++ events_after (idle alert) later
 joined_after alert s [] later h = rw (h.0, h.1) refl

@@ -2,6 +2,9 @@ pub mod Transfers
 pub mod Placed
 pub mod Parts
 pub mod Words
+pub mod HoldsLaw
+pub mod Keys
+pub mod MessageLineLaw
 pub mod Observed
 pub mod Fronts
 pub mod WellFormedBundles

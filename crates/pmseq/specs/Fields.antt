@@ -1,6 +1,6 @@
 -- Words of the form KEY=VALUE, in a fixed order.
-use Rattle.std.specs.Prelude.{ℕ, List, [], ◌∷◌, ◌++◌, ◌-◌, ◌==◌, length, drop, replicate, nat_le, nat_lt, Option, Some, None, option_map, option_and_then, is_some, if◌then◌else◌}
-use Rattle.std.specs.List.{starts_with, slice_split, position_or_len, before_first, after_first}
+use Rattle.std.specs.Prelude.{ℕ, List, [], ◌∷◌, ◌==◌, length, drop, nat_lt, Option, Some, None, option_map, is_some, if◌then◌else◌}
+use Rattle.std.specs.List.{starts_with, position_or_len, before_first, after_first}
 use Rattle.std.specs.Prelude.{nat_eq}
 use Rattle.texts.specs.Decimal.{decimal_within}
 use Rattle.texts.specs.Hex.{pairs_of, hex_number}
@@ -37,20 +37,3 @@ bytes_of (Some text) = if nat_lt 0 (length text) then pairs_of text else None
 -- what stands before the first such byte and after it
 abbrev pub cut_at : ℕ → List ℕ → Option (List ℕ × List ℕ)
 cut_at c text = if nat_lt (position_or_len (λ b. b == c) text) (length text) then Some (before_first (λ b. b == c) text, after_first (λ b. b == c) text) else None
-
--- `SLOT:K`
-abbrev pub hold_of : List ℕ → Option (ℕ × ℕ)
-hold_of part = option_and_then (λ (sides : List ℕ × List ℕ). option_and_then (λ slot. option_map (λ hold. (slot, hold)) (decimal_within 6999 sides.1)) (decimal_within 4095 sides.0)) (cut_at 58 part)
-
--- a slot that stands behind those that are read, where the others between are 0
-abbrev pub with_hold : List ℕ → ℕ × ℕ → Option (List ℕ)
-with_hold done hold = if nat_le (length done) hold.0 then Some (done ++ replicate (hold.0 - length done) 0 ++ hold.1 ∷ []) else None
-
--- the holds of all slots up to the last, after those that are read already
-unfoldable pub holds_from : List ℕ → List (List ℕ) → Option (List ℕ)
-holds_from done [] = Some done
-holds_from done (part ∷ later) = option_and_then (λ holds. holds_from holds later) (option_and_then (with_hold done) (hold_of part))
-
-abbrev pub holds_of : Option (List ℕ) → Option (List ℕ)
-holds_of None = Some []
-holds_of (Some text) = holds_from [] (slice_split (λ b. b == 44) text)

@@ -4,7 +4,10 @@ pub mod Bundles
 pub mod Faults
 pub mod Views
 pub mod Fields
+pub mod Holds
+pub mod HoldsRead
 pub mod Messages
+pub mod MessageLines
 pub mod Outcomes
 pub mod Replies
 pub mod FrameReplies

@@ -1,31 +1,39 @@
 -- A message line: what the controller asks, and the answer that it gets.
 use Rattle.std.specs.Prelude.{ℕ, ◌+◌, List, [], ◌∷◌, ◌==◌, length, Bool, false, not, ◌&&◌, nat_le, slice_index, filter, Option, Some, None, option_and_then, Result, Ok, Err, if◌then◌else◌, codes}
 use Rattle.std.specs.List.{enumerate_from}
+use Rattle.std.specs.Str.{bytes_eq}
 use Rattle.texts.specs.Reading.{◌>>=◌, some_or, value_if}
 use Rattle.texts.specs.Words.{words_of}
 use Rattle.texts.specs.Hex.{pair_of}
 use Rattle.smbus.specs.Asked.{Asked}
 use Rattle.smbus.specs.Answered.{Answered}
 use Rattle.smbus.specs.declared.message.Form.{Form}
+use Rattle.smbus.specs.declared.message.Form.TheVariants as forms
 use Rattle.smbus.specs.FormWords.{form_named, carries_code}
 use Rattle.pmseq.specs.declared.fault.InputFault.{InputFault}
 use Rattle.pmseq.specs.declared.fault.InputFault.TheVariants as faults
 use Rattle.pmseq.specs.declared.fault.BundleFault.TheVariants.{BadMessage}
 use Rattle.pmseq.specs.declared.message.Exchange.{Exchange}
 use Rattle.pmseq.specs.Bundles.{Line, Section, is_blank}
-use Rattle.pmseq.specs.Fields.{value_of, rest_of, refuse_of, number_of, bytes_of, holds_of}
+use Rattle.pmseq.specs.Fields.{value_of, rest_of, refuse_of, number_of, bytes_of}
+use Rattle.pmseq.specs.Holds.{holds_of}
 
 -- two digits exactly where the form takes a code
 abbrev pub code_of : Form → Option (List ℕ) → Option ℕ
 code_of form None = if carries_code form then None else Some 0
 code_of form (Some text) = if carries_code form then pair_of text else None
 
--- seven bits, but not the alert response address
-abbrev pub target_of : ℕ → Option ℕ
-target_of address = if nat_le address 127 && not (address == 0x0C) then Some address else None
+-- the word of a form; `alert` is the alert response (SMBus 3.2, appendix A)
+abbrev pub form_of : List ℕ → Option Form
+form_of text = if bytes_eq text (codes "alert") then Some forms.Alert else form_named text
 
-abbrev pub address_of : List ℕ → Option ℕ
-address_of text = option_and_then target_of (pair_of text)
+-- seven bits, and the alert response address exactly for an alert
+abbrev pub address_for : Form → ℕ → Option ℕ
+address_for forms.Alert address = if address == 0x0C then Some address else None
+address_for _ address = if nat_le address 127 && not (address == 0x0C) then Some address else None
+
+abbrev pub address_of : Form → List ℕ → Option ℕ
+address_of form text = option_and_then (address_for form) (pair_of text)
 
 -- ---- the words of a line, in order
 
@@ -59,8 +67,8 @@ bad_message number = faults.Bundle (BadMessage number)
 -- `form=F address=HH code=HH out=PAIRS`
 unfoldable pub asked_of : ℕ → List (List ℕ) → Result Asked InputFault
 asked_of number words = do
-  form ← some_or (bad_message number) (option_and_then form_named (value_of (codes "form=") words))
-  address ← some_or (bad_message number) (option_and_then address_of (value_of (codes "address=") (past_form words)))
+  form ← some_or (bad_message number) (option_and_then form_of (value_of (codes "form=") words))
+  address ← some_or (bad_message number) (option_and_then (address_of form) (value_of (codes "address=") (past_form words)))
   code ← some_or (bad_message number) (code_of form (value_of (codes "code=") (past_address words)))
   out ← some_or (bad_message number) (bytes_of (value_of (codes "out=") (past_code words)))
   Ok (record { address = address; form = form; code = code; out = out })

@@ -1,7 +1,9 @@
 ghost use Rattle.std.specs.Prelude.{◌≡◌, ◌≤◌, ◌-◌, ◌++◌, ◌∷◌, [], ◌==◌, List, ℕ, length, map, replicate, option_map, option_copied, vec_len, IfOk, OnOk, IfSome, All};
 ghost use Rattle.std.specs.List.{slice_split};
 ghost use Rattle.pmseq.specs.Texts.{texts_of};
-ghost use Rattle.pmseq.specs.Fields.{after_key, value_of, rest_of, refuse_of, number_of, bytes_of, cut_at, hold_of, holds_from, holds_of};
+ghost use Rattle.pmseq.specs.Fields.{after_key, value_of, rest_of, refuse_of, number_of, bytes_of, cut_at};
+ghost use Rattle.pmseq.specs.Holds.{hold_of, holds_of};
+ghost use Rattle.pmseq.specs.HoldsRead.{holds_from};
 
 use std::alloc::{AllocError, Global};
 use texts::{decimal_within, hex_number, pairs_of};
@@ -116,7 +118,7 @@ fn push_hold(holds: &mut Vec<u16>, slot: usize, hold: u16) -> Result<(), AllocEr
 }
 
 /// The holds of all slots up to the last that is named.
-#[tactic(auto, unfolding(crate::specs::Fields::holds_from))]
+#[tactic(auto, unfolding(crate::specs::HoldsRead::holds_from))]
 fn listed_holds(alloc: Global, parts: &[&str]) -> Result<Option<Vec<u16>>, AllocError>
     ensures held { IfOk result (λ holds. IfSome holds (λ h. All (λ hold. hold ≤ 6999) h.items)) }
     ensures value { IfOk result (λ holds. option_map (λ h. h.items) holds ≡ holds_from [] (texts_of parts.now)) }
@@ -132,6 +134,7 @@ fn listed_holds(alloc: Global, parts: &[&str]) -> Result<Option<Vec<u16>>, Alloc
 }
 
 /// The holds of the slots, in ascending order of the slots.
+#[tactic(auto, using(crate::proofs::HoldsLaw::holds_from_named))]
 pub fn holds_of(alloc: Global, text: Option<&str>) -> Result<Option<Vec<u16>>, AllocError>
     ensures held { IfOk result (λ holds. IfSome holds (λ h. All (λ hold. hold ≤ 6999) h.items)) }
     ensures value { IfOk result (λ holds. option_map (λ h. h.items) holds ≡ holds_of (option_copied text.entry)) }

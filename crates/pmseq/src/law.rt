@@ -1,3 +1,4 @@
+ghost use Rattle.pmseq.specs.MessageLines.{MessageLinesAreRead, OtherLinesAreBad};
 ghost use Rattle.pmseq.specs.WellFormed.{WellFormedBundlesAreRead, NoOthersAreRead};
 
 /// The bundles that are read are those with exactly the headers of their command, in order, and only
@@ -5,4 +6,11 @@ ghost use Rattle.pmseq.specs.WellFormed.{WellFormedBundlesAreRead, NoOthersAreRe
 pub fn well_formed_bundles_are_read()
     ensures read { WellFormedBundlesAreRead }
     ensures no_others { NoOthersAreRead }
+{}
+
+/// The lines that are read as messages are those whose words spell one, and any other line is answered by
+/// BadMessage with its number.
+pub fn message_lines_are_read()
+    ensures read { MessageLinesAreRead }
+    ensures others { OtherLinesAreBad }
 {}

@@ -1,7 +1,7 @@
-ghost use Rattle.std.specs.Prelude.{◌≡◌, option_copied, option_map, option_and_then, codes, IfOk, IfSome, OnOk, map, ◌≢◌, ◌≤◌, length, All};
-ghost use Rattle.smbus.specs.FormWords.{form_named};
+ghost use Rattle.std.specs.Prelude.{◌≡◌, option_copied, option_map, option_and_then, codes, IfOk, IfSome, OnOk, map, ◌≤◌, length, All, Some, None, if◌then◌else◌};
+ghost use Rattle.smbus.specs.Asked.{IsAddressed};
 ghost use Rattle.texts.specs.Reading.{Gives};
-ghost use Rattle.pmseq.specs.Messages.{code_of, address_of, asked_of, answer_of, exchange_of, past_asked, past_bytes, is_counted, counted_lines, only_exchange, exchange_in};
+ghost use Rattle.pmseq.specs.Messages.{code_of, form_of, address_for, address_of, asked_of, answer_of, exchange_of, past_asked, past_bytes, is_counted, counted_lines, only_exchange, exchange_in};
 ghost use Rattle.pmseq.specs.Texts.{texts_of};
 ghost use Rattle.pmseq.specs.Views.{section_view};
 ghost use Rattle.pmseq.specs.Fields.{value_of, rest_of, bytes_of};
@@ -32,13 +32,33 @@ fn code_of(form: Form, text: Option<&str>) -> Option<u8>
     }
 }
 
-/// The address of a target.
-fn address_of(text: &str) -> Option<u8>
-    ensures value { result ≡ address_of text.now }
-    ensures seven_bits { IfSome result (λ address. address ≤ 127) }
+/// The form of a word.
+fn form_of(text: &str) -> Option<Form>
+    ensures { result ≡ form_of text.now }
+{
+    if text == "alert" {
+        return Some(Form::Alert);
+    }
+    form_named(text)
+}
+
+/// Whether a message of a form may go to an address.
+fn may_go_to(form: Form, address: u8) -> bool
+    ensures { (if result then Some address else None) ≡ address_for form address }
+{
+    match form {
+        Form::Alert => address == 0x0C,
+        _ => address <= 127 && address != 0x0C,
+    }
+}
+
+/// The address of a message.
+fn address_of(form: Form, text: &str) -> Option<u8>
+    ensures value { result ≡ address_of form text.now }
+    ensures addressed { IfSome result (λ address. IsAddressed address form) }
 {
     let address = pair_of(text)?;
-    if address <= 127 && address != 0x0C {
+    if may_go_to(form, address) {
         Some(address)
     } else {
         None
@@ -54,20 +74,19 @@ fn bad_message(line: usize) -> ReadError<InputFault>
 
 /// Takes the form word.
 fn take_form(words: &mut Fields<'_>) -> Option<Form>
-    ensures target { IfSome result (λ form. form ≢ Form.Alert) }
-    ensures value { result ≡ option_and_then form_named (value_of (codes "form=") (texts_of words.old.words.now)) }
+    ensures value { result ≡ option_and_then form_of (value_of (codes "form=") (texts_of words.old.words.now)) }
     ensures rest { texts_of words.new.words.now ≡ rest_of (codes "form=") (texts_of words.old.words.now) }
 {
-    form_named(words.take("form=")?)
+    form_of(words.take("form=")?)
 }
 
 /// Takes the address.
-fn take_address(words: &mut Fields<'_>) -> Option<u8>
-    ensures seven_bits { IfSome result (λ address. address ≤ 127) }
-    ensures value { result ≡ option_and_then address_of (value_of (codes "address=") (texts_of words.old.words.now)) }
+fn take_address(form: Form, words: &mut Fields<'_>) -> Option<u8>
+    ensures addressed { IfSome result (λ address. IsAddressed address form) }
+    ensures value { result ≡ option_and_then (address_of form) (value_of (codes "address=") (texts_of words.old.words.now)) }
     ensures rest { texts_of words.new.words.now ≡ rest_of (codes "address=") (texts_of words.old.words.now) }
 {
-    address_of(words.take("address=")?)
+    address_of(form, words.take("address=")?)
 }
 
 /// What the controller asks, by the first words of a line.
@@ -83,7 +102,7 @@ fn asked_of(
     let Some(form) = take_form(words) else {
         return Err(bad_message(line));
     };
-    let Some(address) = take_address(words) else {
+    let Some(address) = take_address(form, words) else {
         return Err(bad_message(line));
     };
     let Some(code) = code_of(form, words.take("code=")) else {

@@ -118,6 +118,32 @@ fn messages(rt: HostRuntime) -> Result<(), Fail> {
     Ok(())
 }
 
+#[test]
+fn alerts(rt: HostRuntime) -> Result<(), Fail> {
+    for (message, want) in [
+        (
+            "form=alert address=0C value=42",
+            "S 19A 42N P\nsamples 40\ndone 0042\n",
+        ),
+        (
+            "form=alert address=0C refuse=0",
+            "S 19N P\nsamples 22\nnak\n",
+        ),
+        ("form=alert address=40", "fault bundle 6 BadMessage 3\n"),
+        ("form=receive address=0C", "fault bundle 6 BadMessage 3\n"),
+        (
+            "form=alert address=0C code=00",
+            "fault bundle 6 BadMessage 3\n",
+        ),
+    ] {
+        let bundle = format!(in rt.alloc(); "%frame\n%message\n{message}")?;
+        let mut output = Vec::new(rt.alloc());
+        session(rt.alloc(), &mut bundle.as_bytes(), &mut output);
+        assert_eq!(rt; output.as_slice(), want.as_bytes(), "{message}");
+    }
+    Ok(())
+}
+
 /// Inputs with a fault, and what is printed.
 const FAULTS: [(&str, &str); 12] = [
     ("", "fault bundle 1 NoCommand\n"),
@@ -162,6 +188,42 @@ fn faults(rt: HostRuntime) {
         let status = session(rt.alloc(), &mut bundle.as_bytes(), &mut output);
         assert_eq!(rt; status, Status::InputFault, "{bundle}");
         assert_eq!(rt; output.as_slice(), want.as_bytes(), "{bundle}");
+    }
+}
+
+#[test]
+fn no_text(rt: HostRuntime) {
+    let mut output = Vec::new(rt.alloc());
+    let status = session(rt.alloc(), &mut b"%frame\n\xFF".as_slice(), &mut output);
+    assert_eq!(rt; status, Status::InputFault);
+    assert_eq!(rt; output.as_slice(), b"fault bundle 2 NotText\n".as_slice());
+}
+
+/// As many LFs as there are, and then the end.
+#[derive(Drop)]
+struct Lines {
+    left: usize,
+}
+
+impl Read for Lines {
+    fn read(&mut self, buffer: &mut [u8]) -> io::Result<usize> {
+        let count = self.left.min(buffer.len());
+        buffer[..count].fill(b'\n');
+        self.left -= count;
+        Ok(count)
+    }
+}
+
+#[test]
+fn the_size_limit(rt: HostRuntime) {
+    for (left, want) in [
+        (16_777_216, b"fault bundle 3 UnknownCommand\n".as_slice()),
+        (16_777_217, b"fault bundle 8 TooLarge\n".as_slice()),
+    ] {
+        let mut output = Vec::new(rt.alloc());
+        let status = session(rt.alloc(), &mut Lines { left }, &mut output);
+        assert_eq!(rt; status, Status::InputFault);
+        assert_eq!(rt; output.as_slice(), want);
     }
 }
 

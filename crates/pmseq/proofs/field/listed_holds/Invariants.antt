@@ -1,5 +1,5 @@
 use Rattle.std.proofs.Common.{◌≡◌, ◌≤◌, [], drop, map, All}
-use Rattle.pmseq.specs.Fields.{holds_from}
+use Rattle.pmseq.specs.HoldsRead.{holds_from}
 use Rattle.pmseq.proofs.field.listed_holds.Given as goal
 
 abbrev pub invariant-loop-part : goal.invariant-loop-part

@@ -1,0 +1,62 @@
+-- Which lines are messages: those whose words spell one, KEY=VALUE in the order of the keys.
+use Rattle.std.specs.Prelude.{◌≡◌, ◌↔◌, ℕ, List, [], ◌∷◌, ◌++◌, false, Option, Some, None, option_and_then, Ok, Err, codes}
+use Rattle.texts.specs.Words.{words_of}
+use Rattle.pmseq.specs.declared.message.Exchange.{Exchange}
+use Rattle.pmseq.specs.declared.fault.InputFault.{InputFault}
+use Rattle.pmseq.specs.Bundles.{Line}
+use Rattle.pmseq.specs.Fields.{refuse_of, number_of, bytes_of}
+use Rattle.pmseq.specs.Holds.{holds_of}
+use Rattle.pmseq.specs.Messages.{form_of, address_of, code_of, bad_message, exchange_of}
+
+-- keys with their values, which may be missing
+abbrev pub Keyed : Type 0
+Keyed = List (List ℕ × Option (List ℕ))
+
+-- a word for each value that there is
+abbrev pub spelled : Keyed → List Line
+spelled [] = []
+spelled ((key, None) ∷ later) = spelled later
+spelled ((key, Some value) ∷ later) = (key ++ value) ∷ spelled later
+
+-- the values that a message line may have
+pub record MessageValues : Type 0 where
+  pub form : Option (List ℕ)
+  pub address : Option (List ℕ)
+  pub code : Option (List ℕ)
+  pub out : Option (List ℕ)
+
+pub record AnswerValues : Type 0 where
+  pub holds : Option (List ℕ)
+  pub refuse : Option (List ℕ)
+  pub value : Option (List ℕ)
+  pub bytes : Option (List ℕ)
+
+-- the keys in their order
+abbrev pub keyed : MessageValues → AnswerValues → Keyed
+keyed m a =
+    (codes "form=", m.form) ∷ (codes "address=", m.address) ∷ (codes "code=", m.code) ∷ (codes "out=", m.out)
+    ∷ (codes "holds=", a.holds) ∷ (codes "refuse=", a.refuse) ∷ (codes "value=", a.value) ∷ (codes "bytes=", a.bytes)
+    ∷ []
+
+-- a line that spells a message and its answer
+pub record IsMessageLine (line : Line) (exchange : Exchange) : Type 0 where
+  pub asked : MessageValues
+  pub answered : AnswerValues
+  pub words : words_of line ≡ spelled (keyed asked answered)
+  pub form : option_and_then form_of asked.form ≡ Some exchange.message.form
+  pub address : option_and_then (address_of exchange.message.form) asked.address ≡ Some exchange.message.address
+  pub code : code_of exchange.message.form asked.code ≡ Some exchange.message.code
+  pub out : bytes_of asked.out ≡ Some exchange.message.out
+  pub holds : holds_of answered.holds ≡ Some exchange.answer.holds
+  pub refuse : refuse_of answered.refuse ≡ Some exchange.answer.refuse
+  pub value : number_of answered.value ≡ Some exchange.answer.value
+  pub bytes : bytes_of answered.bytes ≡ Some exchange.answer.bytes
+  pub took : exchange.answer.took ≡ false
+  pub alerts : exchange.answer.alerts ≡ 0
+
+abbrev pub MessageLinesAreRead : Type 0
+MessageLinesAreRead = (number : ℕ) (line : Line) (exchange : Exchange) → (exchange_of number line ≡ Ok exchange) ↔ IsMessageLine line exchange
+
+-- every other line is a bad message
+abbrev pub OtherLinesAreBad : Type 0
+OtherLinesAreBad = (number : ℕ) (line : Line) (fault : InputFault) → exchange_of number line ≡ Err fault → fault ≡ bad_message number
