@@ -1,0 +1,25 @@
+-- What the keys of a table say.
+use Rattle.std.specs.Prelude.{ℕ, ℤ, pos, negsuc, List, Bool, false, ◌&&◌, nat_le, Option, Some, None, option_and_then, unwrap_or, if◌then◌else◌}
+use Rattle.toml.specs.Data.{Data, Items, no_items, Members, get_member, as_str, as_integer, as_bool, as_array}
+
+-- an integer of a range
+abbrev pub number_within : ℕ → ℕ → ℤ → Option ℕ
+number_within low high (pos n) = if nat_le low n && nat_le n high then Some n else None
+number_within low high (negsuc n) = None
+
+abbrev pub number_in : ℕ → ℕ → Data → Option ℕ
+number_in low high d = option_and_then (number_within low high) (as_integer d)
+
+abbrev pub number_at : ℕ → ℕ → List ℕ → Members → Option ℕ
+number_at low high key ms = option_and_then (number_in low high) (get_member key ms)
+
+abbrev pub text_at : List ℕ → Members → Option (List ℕ)
+text_at key ms = option_and_then as_str (get_member key ms)
+
+-- false where it is missing
+abbrev pub flag_at : List ℕ → Members → Bool
+flag_at key ms = unwrap_or (option_and_then as_bool (get_member key ms)) false
+
+-- a list's elements, none where it is missing
+abbrev pub items_at : List ℕ → Members → Items
+items_at key ms = unwrap_or (option_and_then as_array (get_member key ms)) no_items

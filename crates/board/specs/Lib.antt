@@ -1,0 +1,16 @@
+pub mod Faults
+pub mod Boards
+pub mod Named
+pub mod Views
+pub mod Valid
+pub mod Reading
+pub mod Keys
+pub mod KeyViews
+pub mod Fields
+pub mod Entries
+pub mod Targets
+pub mod Rails
+pub mod SeatViews
+pub mod Files
+pub mod EntryLaws
+pub mod EntryKeys

@@ -1,0 +1,119 @@
+ghost use Rattle.std.specs.Prelude.{◌≡◌, length, option_map, slice_get};
+ghost use Rattle.board.specs.Boards.{place_of_name, place_of_address, largest_stretch};
+ghost use Rattle.board.specs.Valid.{IsBoard};
+ghost use Rattle.board.specs.Named.{named_view};
+ghost use Rattle.board.specs.Files.{board_from};
+
+use crate::named::Named;
+use crate::names::{name_at, place_of};
+use crate::rail::Rail;
+use crate::target::Target;
+use std::marker::Model;
+
+/// The targets of a bus and their rails, each by its name, in the order of the file.
+#[derive(Drop)]
+pub struct Board {
+    targets: Named<Target>,
+    rails: Named<Rail>,
+}
+
+impl Model for Board {
+    ghost use Rattle.board.specs.Boards.{Board};
+
+    ghost Value = { Board };
+
+    ghost use Rattle.board.specs.Views.{board_view};
+    ghost use Rattle.board.specs.Valid.{IsBoard};
+
+    ghost view = { board_view };
+
+    ghost invariant = { λ b. IsBoard (board_view b) };
+}
+
+impl Board {
+    pub(crate) fn new(targets: Named<Target>, rails: Named<Rail>) -> Board
+        requires { IsBoard (board_from (named_view targets) (named_view rails)) }
+        ensures { result ≡ board_from (named_view targets) (named_view rails) }
+    {
+        Board { targets, rails }
+    }
+
+    /// How many targets there are, 1 to 16.
+    pub fn target_count(&self) -> usize
+        ensures count { result ≡ length self.now.targets }
+        ensures board { IsBoard self.now }
+    {
+        self.targets.items.len()
+    }
+
+    /// The target of an index.
+    pub fn target(&self, index: usize) -> Option<&Target>
+        ensures { option_map (λ t. t.now) result ≡ slice_get self.now.targets index }
+    {
+        self.targets.items.get(index)
+    }
+
+    /// The name of a target.
+    pub fn target_name(&self, index: usize) -> Option<&str>
+        ensures { option_map (λ n. n.now) result ≡ slice_get self.now.target_names index }
+    {
+        name_at(&self.targets.names, index)
+    }
+
+    /// The index of the target of a name.
+    pub fn target_named(&self, name: &str) -> Option<usize>
+        ensures { result ≡ place_of_name name.now self.now.target_names }
+    {
+        place_of(&self.targets.names, name)
+    }
+
+    /// The index of the target with an address.
+    pub fn target_at(&self, address: u8) -> Option<usize>
+        ensures { result ≡ place_of_address address self.now.targets }
+    {
+        self.targets
+            .items
+            .iter()
+            .position(|target| target.address() == address)
+    }
+
+    /// The greatest of the targets' stretches.
+    pub fn largest_stretch(&self) -> u16
+        ensures { result ≡ largest_stretch self.now.targets }
+    {
+        let mut largest = 0;
+        for target in &self.targets.items {
+            largest = target.stretch().max(largest);
+        }
+        largest
+    }
+
+    /// How many rails there are, at most 64.
+    pub fn rail_count(&self) -> usize
+        ensures count { result ≡ length self.now.rails }
+        ensures board { IsBoard self.now }
+    {
+        self.rails.items.len()
+    }
+
+    /// The rail of an index.
+    pub fn rail(&self, index: usize) -> Option<&Rail>
+        ensures { option_map (λ r. r.now) result ≡ slice_get self.now.rails index }
+    {
+        self.rails.items.get(index)
+    }
+
+    /// The name of a rail.
+    pub fn rail_name(&self, index: usize) -> Option<&str>
+        ensures { option_map (λ n. n.now) result ≡ slice_get self.now.rail_names index }
+    {
+        name_at(&self.rails.names, index)
+    }
+
+    /// The index of the rail of a name.
+    pub fn rail_named(&self, name: &str) -> Option<usize>
+        ensures { result ≡ place_of_name name.now self.now.rail_names }
+    {
+        place_of(&self.rails.names, name)
+    }
+}

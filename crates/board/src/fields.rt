@@ -1,0 +1,54 @@
+//! What the keys of a table say.
+
+ghost use Rattle.std.specs.Prelude.{◌≡◌, ◌≤◌, option_map, option_copied, IfSome};
+ghost use Rattle.toml.specs.View.{view, table_view, items_view};
+ghost use Rattle.board.specs.Fields.{number_in, number_at, text_at, flag_at, items_at};
+
+use crate::keys::value_at;
+use toml::{Table, Value};
+
+/// An integer of a range.
+pub(crate) fn number_in(low: u32, high: u32, value: &Value) -> Option<u32>
+    ensures value { result ≡ number_in low high (view value.now) }
+    ensures within { IfSome result (λ n. (low ≤ n) × (n ≤ high)) }
+{
+    let number = u32::try_from(value.as_integer()?).ok()?;
+    if low <= number && number <= high {
+        Some(number)
+    } else {
+        None
+    }
+}
+
+pub(crate) fn number_at(low: u32, high: u32, key: &str, table: &Table) -> Option<u32>
+    ensures value { result ≡ number_at low high key.now (table_view table.now) }
+    ensures within { IfSome result (λ n. (low ≤ n) × (n ≤ high)) }
+{
+    number_in(low, high, value_at(table, key)?)
+}
+
+pub(crate) fn text_at<'a>(key: &str, table: &'a Table) -> Option<&'a str>
+    ensures { option_copied result ≡ text_at key.now (table_view table.now) }
+{
+    value_at(table, key)?.as_str()
+}
+
+/// False where it is missing.
+pub(crate) fn flag_at(key: &str, table: &Table) -> bool
+    ensures { result ≡ flag_at key.now (table_view table.now) }
+{
+    match value_at(table, key) {
+        Some(value) => value.as_bool().unwrap_or(false),
+        None => false,
+    }
+}
+
+/// The elements of a list, none where it is missing.
+pub(crate) fn items_at<'a>(key: &str, table: &'a Table) -> &'a [Value]
+    ensures { items_view result.now ≡ items_at key.now (table_view table.now) }
+{
+    match value_at(table, key) {
+        Some(Value::Array(values)) => values.as_slice(),
+        _ => &[],
+    }
+}

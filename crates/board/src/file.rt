@@ -1,0 +1,80 @@
+//! Reading a board file.
+
+ghost use Rattle.std.specs.Prelude.{◌≡◌, ◌≢◌, Err, None};
+ghost use Rattle.toml.specs.Parse.{parse_document};
+ghost use Rattle.toml.specs.View.{table_view};
+ghost use Rattle.board.specs.declared.fault.BoardFault.TheVariants.{Toml};
+ghost use Rattle.board.specs.Reading.{Gives};
+ghost use Rattle.board.specs.Named.{named_view};
+ghost use Rattle.board.specs.Files.{counted, board_from, board_of, read_of};
+
+use crate::board::Board;
+use crate::fault::BoardFault;
+use crate::fields::items_at;
+use crate::keys::{Kind, Sort, keyed};
+use crate::named::Named;
+use crate::rail::Rail;
+use crate::rails::{rails_of, seats_of};
+use crate::target::Target;
+use crate::targets::targets_of;
+use std::alloc::Global;
+use toml::Table;
+
+/// Refuses a file without targets, or with too many targets or rails.
+#[tactic(auto, using(crate::proofs::Counts::item_count_of), unfolding(crate::specs::Files::counted))]
+fn counted(table: &Table) -> Result<(), BoardFault>
+    ensures { Gives (λ u. table_view table.now) result (counted (table_view table.now)) }
+{
+    let tables = Kind::ListOf(Sort::Table);
+    keyed(&[("target", tables)], &[("rail", tables)], table)?;
+    let targets = items_at("target", table).len();
+    if targets == 0 {
+        return Err(BoardFault::MissingKey);
+    }
+    if targets > 16 {
+        return Err(BoardFault::TooMany);
+    }
+    if items_at("rail", table).len() > 64 {
+        return Err(BoardFault::TooMany);
+    }
+    Ok(())
+}
+
+#[tactic(auto, unfolding(crate::specs::Files::board_of))]
+fn parts_of(alloc: Global, table: &Table) -> Result<(Named<Target>, Named<Rail>), BoardFault>
+    ensures { Gives (λ p. board_from (named_view p.0) (named_view p.1)) result (board_of (table_view table.now)) }
+{
+    counted(table)?;
+    let targets = targets_of(alloc, items_at("target", table))?;
+    let seats = seats_of(alloc, &targets, items_at("rail", table))?;
+    let items = rails_of(alloc, &seats)?;
+    let rails = Named {
+        names: seats.names,
+        items,
+    };
+    Ok((targets, rails))
+}
+
+/// The board of a tree. Its faults are never Toml.
+fn board_of(alloc: Global, table: &Table) -> Result<Board, BoardFault>
+    ensures value { Gives (λ b. b) result (board_of (table_view table.now)) }
+    ensures tree { result ≢ Err Toml }
+{
+    let (targets, rails) = parts_of(alloc, table)?;
+    Ok(Board::new(targets, rails))
+}
+
+/// The board of a file, or the file's first fault.
+pub fn read_board(alloc: Global, text: &str) -> Result<Board, BoardFault>
+    ensures value { Gives (λ b. b) result (read_of text.now) }
+    ensures toml { result ≡ Err Toml → parse_document text.now ≡ None }
+{
+    match toml::table_from_str(alloc, text) {
+        Ok(table) => board_of(alloc, &table),
+        Err(error) => Err(if error.is_memory() {
+            BoardFault::Memory
+        } else {
+            BoardFault::Toml
+        }),
+    }
+}

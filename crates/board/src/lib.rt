@@ -1,0 +1,29 @@
+//! Board files: the targets of a bus, what they may be sent, and the rails that they drive.
+#![tactic(auto)]
+
+mod allow_list;
+mod board;
+mod entries;
+mod entry;
+mod fault;
+mod fields;
+mod file;
+mod keys;
+mod named;
+mod names;
+mod rail;
+mod rails;
+mod target;
+mod targets;
+
+pub use board::Board;
+pub use entry::{Allow, Range};
+pub use fault::BoardFault;
+pub use file::read_board;
+pub use rail::Rail;
+pub use target::Target;
+
+#[cfg(test)]
+mod fault_tests;
+#[cfg(test)]
+mod tests;

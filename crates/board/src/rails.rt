@@ -1,0 +1,192 @@
+//! Reading rails.
+
+ghost use Rattle.std.specs.Prelude.{◌≡◌, ◌==◌, ◌&&◌, [], false, map, OnOk, IfOk, IfErr};
+ghost use Rattle.std.specs.List.{list_any};
+ghost use Rattle.toml.specs.View.{view, table_view, items_view};
+ghost use Rattle.board.specs.declared.fault.BoardFault.TheVariants.{Memory};
+ghost use Rattle.board.specs.Reading.{Gives};
+ghost use Rattle.board.specs.Named.{named_view, names, is_named, with_item, none};
+ghost use Rattle.board.specs.Rails.{rail_keyed, target_at, page_of, page_at, has_page, seat_from, seats_of, need_of, needs_of, rails_of};
+ghost use Rattle.board.specs.SeatViews.{seat_view, seats_view};
+
+use crate::fault::BoardFault;
+use crate::fields::{items_at, number_at, text_at};
+use crate::keys::{Key, Kind, Sort, keyed};
+use crate::named::Named;
+use crate::names::place_of;
+use crate::rail::Rail;
+use crate::target::Target;
+use crate::targets::new_name;
+use indexmap::IndexSet;
+use std::alloc::Global;
+use toml::{Table, Value};
+
+const NEEDED: [Key; 4] = [
+    ("name", Kind::Name),
+    ("target", Kind::One(Sort::Text)),
+    ("page", Kind::One(Sort::Integer)),
+    ("limit_uv", Kind::One(Sort::Integer)),
+];
+
+const OPTIONAL: [Key; 1] = [("needs", Kind::ListOf(Sort::Text))];
+
+/// A rail whose needs aren't judged yet.
+#[derive(Clone, Copy)]
+pub(crate) struct Seat<'a> {
+    target: usize,
+    page: u8,
+    limit_uv: u32,
+    needs: &'a [Value],
+}
+
+/// Refuses a table that is no rail.
+fn rail_keyed(table: &Table) -> Result<(), BoardFault>
+    ensures { Gives (λ u. table_view table.now) result (rail_keyed (table_view table.now)) }
+{
+    keyed(&NEEDED, &OPTIONAL, table)
+}
+
+/// The index of the target that a rail names.
+fn target_at(targets: &IndexSet<String>, table: &Table) -> Option<usize>
+    ensures { result ≡ target_at (names targets.now) (table_view table.now) }
+{
+    place_of(targets, text_at("target", table)?)
+}
+
+/// The page, if the target has it.
+fn page_of(table: &Table, target: &Target) -> Option<u8>
+    ensures { result ≡ page_of (table_view table.now) target.now }
+{
+    let page = number_at(0, 255, "page", table)? as u8;
+    if page < target.pages() {
+        Some(page)
+    } else {
+        None
+    }
+}
+
+fn page_at(targets: &[Target], place: usize, table: &Table) -> Option<u8>
+    ensures { result ≡ page_at targets.now place (table_view table.now) }
+{
+    page_of(table, targets.get(place)?)
+}
+
+fn has_page(target: usize, page: u8, seats: &[Seat<'_>]) -> bool
+    ensures { result ≡ has_page target page (map seat_view seats.now) }
+{
+    is_taken(target, page, seats)
+}
+
+fn is_taken(target: usize, page: u8, seats: &[Seat<'_>]) -> bool
+    ensures { result ≡ list_any (λ s. s.target == target && s.page == page) seats.now }
+{
+    seats
+        .iter()
+        .any(|seat| seat.target == target && seat.page == page)
+}
+
+/// The rail of a table, after the rails before it.
+#[tactic(auto, unfolding(crate::specs::Rails::seat_from))]
+fn seat_from<'a>(
+    targets: &Named<Target>,
+    done: &Named<Seat<'_>>,
+    table: &'a Table,
+) -> Result<(&'a str, Seat<'a>), BoardFault>
+    ensures value { Gives (λ s. (s.0.now, seat_view s.1)) result (seat_from (named_view targets.now) (seats_view done.now) (table_view table.now)) }
+    ensures new { IfOk result (λ s. is_named s.0.now (names done.now.names) ≡ false) }
+{
+    rail_keyed(table)?;
+    let name = new_name(&done.names, table)?;
+    let target = target_at(&targets.names, table).ok_or(BoardFault::BadRail)?;
+    let page = page_at(targets.items.as_slice(), target, table).ok_or(BoardFault::BadRail)?;
+    if has_page(target, page, done.items.as_slice()) {
+        return Err(BoardFault::BadRail);
+    }
+    let limit_uv = number_at(1, u32::MAX, "limit_uv", table).ok_or(BoardFault::BadRange)?;
+    Ok((
+        name,
+        Seat {
+            target,
+            page,
+            limit_uv,
+            needs: items_at("needs", table),
+        },
+    ))
+}
+
+/// Adds a rail whose name is new.
+fn push_seat<'a>(
+    alloc: Global,
+    seats: &mut Named<Seat<'a>>,
+    name: &str,
+    seat: Seat<'a>,
+) -> Result<(), BoardFault>
+    requires { is_named name.now (names seats.old.names) ≡ false }
+    ensures ok { OnOk result (seats_view seats.new ≡ with_item name.now (seat_view seat.entry) (seats_view seats.old)) }
+    ensures err { IfErr result (λ e. e ≡ Memory) }
+{
+    seats.push(alloc, name, seat)?;
+    Ok(())
+}
+
+/// The rails of a list, in order.
+pub(crate) fn seats_of<'a>(
+    alloc: Global,
+    targets: &Named<Target>,
+    values: &'a [Value],
+) -> Result<Named<Seat<'a>>, BoardFault>
+    ensures { Gives seats_view result (seats_of (named_view targets.now) none (items_view values.now)) }
+{
+    let mut seats = Named::new(alloc);
+    for value in values {
+        let table = value.as_table().ok_or(BoardFault::BadKey)?;
+        let (name, seat) = seat_from(targets, &seats, table)?;
+        push_seat(alloc, &mut seats, name, seat)?;
+    }
+    Ok(seats)
+}
+
+/// The index of the rail that is needed, which isn't the one that needs it.
+#[tactic(auto, unfolding(crate::specs::Rails::need_of))]
+fn need_of(rails: &IndexSet<String>, rail: usize, value: &Value) -> Result<usize, BoardFault>
+    ensures { Gives (λ n. n) result (need_of (names rails.now) rail (view value.now)) }
+{
+    let name = value.as_str().ok_or(BoardFault::UnknownNeed)?;
+    let needed = place_of(rails, name).ok_or(BoardFault::UnknownNeed)?;
+    if needed == rail {
+        return Err(BoardFault::SelfNeed);
+    }
+    Ok(needed)
+}
+
+fn needs_of(
+    alloc: Global,
+    rails: &IndexSet<String>,
+    rail: usize,
+    values: &[Value],
+) -> Result<Vec<usize>, BoardFault>
+    ensures { Gives (λ v. v.items) result (needs_of (names rails.now) rail [] (items_view values.now)) }
+{
+    let mut needs = Vec::new(alloc);
+    for value in values {
+        needs.push(need_of(rails, rail, value)?)?;
+    }
+    Ok(needs)
+}
+
+/// The rails with their needs.
+pub(crate) fn rails_of(alloc: Global, seats: &Named<Seat<'_>>) -> Result<Vec<Rail>, BoardFault>
+    ensures { Gives (λ v. v.items) result (rails_of (names seats.now.names) [] (map seat_view seats.now.items.items)) }
+{
+    let mut rails = Vec::new(alloc);
+    for seat in &seats.items {
+        let needs = needs_of(alloc, &seats.names, rails.len(), seat.needs)?;
+        rails.push(Rail {
+            target: seat.target,
+            page: seat.page,
+            limit_uv: seat.limit_uv,
+            needs,
+        })?;
+    }
+    Ok(rails)
+}

@@ -1,0 +1,8 @@
+pub mod EitherCase
+pub mod Endings
+pub mod ElseWords
+pub mod Labels
+pub mod Bytes
+pub mod Places
+pub mod WrittenValues
+pub mod ValidPrograms

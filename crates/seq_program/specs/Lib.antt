@@ -1,0 +1,13 @@
+pub mod Faults
+pub mod Reading
+pub mod Operands
+pub mod CommandWords
+pub mod Views
+pub mod MessageLines
+pub mod PlainLines
+pub mod Lines
+pub mod Passes
+pub mod PassViews
+pub mod Programs
+pub mod Valid
+pub mod Messages

@@ -1,0 +1,106 @@
+-- What every instruction and every program keeps to, whatever text it was read from.
+use Rattle.std.specs.Prelude.{◌≡◌, ◌≤◌, ◌<◌, ◌-◌, ℕ, List, length, slice_get, Option, Some, None, IfSome, IsTrue, All}
+use Rattle.std.specs.List.{AllByRecursion}
+use Rattle.smbus.specs.declared.message.Form.{Form}
+use Rattle.smbus.specs.declared.message.Form.TheVariants as form
+use Rattle.pmbus_table.specs.Codes.{vout_command_code}
+use Rattle.pmbus_table.specs.Commands.{takes_form}
+use Rattle.seq_program.specs.declared.instr.Instr.{Instr}
+use Rattle.seq_program.specs.declared.instr.Instr.TheVariants as instr
+use Rattle.seq_program.specs.declared.instr.Width.{Width}
+use Rattle.seq_program.specs.declared.instr.Width.TheVariants as width
+use Rattle.seq_program.specs.declared.instr.Written.{Written}
+use Rattle.seq_program.specs.declared.instr.Written.TheVariants as written
+use Rattle.seq_program.specs.Programs.{is_end}
+
+-- the target that an instruction sends to
+abbrev pub target_in : {L : Type 0} → Instr L → Option ℕ
+target_in (instr.Quick target read otherwise) = Some target
+target_in (instr.Send target command otherwise) = Some target
+target_in (instr.Receive target register otherwise) = Some target
+target_in (instr.Write target command value otherwise) = Some target
+target_in (instr.Read target command size register otherwise) = Some target
+target_in (instr.Call target command value register otherwise) = Some target
+target_in (instr.BlockWrite target command bytes otherwise) = Some target
+target_in (instr.BlockRead target command register otherwise) = Some target
+target_in (instr.BlockCall target command bytes register otherwise) = Some target
+target_in _ = None
+
+-- where it may jump to
+abbrev pub jump_in : {L : Type 0} → Instr L → Option L
+jump_in (instr.Quick target read otherwise) = Some otherwise
+jump_in (instr.Send target command otherwise) = Some otherwise
+jump_in (instr.Receive target register otherwise) = Some otherwise
+jump_in (instr.Write target command value otherwise) = Some otherwise
+jump_in (instr.Read target command size register otherwise) = Some otherwise
+jump_in (instr.Call target command value register otherwise) = Some otherwise
+jump_in (instr.BlockWrite target command bytes otherwise) = Some otherwise
+jump_in (instr.BlockRead target command register otherwise) = Some otherwise
+jump_in (instr.BlockCall target command bytes register otherwise) = Some otherwise
+jump_in (instr.Alert register otherwise) = Some otherwise
+jump_in (instr.IfAlert jump) = Some jump
+jump_in (instr.If register mask value jump) = Some jump
+jump_in (instr.Above register value jump) = Some jump
+jump_in (instr.Again counter jump) = Some jump
+jump_in (instr.Goto jump) = Some jump
+jump_in _ = None
+
+-- the forms that write and read so much
+abbrev pub written_form : Width → Form
+written_form width.Byte = form.WriteByte
+written_form width.Word = form.WriteWord
+
+abbrev pub read_form : Width → Form
+read_form width.Byte = form.ReadByte
+read_form width.Word = form.ReadWord
+
+-- a register is written to VOUT_COMMAND alone
+abbrev pub IsWritten : ℕ → Written → Type 0
+IsWritten command (written.Byte value) = IsTrue (takes_form command form.WriteByte) × (value ≤ 255)
+IsWritten command (written.Word value) = IsTrue (takes_form command form.WriteWord) × (value ≤ 65535)
+IsWritten command (written.Register register) = (command ≡ vout_command_code) × (register < 8)
+
+-- so many bytes
+abbrev pub IsBlock : ℕ → List ℕ → Type 0
+IsBlock most bytes = (1 ≤ length bytes) × (length bytes ≤ most) × AllByRecursion (λ b. b < 256) bytes
+
+-- commands take their forms, and operands are in their ranges
+abbrev pub IsInstr : {L : Type 0} → Instr L → Type 0
+IsInstr (instr.Quick target read otherwise) = Unit {0}
+IsInstr (instr.Send target command otherwise) = IsTrue (takes_form command form.SendByte)
+IsInstr (instr.Receive target register otherwise) = register < 8
+IsInstr (instr.Write target command value otherwise) = IsWritten command value
+IsInstr (instr.Read target command size register otherwise) = IsTrue (takes_form command (read_form size)) × (register < 8)
+IsInstr (instr.Call target command value register otherwise) = IsTrue (takes_form command form.ProcessCall) × (value ≤ 65535) × (register < 8)
+IsInstr (instr.BlockWrite target command bytes otherwise) = IsTrue (takes_form command form.BlockWrite) × IsBlock 255 bytes
+IsInstr (instr.BlockRead target command register otherwise) = IsTrue (takes_form command form.BlockRead) × (register < 8)
+IsInstr (instr.BlockCall target command bytes register otherwise) = IsTrue (takes_form command form.BlockProcessCall) × IsBlock 254 bytes × (register < 8)
+IsInstr (instr.Alert register otherwise) = register < 8
+IsInstr (instr.IfAlert jump) = Unit {0}
+IsInstr (instr.Set register value) = (register < 8) × (value ≤ 65535)
+IsInstr (instr.Add register value) = (register < 8) × (value ≤ 65535)
+IsInstr (instr.If register mask value jump) = (register < 8) × (mask ≤ 65535) × (value ≤ 65535)
+IsInstr (instr.Above register value jump) = (register < 8) × (value ≤ 65535)
+IsInstr (instr.Count counter value) = (counter < 4) × (value ≤ 1000)
+IsInstr (instr.Again counter jump) = counter < 4
+IsInstr (instr.Wait ticks) = (1 ≤ ticks) × (ticks ≤ 10000000)
+IsInstr (instr.Goto jump) = Unit {0}
+IsInstr instr.End = Unit {0}
+IsInstr instr.Fail = Unit {0}
+
+-- its target is one of so many
+abbrev pub IsOnBoard : {L : Type 0} → ℕ → Instr L → Type 0
+IsOnBoard targets i = IfSome (target_in i) (λ t. t < targets)
+
+-- an instruction that was read for a board
+abbrev pub IsSaid : {L : Type 0} → ℕ → Instr L → Type 0
+IsSaid targets i = IsInstr i × IsOnBoard targets i
+
+pub record IsProgram (instrs : List (Instr ℕ)) : Type 0 where
+  pub some : 1 ≤ length instrs
+  pub few : length instrs ≤ 1024
+  pub each : All (λ i. IsInstr i) instrs
+  -- every jump lands
+  pub jumps : All (λ i. IfSome (jump_in i) (λ place. place < length instrs)) instrs
+  -- the last instruction ends
+  pub last : IfSome (slice_get instrs (length instrs - 1)) (λ i. IsTrue (is_end i))

@@ -1,0 +1,227 @@
+use crate::{Instr, Program, ProgramFault, Width, message_of, read_program};
+use board::{Board, read_board};
+use smbus::Form;
+use std::alloc::Global;
+use std::test::*;
+
+/// Two targets, each with one output.
+const TWO: &str = r#"
+[[target]]
+name = "a"
+address = 0x40
+pages = 1
+exponent = -12
+stretch = 0
+start_pages = [0]
+start_protects = [0]
+allow = [{form = "writebyte", command = "PAGE"}]
+
+[[target]]
+name = "b"
+address = 0x41
+pages = 1
+exponent = -12
+stretch = 0
+start_pages = [0]
+start_protects = [0]
+
+[[rail]]
+name = "va"
+target = "a"
+page = 0
+limit_uv = 1100000
+"#;
+
+/// The number and the line of a text's fault; 0 where it is a program.
+fn fault_in(alloc: Global, board: &Board, text: &str) -> (u8, Option<usize>) {
+    match read_program(alloc, board, text) {
+        Ok(_) => (0, None),
+        Err(fault) => (fault.number(), fault.line()),
+    }
+}
+
+#[test]
+fn faults_of_lines(rt: HostRuntime) -> Result<(), Fail> {
+    let alloc = rt.alloc();
+    let board = read_board(alloc, TWO)?;
+    assert_eq!(rt; fault_in(alloc, &board, "jump x"), (2, Some(1)));
+    assert_eq!(rt; fault_in(alloc, &board, "wait 0"), (3, Some(1)));
+    assert_eq!(rt; fault_in(alloc, &board, "set r0 07"), (3, Some(1)));
+    assert_eq!(rt;
+        fault_in(alloc, &board, "write z PAGE 0 else x"),
+        (4, Some(1))
+    );
+    assert_eq!(rt;
+        fault_in(alloc, &board, "write a STATUS_WORD 0 else x"),
+        (5, Some(1))
+    );
+    assert_eq!(rt; fault_in(alloc, &board, "set r8 1"), (10, Some(1)));
+    Ok(())
+}
+
+#[test]
+fn faults_of_programs(rt: HostRuntime) -> Result<(), Fail> {
+    let alloc = rt.alloc();
+    let board = read_board(alloc, TWO)?;
+    assert_eq!(rt; fault_in(alloc, &board, "goto x\nend"), (6, Some(1)));
+    assert_eq!(rt; fault_in(alloc, &board, "x:\nend\nx:\nend"), (7, Some(3)));
+    assert_eq!(rt; fault_in(alloc, &board, "wait 1"), (8, Some(1)));
+    assert_eq!(rt; fault_in(alloc, &board, ""), (8, Some(0)));
+    assert_eq!(rt;
+        fault_in(alloc, &board, "end\nx:\n# the last line"),
+        (8, Some(3))
+    );
+    let long = "end\n".repeat(alloc, 1025)?;
+    assert_eq!(rt; fault_in(alloc, &board, &long), (9, Some(1025)));
+    Ok(())
+}
+
+/// Each line that sends a message, with labels, comments, blank lines and numbers of both kinds.
+const MESSAGES: &str = "start: # the first place
+  quick a r else no
+
+quick b w else no
+send a CLEAR_FAULTS else no
+receive b r7 else no
+write a PAGE 0xff else no
+write a D0w 256 else start
+write b VOUT_COMMAND r3 else no
+read a STATUS_WORD r0 else no
+read a FDb r1 else no
+call b D1 0x3412 r2 else no
+blockwrite a D2 00FF else no
+blockread a MFR_ID r4 else no
+blockcall a QUERY 21 r5 else no
+alert r6 else no
+end
+no:
+fail";
+
+/// Whether the instruction of a place sends this message.
+fn sends(
+    alloc: Global,
+    board: &Board,
+    program: &Program,
+    place: usize,
+    want: (u8, Form, u8, &[u8]),
+) -> bool {
+    let registers = [0, 0, 0, 0x1199, 0, 0, 0, 0];
+    let Some(instr) = program.at(place) else {
+        return false;
+    };
+    match message_of(alloc, board, instr, &registers) {
+        Ok(Some(m)) => (m.address, m.form, m.code, m.out.as_slice()) == want,
+        _ => false,
+    }
+}
+
+#[test]
+fn messages(rt: HostRuntime) -> Result<(), Fail> {
+    let alloc = rt.alloc();
+    let board = read_board(alloc, TWO)?;
+    let program = read_program(alloc, &board, MESSAGES)?;
+    assert_eq!(rt; program.places(), 16);
+    for (place, want) in [
+        (0, (0x40, Form::Quick(true), 0, b"".as_slice())),
+        (1, (0x41, Form::Quick(false), 0, b"".as_slice())),
+        (2, (0x40, Form::SendByte, 0x03, b"".as_slice())),
+        (3, (0x41, Form::ReceiveByte, 0, b"".as_slice())),
+        (4, (0x40, Form::WriteByte, 0x00, b"\xFF".as_slice())),
+        (5, (0x40, Form::WriteWord, 0xD0, b"\x00\x01".as_slice())),
+        (6, (0x41, Form::WriteWord, 0x21, b"\x99\x11".as_slice())),
+        (7, (0x40, Form::ReadWord, 0x79, b"".as_slice())),
+        (8, (0x40, Form::ReadByte, 0xFD, b"".as_slice())),
+        (9, (0x41, Form::ProcessCall, 0xD1, b"\x12\x34".as_slice())),
+        (10, (0x40, Form::BlockWrite, 0xD2, b"\x00\xFF".as_slice())),
+        (11, (0x40, Form::BlockRead, 0x99, b"".as_slice())),
+        (12, (0x40, Form::BlockProcessCall, 0x1A, b"\x21".as_slice())),
+        (13, (0x0C, Form::Alert, 0, b"".as_slice())),
+    ] {
+        assert!(rt; sends(alloc, &board, &program, place, want), "{place}");
+    }
+    assert!(rt;
+        !sends(
+            alloc,
+            &board,
+            &program,
+            14,
+            (0, Form::Alert, 0, b"".as_slice())
+        )
+    );
+    Ok(())
+}
+
+#[test]
+fn jumps_and_registers(rt: HostRuntime) -> Result<(), Fail> {
+    let alloc = rt.alloc();
+    let board = read_board(alloc, TWO)?;
+    let program = read_program(alloc, &board, MESSAGES)?;
+    assert!(rt; matches!(program.at(0), Some(Instr::Quick { otherwise: 15, .. })));
+    assert!(rt; matches!(program.at(5), Some(Instr::Write { otherwise: 0, .. })));
+    assert!(rt;
+        matches!(program.at(3), Some(Instr::Receive { register, .. }) if register.index() == 7)
+    );
+    assert!(rt;
+        matches!(program.at(8), Some(Instr::Read { register, width: Width::Byte, .. }) if register.index() == 1)
+    );
+    assert!(rt;
+        matches!(program.at(9), Some(Instr::Call { register, .. }) if register.index() == 2)
+    );
+    assert!(rt;
+        matches!(program.at(11), Some(Instr::BlockRead { register, .. }) if register.index() == 4)
+    );
+    assert!(rt;
+        matches!(program.at(12), Some(Instr::BlockCall { register, bytes, .. }) if register.index() == 5 && bytes.bytes() == b"\x21".as_slice())
+    );
+    assert!(rt;
+        matches!(program.at(13), Some(Instr::Alert { register, .. }) if register.index() == 6)
+    );
+    assert!(rt; matches!(program.at(14), Some(Instr::End)));
+    assert!(rt; matches!(program.at(15), Some(Instr::Fail)));
+    assert!(rt; program.at(16).is_none());
+    Ok(())
+}
+
+#[test]
+fn plain_lines(rt: HostRuntime) -> Result<(), Fail> {
+    let alloc = rt.alloc();
+    let board = read_board(alloc, TWO)?;
+    let program = read_program(
+        alloc,
+        &board,
+        "x:\nifalert x\nset r0 0xFfFf\nadd r1 65535\nif r2 0x0840 0 x\nabove r3 4441 x\ncount c2 1000\nagain c3 x\nwait 10000000\ngoto x\nfail",
+    )?;
+    assert!(rt; matches!(program.at(0), Some(Instr::IfAlert { jump: 0 })));
+    assert!(rt;
+        matches!(program.at(1), Some(Instr::Set { register, value: 65535 }) if register.index() == 0)
+    );
+    assert!(rt;
+        matches!(program.at(2), Some(Instr::Add { register, value: 65535 }) if register.index() == 1)
+    );
+    assert!(rt;
+        matches!(program.at(3), Some(Instr::If { register, mask: 0x840, value: 0, jump: 0 }) if register.index() == 2)
+    );
+    assert!(rt;
+        matches!(program.at(4), Some(Instr::Above { register, value: 4441, jump: 0 }) if register.index() == 3)
+    );
+    assert!(rt;
+        matches!(program.at(5), Some(Instr::Count { counter, value: 1000 }) if counter.index() == 2)
+    );
+    assert!(rt;
+        matches!(program.at(6), Some(Instr::Again { counter, jump: 0 }) if counter.index() == 3)
+    );
+    assert!(rt; matches!(program.at(7), Some(Instr::Wait { ticks: 10_000_000 })));
+    assert!(rt; matches!(program.at(8), Some(Instr::Goto { jump: 0 })));
+    assert!(rt; matches!(program.at(9), Some(Instr::Fail)));
+    Ok(())
+}
+
+#[test]
+fn names_of_faults(rt: HostRuntime) -> Result<(), Fail> {
+    let alloc = rt.alloc();
+    let board = read_board(alloc, TWO)?;
+    let fault = read_program(alloc, &board, "end\nx: end").err();
+    assert_eq!(rt; fault, Some(ProgramFault::UnknownWord(2)));
+    assert_eq!(rt; fault.map(|fault| fault.name()), Some("UnknownWord"));
+    Ok(())
+}

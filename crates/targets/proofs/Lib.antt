@@ -1,0 +1,15 @@
+pub mod AlertBytes
+pub mod Bits
+pub mod SlotCounts
+pub mod Cuts
+pub mod SlotsOut
+pub mod ValueOut
+pub mod Addresses
+pub mod Written
+pub mod Winner
+pub mod StoredAfter
+pub mod AlertingAfter
+pub mod Answering
+pub mod SomeAnswerLaw
+pub mod StateLawProofs
+pub mod OneBoard

@@ -1,0 +1,12 @@
+pub mod States
+pub mod Outcomes
+pub mod Alerting
+pub mod Least
+pub mod Counts
+pub mod WriteSlots
+pub mod Stored
+pub mod Effects
+pub mod Fitting
+pub mod SomeAnswer
+pub mod StateLaws
+pub mod AlertLaws

@@ -1,0 +1,17 @@
+-- States stay those of their board.
+use Rattle.smbus.specs.Asked.{Asked}
+use Rattle.smbus.specs.Answered.{Answered}
+use Rattle.std.specs.Prelude.{Option}
+use Rattle.board.specs.Boards.{Board}
+use Rattle.board.specs.Valid.{IsBoard}
+use Rattle.targets.specs.States.{BusState, IsStart, Belongs}
+use Rattle.targets.specs.Effects.{IsAfter}
+use Rattle.targets.specs.Fitting.{FitsStep}
+
+-- a state in which a run may start belongs to the board
+abbrev pub StartsBelong : Type 0
+StartsBelong = (b : Board) (s : BusState) → IsBoard b → IsStart b s → Belongs b s
+
+-- and so does the state after an answer that fits
+abbrev pub StepsBelong : Type 0
+StepsBelong = (b : Board) (s new : BusState) (m : Option Asked) (a : Answered) → Belongs b s → FitsStep b s m a → IsAfter b s m a new → Belongs b new

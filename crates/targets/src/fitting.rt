@@ -1,0 +1,182 @@
+ghost use Rattle.std.specs.Prelude.{◌≡◌, ◌≢◌, ◌≤◌, ◌↔◌, ℕ, [], All, IsTrue, length, option_map};
+ghost use Rattle.smbus.specs.Protocol.{sent_count, whole, IsNumbered};
+ghost use Rattle.smbus.specs.Slots.{slots_of};
+ghost use Rattle.board.specs.Boards.{largest_stretch};
+ghost use Rattle.board.specs.Valid.{full_values, full_length};
+ghost use Rattle.targets.specs.Fitting.{IsIn, entry_for, values_for, lengths_for, place_of, target_of, IsStoredBy, FitsRead, FitsBlock, FitsAlert, ReadsNothing, FitsForm, Fits, FitsSilence, FitsStep};
+
+use crate::alerting::{alert_byte, may_all_alert};
+use crate::counting::{controller_count, slot_count};
+use crate::state::BusState;
+use board::{Allow, Board, Range};
+use pmbus_table::code::{PAGE, WRITE_PROTECT};
+use smbus::{Answer, Form, Message};
+
+fn is_in(range: Range, number: u16) -> bool
+    ensures { IsTrue result ↔ IsIn range number }
+{
+    (range.low..=range.high).contains(&number)
+}
+
+/// The entry that allows a message, if one does.
+fn entry_for<'a>(board: &'a Board, message: &Message) -> Option<&'a Allow>
+    ensures { option_map (λ e. e.now) result ≡ entry_for board.now message.now }
+{
+    let index = board.target_at(message.address)?;
+    let target = board.target(index)?;
+    target.entry(message.form, message.code)
+}
+
+fn full_values(form: Form) -> Range
+    ensures { result ≡ full_values form }
+{
+    let high = match form {
+        Form::WriteWord | Form::ReadWord | Form::ProcessCall => 65535,
+        _ => 255,
+    };
+    Range { low: 0, high }
+}
+
+fn values_for(board: &Board, message: &Message) -> Range
+    ensures { result ≡ values_for board.now message.now }
+{
+    match entry_for(board, message) {
+        Some(entry) => entry.values(),
+        None => full_values(message.form),
+    }
+}
+
+fn lengths_for(board: &Board, message: &Message) -> Range
+    ensures { result ≡ lengths_for board.now message.now }
+{
+    match entry_for(board, message) {
+        Some(entry) => entry.length(),
+        None => Range { low: 1, high: 255 },
+    }
+}
+
+/// Whether the target of a message stores a value.
+fn is_stored(board: &Board, stored: &[u8], message: &Message, value: u16) -> bool
+    ensures { IsTrue result ↔ IsStoredBy board.now stored.now message.now value }
+{
+    let Some(index) = board.target_at(message.address) else {
+        return false;
+    };
+    match stored.get(index) {
+        Some(byte) => u16::from(*byte) == value,
+        None => false,
+    }
+}
+
+fn fits_read(board: &Board, state: &BusState, message: &Message, value: u16) -> bool
+    ensures { IsTrue result ↔ FitsRead board.now state.now message.now value }
+{
+    match message.code {
+        PAGE => is_stored(board, &state.page, message, value),
+        WRITE_PROTECT => is_stored(board, &state.protect, message, value),
+        _ => is_in(values_for(board, message), value),
+    }
+}
+
+fn are_in(range: Range, bytes: &[u8]) -> bool
+    ensures { IsTrue result ↔ All (IsIn range) bytes.now }
+{
+    for byte in bytes {
+        if !is_in(range, u16::from(*byte)) {
+            return false;
+        }
+    }
+    true
+}
+
+fn fits_block(board: &Board, message: &Message, written: usize, bytes: &[u8]) -> bool
+    ensures { IsTrue result ↔ FitsBlock board.now message.now written bytes.now }
+{
+    let count = bytes.len();
+    written <= 255
+        && count <= 255 - written
+        && is_in(lengths_for(board, message), count as u16)
+        && are_in(values_for(board, message), bytes)
+}
+
+fn fits_alert(board: &Board, state: &BusState, answer: &Answer) -> bool
+    ensures { IsTrue result ↔ FitsAlert board.now state.now answer.now }
+{
+    match alert_byte(board, state) {
+        None => answer.refuse == Some(0) && answer.value == 0,
+        Some(byte) => answer.refuse.is_none() && answer.value == u16::from(byte),
+    }
+}
+
+fn reads_nothing(answer: &Answer) -> bool
+    ensures { IsTrue result ↔ ReadsNothing answer.now }
+{
+    answer.value == 0 && answer.bytes.is_empty()
+}
+
+/// Whether value and bytes are what the message's form may return.
+fn fits_form(board: &Board, state: &BusState, message: &Message, answer: &Answer) -> bool
+    ensures { IsTrue result ↔ FitsForm message.now.form board.now state.now message.now answer.now }
+{
+    match message.form {
+        Form::Quick(_) | Form::SendByte | Form::WriteByte | Form::WriteWord | Form::BlockWrite =>
+            reads_nothing(answer),
+        Form::ReadByte => {
+            answer.bytes.is_empty() && fits_read(board, state, message, answer.value)
+        }
+        Form::ReceiveByte | Form::ReadWord | Form::ProcessCall => {
+            answer.bytes.is_empty() && is_in(values_for(board, message), answer.value)
+        }
+        Form::BlockRead => answer.value == 0 && fits_block(board, message, 0, &answer.bytes),
+        Form::BlockProcessCall => {
+            answer.value == 0 && fits_block(board, message, message.out.len(), &answer.bytes)
+        }
+        Form::Alert => answer.bytes.is_empty() && fits_alert(board, state, answer),
+    }
+}
+
+fn is_numbered(refuse: Option<u16>, count: usize) -> bool
+    ensures { IsTrue result ↔ IsNumbered refuse count }
+{
+    match refuse {
+        None => true,
+        Some(number) => (number as usize) < count,
+    }
+}
+
+fn are_within(holds: &[u16], longest: u16) -> bool
+    ensures { IsTrue result ↔ All (λ hold. hold ≤ longest) holds.now }
+{
+    holds.iter().all(|hold| *hold <= longest)
+}
+
+fn fits_message(board: &Board, state: &BusState, message: &Message, answer: &Answer) -> bool
+    ensures { IsTrue result ↔ Fits board.now state.now message.now answer.now }
+{
+    may_all_alert(board, answer.alerts)
+        && answer.holds.len() <= slot_count(message, answer)
+        && are_within(&answer.holds, board.largest_stretch())
+        && is_numbered(answer.refuse, controller_count(message))
+        && fits_form(board, state, message, answer)
+}
+
+fn fits_silence(board: &Board, answer: &Answer) -> bool
+    ensures { IsTrue result ↔ FitsSilence board.now answer.now }
+{
+    may_all_alert(board, answer.alerts)
+        && answer.holds.is_empty()
+        && answer.refuse.is_none()
+        && reads_nothing(answer)
+        && !answer.took
+}
+
+/// Whether the targets of a board may give an answer to a message in a state, or to a step that sends
+/// nothing. Takes no memory.
+pub fn fits(board: &Board, state: &BusState, message: Option<&Message>, answer: &Answer) -> bool
+    ensures { IsTrue result ↔ FitsStep board.now state.now (option_map (λ m. m.now) message.entry) answer.now }
+{
+    match message {
+        Some(message) => fits_message(board, state, message, answer),
+        None => fits_silence(board, answer),
+    }
+}

@@ -1,0 +1,25 @@
+ghost use Rattle.targets.specs.SomeAnswer.{MessagesHaveAnswers, SilenceHasAnswers, SomeCase};
+ghost use Rattle.targets.specs.StateLaws.{StartsBelong, StepsBelong};
+ghost use Rattle.targets.specs.AlertLaws.{SomeTargetWins, OneTargetWins, LowestAddressWins};
+
+/// Targets always have an answer: to each message that belongs to their board, in each state that
+/// belongs to it, some answer fits, and to a step that sends nothing too.
+pub fn some_answer_fits()
+    ensures messages { MessagesHaveAnswers }
+    ensures silence { SilenceHasAnswers }
+    // There are such boards, states and messages.
+    ensures case { SomeCase }
+{}
+
+/// The states in which a run may start belong to the board, and so do those after answers that fit.
+pub fn states_belong()
+    ensures starts { StartsBelong }
+    ensures steps { StepsBelong }
+{}
+
+/// Where targets alert, one of them wins the alert response: the one with the lowest address.
+pub fn lowest_address_wins()
+    ensures some { SomeTargetWins }
+    ensures one { OneTargetWins }
+    ensures lowest { LowestAddressWins }
+{}

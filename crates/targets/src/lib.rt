@@ -1,0 +1,22 @@
+//! What the targets of a bus may answer to a message, and what it does to them.
+#![tactic(auto)]
+
+mod alerting;
+mod counting;
+mod effect;
+mod fitting;
+mod law;
+mod outcome;
+mod start;
+mod state;
+mod step;
+
+pub use fitting::fits;
+pub use law::{lowest_address_wins, some_answer_fits, states_belong};
+pub use outcome::Outcome;
+pub use start::starts;
+pub use state::BusState;
+pub use step::after;
+
+#[cfg(test)]
+mod tests;

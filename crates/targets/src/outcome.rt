@@ -1,0 +1,79 @@
+ghost use Rattle.std.specs.Prelude.{◌≡◌, ◌<◌, ◌^◌, length, min, option_map, take};
+ghost use Rattle.std.specs.List.{position_from};
+ghost use Rattle.bit_bus.specs.Levels.{is_cut};
+ghost use Rattle.targets.specs.Outcomes.{returned_by, cut_of, outcome_of};
+
+use crate::counting::slot_count;
+use smbus::{Answer, Form, Message};
+
+/// How a message ended.
+#[derive(Clone, Copy, Debug, PartialEq, Eq)]
+pub enum Outcome {
+    /// With the byte or the word that was read, the first byte of a block that was read, or 0.
+    Done(u16),
+    /// A byte of the controller wasn't acknowledged.
+    NotAcknowledged,
+    /// The clock was held low for too long.
+    TimedOut,
+}
+
+/// The shortest hold that cuts a slot: its low period is longer than 5000 ticks.
+const CUTTING_HOLD: u16 = 5000;
+
+fn is_cut(hold: u16) -> bool
+    ensures { result ≡ is_cut hold }
+{
+    hold >= CUTTING_HOLD
+}
+
+fn first_cut_in(holds: &[u16]) -> Option<usize>
+    ensures { result ≡ position_from is_cut 0 holds.now }
+{
+    holds.iter().position(|hold| is_cut(*hold))
+}
+
+/// The first slot that is cut, of as many slots.
+fn first_cut_of(slot_count: usize, holds: &[u16]) -> Option<usize>
+    ensures first { result ≡ position_from is_cut 0 (take (min slot_count (length holds.now)) holds.now) }
+    ensures few { length holds.now < 2 ^ 64 }
+{
+    first_cut_in(&holds[..slot_count.min(holds.len())])
+}
+
+/// The first slot of a message that is cut.
+pub(crate) fn cut_of(message: &Message, answer: &Answer) -> Option<usize>
+    ensures { result ≡ cut_of message.now answer.now }
+{
+    first_cut_of(slot_count(message, answer), &answer.holds)
+}
+
+/// What a message returns where it is done.
+fn returned_by(form: Form, answer: &Answer) -> u16
+    ensures { result ≡ returned_by form answer.now.value answer.now.bytes }
+{
+    match form {
+        Form::ReceiveByte | Form::ReadByte | Form::Alert => answer.value % 256,
+        Form::ReadWord | Form::ProcessCall => answer.value,
+        Form::BlockRead | Form::BlockProcessCall => match answer.bytes.first() {
+            Some(byte) => u16::from(*byte),
+            None => 0,
+        },
+        _ => 0,
+    }
+}
+
+/// How a message ends: timed out where a slot is cut, else not acknowledged where a byte is refused.
+pub(crate) fn outcome_of(message: Option<&Message>, answer: &Answer) -> Outcome
+    ensures { result ≡ outcome_of (option_map (λ m. m.now) message.entry) answer.now }
+{
+    let Some(message) = message else {
+        return Outcome::Done(0);
+    };
+    if cut_of(message, answer).is_some() {
+        Outcome::TimedOut
+    } else if answer.refuse.is_some() {
+        Outcome::NotAcknowledged
+    } else {
+        Outcome::Done(returned_by(message.form, answer))
+    }
+}

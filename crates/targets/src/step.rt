@@ -1,0 +1,103 @@
+ghost use Rattle.std.specs.Prelude.{◌≡◌, ◌≢◌, ◌<◌, ◌⊎◌, ◌↔◌, ℕ, false, Some, IfOk, IfSome, IsTrue, option_map};
+ghost use Rattle.wires.specs.Bits.{bit};
+ghost use Rattle.board.specs.Valid.{IsBoard};
+ghost use Rattle.targets.specs.Outcomes.{outcome_of};
+ghost use Rattle.targets.specs.Effects.{StopsAlerting, IsAfter};
+ghost use Rattle.targets.specs.Stored.{with_write};
+
+use crate::alerting::alert_winner;
+use crate::effect::{is_done, page_write, protect_write};
+use crate::outcome::{Outcome, outcome_of};
+use crate::state::BusState;
+use board::Board;
+use smbus::{Answer, Form, Message};
+use std::alloc::{AllocError, Global};
+
+/// What is stored with one value written, at its index.
+fn with_write(
+    alloc: Global,
+    stored: &[u8],
+    write: Option<(usize, u8)>,
+) -> Result<Vec<u8>, AllocError>
+    ensures { IfOk result (λ bytes. bytes.items ≡ with_write write stored.now) }
+{
+    let mut bytes = Vec::new(alloc);
+    bytes.extend_from_slice(stored)?;
+    if let Some((index, value)) = write {
+        if let Some(byte) = bytes.get_mut(index) {
+            *byte = value;
+        }
+    }
+    Ok(bytes)
+}
+
+/// The bits of some targets without one of them.
+fn without(bits: u16, index: usize) -> u16
+    requires { index < 16 }
+    ensures same { bit result index ≡ false }
+    ensures others { (i : ℕ) → i ≢ index → bit result i ≡ bit bits i }
+{
+    bits & !(1 << index)
+}
+
+/// Who goes on to alert, where one target may stop.
+fn kept_alerting(alerting: u16, stops: Option<usize>) -> u16
+    requires { IfSome stops (λ index. index < 16) }
+    ensures { (i : ℕ) → IsTrue (bit result i) ↔ (IsTrue (bit alerting i) × (stops ≢ Some i)) }
+{
+    match stops {
+        Some(index) => without(alerting, index),
+        None => alerting,
+    }
+}
+
+fn joined(some: u16, others: u16) -> u16
+    ensures { (i : ℕ) → IsTrue (bit result i) ↔ (IsTrue (bit some i) ⊎ IsTrue (bit others i)) }
+{
+    some | others
+}
+
+/// The index of the target that a message makes stop alerting, if it does.
+fn stops_alerting(
+    board: &Board,
+    state: &BusState,
+    message: Option<&Message>,
+    answer: &Answer,
+) -> Option<usize>
+    ensures some { IfSome result (λ index.
+        StopsAlerting board.now state.now (option_map (λ m. m.now) message.entry) answer.now index) }
+    ensures only { (i : ℕ) → StopsAlerting board.now state.now (option_map (λ m. m.now) message.entry) answer.now i
+        → result ≡ Some i }
+    ensures few { IfSome result (λ index. index < 16) }
+    ensures board { IsBoard board.now }
+{
+    let winner = alert_winner(board, state);
+    match message {
+        Some(message) if message.form == Form::Alert && is_done(message, answer) => winner,
+        _ => None,
+    }
+}
+
+/// The state and the outcome after a message and an answer of the targets, or after a step that sends
+/// nothing. Fails only for want of memory.
+pub fn after(
+    alloc: Global,
+    board: &Board,
+    state: &BusState,
+    message: Option<&Message>,
+    answer: &Answer,
+) -> Result<(BusState, Outcome), AllocError>
+    ensures state { IfOk result (λ r.
+        IsAfter board.now state.now (option_map (λ m. m.now) message.entry) answer.now r.0) }
+    ensures outcome { IfOk result (λ r. r.1 ≡ outcome_of (option_map (λ m. m.now) message.entry) answer.now) }
+{
+    let stops = stops_alerting(board, state, message, answer);
+    let page_write = page_write(board, state, message, answer);
+    let protect_write = protect_write(board, state, message, answer);
+    let new = BusState {
+        page: with_write(alloc, &state.page, page_write)?,
+        protect: with_write(alloc, &state.protect, protect_write)?,
+        alerting: joined(answer.alerts, kept_alerting(state.alerting, stops)),
+    };
+    Ok((new, outcome_of(message, answer)))
+}
