@@ -1,9 +1,8 @@
 -- The frame of pieces and a tail, its marks and its word.
-use Rattle.std.proofs.Common.{◌≡◌, ℕ, zero, suc, ◌+◌, ◌-◌, ◌%◌, ◌<◌, ◌≤◌, inl, inr, Bool, true, false, List, [], ◌∷◌, ◌++◌, length, take, All, refl, sym, ap, ◌∙◌, append_assoc, arith}
+use Rattle.std.proofs.Common.{◌≡◌, ℕ, ◌%◌, ◌<◌, ◌≤◌, Bool, true, false, List, [], ◌∷◌, ◌++◌, length, All, refl, sym, ap, ◌∙◌, append_assoc, arith}
 use Rattle.std.specs.List.{flat_map}
-use Rattle.std.proofs.lemmas.Bool.{cases_lt}
 use Rattle.std.proofs.lemmas.Grind.{flat_map-append}
-use Rattle.std.proofs.lemmas.List.{length-take, take-append-le, take-map, map-append, length-map}
+use Rattle.std.proofs.lemmas.List.{map-append}
 use Rattle.std.proofs.lemmas.Nat.{mod_below}
 use Rattle.std.proofs.lemmas.List.Elements.{All-nil, All-cons}
 use Rattle.wires.specs.declared.event.Event.{Event}
@@ -13,15 +12,11 @@ use Rattle.bit_bus.specs.declared.plan.Slot.TheVariants.{Bit, Again}
 use Rattle.bit_bus.specs.Word.{slot_word}
 use Rattle.smbus.specs.Shown.{Shown}
 use Rattle.smbus.specs.Frames.{byte_bits, segment_bits, rises, segment_words, frame_word, IsFrame}
-use Rattle.smbus.specs.Protocol.{Piece, bit_marks, piece_marks, marks_of}
+use Rattle.smbus.specs.Protocol.{Piece, bit_marks, marks_of}
 use Rattle.smbus.specs.Protocol.Piece.{Sent, Refused, Got, Repeat}
 use Rattle.smbus.specs.Whole.{segment_marks, shown_marks}
-use Rattle.smbus.proofs.Bytes.{length-byte_bits, byte_bits-mod}
+use Rattle.smbus.proofs.Bytes.{byte_bits-mod}
 use Rattle.smbus.proofs.EventByEvent.{Segments, AreBytes}
-
-take_past : {X : Type 0} (a b : List X) (k : ℕ) → take (length a + k) (a ++ b) ≡ a ++ take k b
-take_past [] b k = let e : 0 + k ≡ k = omega arith in rw e refl
-take_past (x ∷ a) b k = let e : suc (length a) + k ≡ suc (length a + k) = omega arith in rw e (ap (λ l. x ∷ l) (take_past a b k))
 
 -- the frame of pieces
 
@@ -92,51 +87,3 @@ frame_word-marks f = ap (λ (l : List Event). Start ∷ (l ++ Rise false ∷ Sto
     (ap (λ (l : List Event). l ++ rises f.tail) (segments_word f.segments)
     ∙ ap (λ (l : List Event). flat_map slot_word (segment_marks f.segments) ++ l) (bits_word f.tail)
     ∙ sym (flat_map-append slot_word (segment_marks f.segments) (bit_marks f.tail)))
-
--- the front of the marks of pieces is that of pieces and a tail
-
-pub record Front (n : ℕ) (pieces : List Piece) : Type 0 where
-  pub whole : List Piece
-  pub tail : List Bool
-  pub few : length tail ≤ 8
-  pub marks : take n (marks_of pieces) ≡ marks_of whole ++ bit_marks tail
-
-front_nil : (n : ℕ) → Front n []
-front_nil zero = record { whole = []; tail = []; few = omega arith; marks = refl }
-front_nil (suc n) = record { whole = []; tail = []; few = omega arith; marks = refl }
-
-front_byte : (n : ℕ) (p : Piece) (b : ℕ × Bool) (later : List Piece) → piece_marks p ≡ bit_marks (byte_bits b) → Front (n - 9) later → Front n (p ∷ later)
-front_byte n p b later e f =
-    let l = length-byte_bits b in
-    let lm : length (bit_marks (byte_bits b)) ≡ 9 = length-map (byte_bits b) Bit ∙ l in
-    elim (cases_lt n 9) [
-      | inl lt ↦ record {
-        whole = [];
-        tail = take n (byte_bits b);
-        few = simp length-take (omega arith);
-        marks = ap (λ (m : List Slot). take n (m ++ marks_of later)) e ∙ take-append-le n (bit_marks (byte_bits b)) (marks_of later) (omega arith) ∙ take-map Bit n (byte_bits b);
-      }
-      | inr ge ↦
-          let k : n ≡ length (bit_marks (byte_bits b)) + (n - 9) = omega arith in
-          record {
-            whole = p ∷ f.whole;
-            tail = f.tail;
-            few = f.few;
-            marks = ap (λ (m : List Slot). take n (m ++ marks_of later)) e
-                ∙ ap (λ (j : ℕ). take j (bit_marks (byte_bits b) ++ marks_of later)) k
-                ∙ take_past (bit_marks (byte_bits b)) (marks_of later) (n - 9)
-                ∙ ap (λ (m : List Slot). bit_marks (byte_bits b) ++ m) f.marks
-                ∙ sym (append_assoc (bit_marks (byte_bits b)) (marks_of f.whole) (bit_marks f.tail))
-                ∙ ap (λ (m : List Slot). m ++ marks_of f.whole ++ bit_marks f.tail) (sym e);
-          }
-    ]
-
-pub front_of : (pieces : List Piece) (n : ℕ) → Front n pieces
-front_of [] n = front_nil n
-front_of (Sent b ∷ later) n = front_byte n (Sent b) (b, true) later refl (front_of later (n - 9))
-front_of (Refused b ∷ later) n = front_byte n (Refused b) (b, false) later refl (front_of later (n - 9))
-front_of (Got b more ∷ later) n = front_byte n (Got b more) (b, more) later refl (front_of later (n - 9))
-front_of (Repeat ∷ later) zero = record { whole = []; tail = []; few = omega arith; marks = refl }
-front_of (Repeat ∷ later) (suc n) =
-    let f = front_of later n in
-    record { whole = Repeat ∷ f.whole; tail = f.tail; few = f.few; marks = ap (λ (m : List Slot). Again ∷ m) f.marks }

@@ -2,8 +2,15 @@ pub mod Bytes
 pub mod EventByEvent
 pub mod PartsOfFrames
 pub mod FrameMarks
+pub mod SmallPieces
+pub mod Fronts
+pub mod FirstSegments
+pub mod Tokens
+pub mod DataBytes
+pub mod SeenFrames
 pub mod MarksOut
 pub mod FirstCut
 pub mod MarkCounts
 pub mod OneFrameOfMessage
+pub mod MessageFrames
 pub mod FrameWords

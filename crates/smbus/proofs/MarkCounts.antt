@@ -11,22 +11,8 @@ use Rattle.smbus.specs.Answered.{Answered}
 use Rattle.smbus.specs.Frames.{byte_bits}
 use Rattle.smbus.specs.Protocol.{Piece, sent, written, got, read, low, high, whole_of, whole, refused_at, up_to_refused, bit_marks, marks_of, HasLength, AreGoodCounts}
 use Rattle.smbus.specs.Slots.{marks_sent, slots_of}
+use Rattle.smbus.specs.SlotCounts.{most_slots}
 use Rattle.smbus.proofs.Bytes.{length-byte_bits}
-
--- how many slots a form has at most, the STOP included
-abbrev pub most_slots : Form → ℕ → ℕ → ℕ
-most_slots (Quick is_read) out block = 10
-most_slots SendByte out block = 19
-most_slots ReceiveByte out block = 19
-most_slots WriteByte out block = 28
-most_slots WriteWord out block = 37
-most_slots ReadByte out block = 38
-most_slots ReadWord out block = 47
-most_slots ProcessCall out block = 65
-most_slots BlockWrite out block = 28 + 9 * out
-most_slots BlockRead out block = 38 + 9 * block
-most_slots BlockProcessCall out block = 47 + 9 * (out + block)
-most_slots Alert out block = 19
 
 abbrev pub mark_count : List Piece → ℕ
 mark_count [] = 0

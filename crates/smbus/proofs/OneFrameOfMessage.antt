@@ -20,7 +20,8 @@ use Rattle.smbus.specs.Slots.{slots_of, plan_of}
 use Rattle.smbus.specs.Whole.{shown_marks, IsWhole, IsBrokenOff}
 use Rattle.smbus.specs.OneFrame.{CanBeSent, IsOnlyFrame, SlotsAreOneFrame, FramesAreUnique}
 use Rattle.smbus.proofs.EventByEvent.{only_read, read_frames, closed}
-use Rattle.smbus.proofs.FrameMarks.{frame_of, is_frame, frame_word-marks, segment_marks-split, front_of}
+use Rattle.smbus.proofs.FrameMarks.{frame_of, is_frame, frame_word-marks, segment_marks-split}
+use Rattle.smbus.proofs.Fronts.{front_of}
 use Rattle.smbus.proofs.MarksOut.{marks_out, no_end-pieces, goes_out, refused_front}
 use Rattle.smbus.proofs.FirstCut.{Cuts, cuts_of, planned_holds, marks_end_once}
 use Rattle.smbus.proofs.MarkCounts.{slots_few, most_few}
@@ -28,10 +29,10 @@ use Rattle.smbus.proofs.MarkCounts.{slots_few, most_few}
 abbrev Plan : Type 0
 Plan = List (Slot × ℕ)
 
-abbrev pieces_of : Asked → Answered → List Piece
+abbrev pub pieces_of : Asked → Answered → List Piece
 pieces_of m a = up_to_refused a.refuse (whole m a.value a.bytes)
 
-cuts : (m : Asked) (a : Answered) → Cuts 0 (marks_of (pieces_of m a)) (plan_of m a)
+pub cuts : (m : Asked) (a : Answered) → Cuts 0 (marks_of (pieces_of m a)) (plan_of m a)
 cuts m a = cuts_of 0 (marks_of (pieces_of m a)) a.holds (no_end-pieces (pieces_of m a))
 
 is_plan : (m : Asked) (a : Answered) → CanBeSent m a → IsPlan (plan_of m a)
@@ -60,7 +61,7 @@ pub record Sees (m : Asked) (a : Answered) : Type 0 where
 only_frame : (events : List Event) (f : Shown) → AreFrames events (f ∷ []) → IsOnlyFrame events f
 only_frame events f are = record { is = are; only = λ others h. only_read events (closed (f ∷ [])) (read_frames events (f ∷ []) are) others h }
 
-sees : (m : Asked) (a : Answered) → Sees m a
+pub sees : (m : Asked) (a : Answered) → Sees m a
 sees m a =
     let pieces : List Piece = pieces_of m a in
     let plan : Plan = plan_of m a in

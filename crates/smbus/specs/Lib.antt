@@ -4,8 +4,11 @@ pub mod Asked
 pub mod Answered
 pub mod Protocol
 pub mod Slots
+pub mod SlotCounts
 pub mod Whole
 pub mod OneFrame
+pub mod FirstSegment
+pub mod MessageFrame
 pub mod Text
 pub mod Faults
 pub mod FormWords

@@ -12,7 +12,7 @@ mod word;
 
 pub use fault::{ObserveFault, SmbusFault};
 pub use frame::{Frame, Segment};
-pub use law::slots_are_one_frame;
+pub use law::{messages_have_one_frame, slots_are_one_frame};
 pub use message::{Answer, Form, Message};
 pub use observing::observe;
 pub use slots::frame_slots;
