@@ -1,0 +1,3 @@
+pub mod OneEntry
+pub mod Doing
+pub mod Joining

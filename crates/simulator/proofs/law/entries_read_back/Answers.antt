@@ -1,0 +1,16 @@
+use Rattle.simulator.proofs.Doing.{do_as_asked}
+use Rattle.simulator.proofs.Joining.{reads_none, reads_joined}
+use Rattle.simulator.proofs.OneEntry.{reads_one}
+use Rattle.simulator.proofs.law.entries_read_back.Goals as goal
+
+pub returns-clause-one : goal.returns-clause-one
+returns-clause-one c = reads_one
+
+pub returns-clause-does : goal.returns-clause-does
+returns-clause-does c = do_as_asked
+
+pub returns-clause-none : goal.returns-clause-none
+returns-clause-none c = reads_none
+
+pub returns-clause-joined : goal.returns-clause-joined
+returns-clause-joined c = reads_joined
