@@ -14,3 +14,4 @@ pub mod MarkCounts
 pub mod OneFrameOfMessage
 pub mod MessageFrames
 pub mod FrameWords
+pub mod Examples

@@ -74,3 +74,9 @@ pub record ShowsMessage (m : Asked) (a : Answered) : Type 0 where
 
 abbrev pub MessagesHaveOneFrame : Type 0
 MessagesHaveOneFrame = (m : Asked) (a : Answered) → AreAsked m a → ShowsMessage m a
+
+-- there are a message and an answer that can be put on the wire
+pub record SomeAreAsked : Type 0 where
+  pub message : Asked
+  pub answer : Answered
+  pub asked : AreAsked message answer

@@ -1,4 +1,4 @@
-ghost use Rattle.smbus.specs.MessageFrame.{MessagesHaveOneFrame};
+ghost use Rattle.smbus.specs.MessageFrame.{MessagesHaveOneFrame, SomeAreAsked};
 ghost use Rattle.smbus.specs.OneFrame.{FramesAreUnique, SlotsAreOneFrame};
 
 /// The slots of a message under an answer that `frame_slots` takes can be driven, and their events are
@@ -14,4 +14,6 @@ pub fn slots_are_one_frame()
 /// Read Word, the message was that one.
 pub fn messages_have_one_frame()
     ensures one { MessagesHaveOneFrame }
+    // There are such messages and answers.
+    ensures case { SomeAreAsked }
 {}
