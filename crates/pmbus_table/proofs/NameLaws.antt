@@ -95,7 +95,7 @@ no_name code (Some r) e =
     let more : 2 < length r.name = h.1.long in
     absurd (omega arith)
 
-text_of_digits : (code : ℕ) → is_manufacturer code ≡ true → name_text code ≡ pair_text code
+pub text_of_digits : (code : ℕ) → is_manufacturer code ≡ true → name_text code ≡ pair_text code
 text_of_digits code m = ap (λ (o : Option Row). unwrap_or (option_map (λ r. r.name) o) (pair_text code)) (no_row code (row_of code) refl m)
 
 -- the name of what a text names is the text

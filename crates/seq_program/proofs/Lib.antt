@@ -6,3 +6,13 @@ pub mod Bytes
 pub mod Places
 pub mod WrittenValues
 pub mod ValidPrograms
+pub mod JoinedWords
+pub mod PrintedNumbers
+pub mod PrintedCommands
+pub mod PrintedSizes
+pub mod PrintedPlaces
+pub mod PrintedJumps
+pub mod PrintedPrograms
+pub mod PrintedLines
+pub mod PrintedPlain
+pub mod PrintedMessages

@@ -11,3 +11,6 @@ pub mod PassViews
 pub mod Programs
 pub mod Valid
 pub mod Messages
+pub mod PrintedWords
+pub mod Printed
+pub mod PrintedLaw

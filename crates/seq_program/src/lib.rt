@@ -4,6 +4,7 @@
 mod command;
 mod fault;
 mod instr;
+mod law;
 mod line;
 mod message;
 mod message_line;
@@ -14,6 +15,7 @@ mod program;
 
 pub use fault::ProgramFault;
 pub use instr::{Block, Counter, Instr, Register, Width, Written};
+pub use law::printed_programs_read_back;
 pub use message::message_of;
 pub use program::{Program, read_program};
 
