@@ -16,3 +16,4 @@ pub mod PrintedPrograms
 pub mod PrintedLines
 pub mod PrintedPlain
 pub mod PrintedMessages
+pub mod PrintedCase

@@ -22,7 +22,7 @@ written_words command (written.Byte value) = sized_name command width.Byte ∷ d
 written_words command (written.Word value) = sized_name command width.Word ∷ decimal value ∷ []
 written_words command (written.Register register) = sized_name command width.Word ∷ register_name register ∷ []
 
--- the words of an instruction, in the order of the table of lines
+-- the words of an instruction, in the order of docs/PROGRAM.md
 abbrev pub words_in : Board → Instr ℕ → List (List ℕ)
 words_in board (instr.Quick target read place) = codes "quick" ∷ target_name board target ∷ direction_name read ∷ else_words place
 words_in board (instr.Send target command place) = codes "send" ∷ target_name board target ∷ name_text command ∷ else_words place
