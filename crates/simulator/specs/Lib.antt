@@ -1,3 +1,14 @@
 pub mod Entries
 pub mod EntryLaws
 pub mod Does
+pub mod Machines
+pub mod Moves
+pub mod Steps
+pub mod Faults
+pub mod Traces
+pub mod TraceTexts
+pub mod Allowed
+pub mod Reports
+pub mod Safe
+pub mod Headline
+pub mod StepLaws

@@ -1,5 +1,8 @@
 ghost use Rattle.simulator.specs.Does.{EntriesDoAsAsked};
 ghost use Rattle.simulator.specs.EntryLaws.{EntriesReadBack, IdleReadsBack, JoinedReadBack};
+ghost use Rattle.simulator.specs.StepLaws.{StepsAreSeen, StartsAreReady};
+
+use targets::states_belong;
 
 /// The samples of an entry that sends a message have one frame, the one that shows the message, and what
 /// they are seen to do is what was asked and answered. Idle samples have no frame. The joined samples of
@@ -10,3 +13,14 @@ pub fn entries_read_back()
     ensures none { IdleReadsBack }
     ensures joined { JoinedReadBack }
 {}
+
+/// Every step of a program on its board meets what the laws on entries ask: its message and answer are bytes
+/// on the wire that can be sent. So its samples are read as its message's one frame, or as none, they begin
+/// idle and end with both lines high, and the machine after it is ready for the next step, as it is at the start.
+pub fn steps_are_seen()
+    ensures steps { StepsAreSeen }
+    ensures starts { StartsAreReady }
+{
+    entries_read_back();
+    states_belong();
+}

@@ -1,6 +1,25 @@
-//! Runs of sequence programs, and the samples of the bus lines that they give.
+//! Runs of a program on a simulated bus: steps, traces and what is seen on the lines.
 #![tactic(auto)]
 
+mod fault;
 mod law;
+mod lines;
+mod machine;
+mod moves;
+mod running;
+mod sending;
+mod starting;
+mod stepping;
+mod trace;
+mod trace_text;
 
-pub use law::entries_read_back;
+pub use fault::RunFault;
+pub use law::{entries_read_back, steps_are_seen};
+pub use machine::{Ending, Entry, Machine};
+pub use running::{Trace, run};
+pub use starting::start;
+pub use stepping::step;
+pub use trace::{WriteFault, write_trace};
+
+#[cfg(test)]
+mod tests;

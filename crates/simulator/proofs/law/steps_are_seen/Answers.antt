@@ -1,0 +1,8 @@
+use Rattle.simulator.proofs.SeenSteps.{steps_are_seen, starts_are_ready}
+use Rattle.simulator.proofs.law.steps_are_seen.Goals as goal
+
+pub returns-clause-steps : goal.returns-clause-steps
+returns-clause-steps c = steps_are_seen c.entries_read_back.ensures.one c.entries_read_back.ensures.does c.entries_read_back.ensures.none c.states_belong.ensures.steps
+
+pub returns-clause-starts : goal.returns-clause-starts
+returns-clause-starts c = starts_are_ready c.states_belong.ensures.starts

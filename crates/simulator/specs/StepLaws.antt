@@ -1,0 +1,53 @@
+-- What a step of the model is seen to do.
+use Rattle.std.specs.Prelude.{◌≡◌, ◌<◌, ℕ, List, [], slice_get, Option, Some, None, All}
+use Rattle.wires.specs.Events.{events_of}
+use Rattle.smbus.specs.Asked.{Asked}
+use Rattle.smbus.specs.Answered.{Answered}
+use Rattle.smbus.specs.Frames.{AreFrames}
+use Rattle.smbus.specs.MessageFrame.{AreAsked}
+use Rattle.board.specs.Boards.{Board}
+use Rattle.board.specs.Valid.{IsBoard}
+use Rattle.targets.specs.States.{BusState, IsStart}
+use Rattle.seq_program.specs.declared.instr.Instr.{Instr}
+use Rattle.seq_program.specs.Messages.{message_of}
+use Rattle.seq_program.specs.Valid.{IsProgram}
+use Rattle.simulator.specs.Entries.{samples_of, IsEntry}
+use Rattle.simulator.specs.EntryLaws.{ReadsOne}
+use Rattle.simulator.specs.Does.{DoesAsAsked}
+use Rattle.simulator.specs.Machines.{Machine, Entry, IsMachine, start_at}
+use Rattle.simulator.specs.Steps.{alert_level, IsStep}
+
+-- a machine of the board and the program whose registers are words
+pub record IsReady (b : Board) (p : List (Instr ℕ)) (m : Machine) : Type 0 where
+  pub machine : IsMachine b p m
+  pub words : All (λ word. word < 65536) m.regs
+
+-- the samples are those of the message and the answer, which are bytes on the wire; so they have its one
+-- frame, and what they are seen to do is what was asked and answered
+pub record SeesMessage (s : BusState) (m : Asked) (a : Answered) (e : Entry) : Type 0 where
+  pub asked : AreAsked m a
+  pub samples : e.samples ≡ samples_of (alert_level s) m a
+  pub reads : ReadsOne m a (alert_level s)
+  pub does : DoesAsAsked m a (alert_level s)
+
+-- without a message no frame is seen
+abbrev pub Sees : BusState → Option Asked → Answered → Entry → Type 0
+Sees s None a e = AreFrames (events_of e.samples) []
+Sees s (Some m) a e = SeesMessage s m a e
+
+pub record StepIsSeen (b : Board) (p : List (Instr ℕ)) (m : Machine) (a : Answered) (e : Entry) (next : Machine) : Type 0 where
+  pub instr : Instr ℕ
+  pub here : slice_get p m.place ≡ Some instr
+  pub sees : Sees m.bus (message_of b instr m.regs) a e
+  -- the lines are idle before it, and free after it
+  pub entry : IsEntry e.samples
+  pub ready : IsReady b p next
+
+-- every step of a machine that is ready
+abbrev pub StepsAreSeen : Type 0
+StepsAreSeen = (b : Board) (p : List (Instr ℕ)) (m next : Machine) (a : Answered) (e : Entry)
+    → IsBoard b → IsProgram p → IsReady b p m → IsStep b p m a e next → StepIsSeen b p m a e next
+
+-- and where a run may start it is
+abbrev pub StartsAreReady : Type 0
+StartsAreReady = (b : Board) (p : List (Instr ℕ)) (s : BusState) → IsBoard b → IsProgram p → IsStart b s → IsReady b p (start_at s)

@@ -1,0 +1,72 @@
+-- Steps of a program on a board, and runs: lists of steps.
+use Rattle.std.specs.Prelude.{◌≡◌, ◌+◌, ◌==◌, ℕ, suc, Bool, List, [], ◌∷◌, length, slice_get, Option, Some, None}
+use Rattle.wires.specs.declared.lines.Sample.{Sample}
+use Rattle.smbus.specs.Asked.{Asked}
+use Rattle.smbus.specs.Answered.{Answered}
+use Rattle.board.specs.Boards.{Board}
+use Rattle.targets.specs.States.{BusState}
+use Rattle.targets.specs.Fitting.{FitsStep}
+use Rattle.targets.specs.declared.outcome.Outcome.{Outcome}
+use Rattle.targets.specs.Outcomes.{outcome_of}
+use Rattle.targets.specs.Effects.{IsAfter}
+use Rattle.seq_program.specs.declared.instr.Instr.{Instr}
+use Rattle.seq_program.specs.declared.instr.Instr.TheVariants.{Wait}
+use Rattle.seq_program.specs.Messages.{message_of}
+use Rattle.simulator.specs.declared.machine.Ending.TheVariants.{Running}
+use Rattle.simulator.specs.Entries.{samples_of, idle_samples}
+use Rattle.simulator.specs.Machines.{Machine, Entry}
+use Rattle.simulator.specs.Moves.{moved}
+
+-- SMBALERT# is high where no target pulls it low
+abbrev pub alert_level : BusState → Bool
+alert_level s = s.alerting == 0
+
+-- for how many ticks more than one an instruction waits
+abbrev pub idle_ticks : Instr ℕ → ℕ
+idle_ticks (Wait ticks) = ticks
+idle_ticks _ = 0
+
+-- the lines in a step: an idle sample and the message's frame, or idle samples
+abbrev pub step_samples : BusState → Instr ℕ → Option Asked → Answered → List Sample
+step_samples s i None a = idle_samples (alert_level s) (suc (idle_ticks i))
+step_samples s i (Some message) a = samples_of (alert_level s) message a
+
+-- how its message ends
+abbrev pub sent_outcome : Option Asked → Answered → Option Outcome
+sent_outcome None a = None
+sent_outcome (Some message) a = Some (outcome_of (Some message) a)
+
+abbrev pub entry_of : Instr ℕ → Option Asked → Answered → Machine → Entry
+entry_of i message a m =
+    record {
+      place = m.place;
+      before = m.bus;
+      samples = step_samples m.bus i message a;
+      outcome = sent_outcome message a;
+      ticks = length (step_samples m.bus i message a);
+    }
+
+-- the step of an instruction that sends this message, or none, under an answer that fits
+pub record IsStepOf (b : Board) (i : Instr ℕ) (message : Option Asked) (m : Machine) (a : Answered) (e : Entry) (next : Machine) : Type 0 where
+  pub fits : FitsStep b m.bus message a
+  pub bus : IsAfter b m.bus message a next.bus
+  pub next_is : next ≡ moved i message (outcome_of message a) next.bus m
+  pub entry_is : e ≡ entry_of i message a m
+
+-- a step of a machine that runs, by the instruction at its place
+pub record IsStep (b : Board) (p : List (Instr ℕ)) (m : Machine) (a : Answered) (e : Entry) (next : Machine) : Type 0 where
+  pub running : m.ended ≡ Running
+  pub instr : Instr ℕ
+  pub here : slice_get p m.place ≡ Some instr
+  pub step : IsStepOf b instr (message_of b instr m.regs) m a e next
+
+-- a run: a step for each answer
+abbrev pub IsRun : Board → List (Instr ℕ) → Machine → List Answered → List Entry → Machine → Type 0
+IsRun b p m [] [] last = last ≡ m
+IsRun b p m (a ∷ answers) (e ∷ entries) last = (next : Machine) × IsStep b p m a e next × IsRun b p next answers entries last
+IsRun b p m answers entries last = ⊥
+
+-- how long a run takes
+abbrev pub total_ticks : List Entry → ℕ
+total_ticks [] = 0
+total_ticks (e ∷ entries) = e.ticks + total_ticks entries

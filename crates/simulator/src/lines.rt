@@ -1,0 +1,95 @@
+//! The lines in a step.
+
+ghost use Rattle.std.specs.Prelude.{◌≡◌, ◌≤◌, IfOk, IfSome, option_map};
+ghost use Rattle.bit_bus.specs.Levels.{idle};
+ghost use Rattle.smbus.specs.OneFrame.{CanBeSent};
+ghost use Rattle.seq_program.specs.Valid.{IsInstr};
+ghost use Rattle.simulator.specs.Entries.{samples_of, idle_samples};
+ghost use Rattle.simulator.specs.Steps.{idle_ticks, step_samples};
+
+use bit_bus::{Plan, drive};
+use seq_program::Instr;
+use smbus::{Answer, Message, SmbusFault, frame_slots, slots_are_one_frame};
+use std::alloc::{AllocError, Global};
+use targets::BusState;
+use wires::Sample;
+
+/// A free bus, with this level of SMBALERT#.
+fn idle(alert: bool) -> Sample
+    ensures { result ≡ idle alert }
+{
+    Sample {
+        scl: true,
+        sda: true,
+        alert,
+    }
+}
+
+/// So many idle samples.
+fn idle_samples(alloc: Global, alert: bool, ticks: u32) -> Result<Vec<Sample>, AllocError>
+    ensures { IfOk result (λ samples. samples.items ≡ idle_samples alert ticks) }
+{
+    let mut samples = Vec::new(alloc);
+    for _ in 0..ticks {
+        samples.push(idle(alert))?;
+    }
+    Ok(samples)
+}
+
+/// An idle sample, and the frame of a message.
+fn frame_samples(
+    alloc: Global,
+    alert: bool,
+    message: &Message,
+    answer: &Answer,
+) -> Result<Vec<Sample>, AllocError>
+    requires { CanBeSent message.now answer.now }
+    ensures { IfOk result (λ samples. samples.items ≡ samples_of alert message.now answer.now) }
+{
+    slots_are_one_frame();
+    let slots = match frame_slots(alloc, message, answer) {
+        Ok(slots) => slots,
+        Err(SmbusFault::Memory) => return Err(AllocError),
+        Err(SmbusFault::BadBlock | SmbusFault::BadData) => unreachable!(),
+    };
+    let Some(plan) = Plan::new(slots, answer.holds.clone()?) else {
+        unreachable!()
+    };
+    let driven = drive(alloc, &plan, alert)?;
+    let mut samples = Vec::new(alloc);
+    samples.push(idle(alert))?;
+    samples.extend_from_slice(&driven.samples)?;
+    Ok(samples)
+}
+
+/// For how many ticks more than one an instruction waits.
+fn idle_ticks(instr: &Instr<usize>) -> u32
+    requires { IsInstr instr.now }
+    ensures value { result ≡ idle_ticks instr.now }
+    ensures small { result ≤ 10000000 }
+{
+    match instr {
+        Instr::Wait { ticks } => *ticks,
+        _ => 0,
+    }
+}
+
+/// The lines in a step of an instruction that sends this message, or none.
+pub(crate) fn step_samples(
+    alloc: Global,
+    state: &BusState,
+    instr: &Instr<usize>,
+    message: Option<&Message>,
+    answer: &Answer,
+) -> Result<Vec<Sample>, AllocError>
+    requires instr { IsInstr instr.now }
+    requires sendable { IfSome (option_map (λ m. m.now) message) (λ m. CanBeSent m answer.now) }
+    ensures { IfOk result (λ samples. samples.items
+        ≡ step_samples state.now instr.now (option_map (λ m. m.now) message.entry) answer.now) }
+{
+    let alert = state.alerting == 0;
+    match message {
+        Some(message) => frame_samples(alloc, alert, message, answer),
+        None => idle_samples(alloc, alert, idle_ticks(instr) + 1),
+    }
+}

@@ -1,0 +1,200 @@
+ghost use Rattle.std.specs.Prelude.{◌≡◌, ◌≢◌, ◌≤◌, ◌<◌, ◌+◌, ◌↔◌, length, slice_get, option_map, All, IfOk, IfErr, Some, IsTrue};
+ghost use Rattle.seq_program.specs.Messages.{message_of};
+ghost use Rattle.seq_program.specs.Valid.{IsInstr, IsProgram, IsOnBoard};
+ghost use Rattle.targets.specs.Fitting.{FitsStep};
+ghost use Rattle.targets.specs.States.{Belongs};
+ghost use Rattle.simulator.specs.Faults.{most_ticks, IsStepFault};
+ghost use Rattle.simulator.specs.Machines.{IsMachine};
+ghost use Rattle.simulator.specs.Moves.{moved};
+ghost use Rattle.simulator.specs.Steps.{IsStepOf, IsStep};
+ghost use Rattle.simulator.specs.Traces.{IsSeen};
+ghost use Rattle.simulator.specs.declared.fault.RunFault.{RunFault};
+ghost use Rattle.simulator.specs.declared.fault.RunFault.TheVariants.{Memory};
+ghost use Rattle.simulator.specs.declared.machine.Ending.TheVariants.{Running};
+
+use crate::fault::RunFault;
+use crate::lines::step_samples;
+use crate::machine::{Ending, Entry, Machine, copied};
+use crate::moves::{after_message, silently};
+use bit_bus::reads_back;
+use board::Board;
+use seq_program::{Instr, Program, message_of};
+use smbus::{Answer, Message, slots_are_one_frame};
+use std::alloc::{AllocError, Global};
+use targets::{BusState, Outcome, after, fits, states_belong};
+
+/// The most samples of a run.
+pub(crate) const MOST_TICKS: u64 = 1_000_000;
+
+fn is_running(machine: &Machine) -> bool
+    ensures { IsTrue result ↔ (machine.now.ended ≡ Running) }
+{
+    matches!(machine.ended, Ending::Running)
+}
+
+/// The instruction at the place of a machine.
+fn instr_of<'a>(program: &'a Program, machine: &Machine) -> &'a Instr<usize>
+    requires { machine.now.place < length program.now }
+    ensures at { slice_get program.now machine.now.place ≡ Some result.now }
+    ensures instr { IsInstr result.now }
+    ensures few { machine.now.place < 1024 }
+    ensures program { IsProgram program.now }
+{
+    let _count = program.places();
+    match program.at(machine.place) {
+        Some(instr) => instr,
+        None => unreachable!(),
+    }
+}
+
+/// The machine after an instruction that sent this message, or none.
+fn moved(
+    instr: &Instr<usize>,
+    message: Option<&Message>,
+    outcome: Outcome,
+    machine: &Machine,
+    bus: BusState,
+) -> Machine
+    requires { machine.now.place < 1024 }
+    ensures { result ≡ moved instr.now (option_map (λ m. m.now) message.entry) outcome bus machine.now }
+{
+    match message {
+        Some(_) => after_message(instr, outcome, machine, bus),
+        None => silently(instr, machine, bus),
+    }
+}
+
+/// How the message ended, if there is one.
+fn sent_outcome(message: Option<&Message>, outcome: Outcome) -> Option<Outcome>
+    ensures { result ≡ option_map (λ m. outcome) message.entry }
+{
+    match message {
+        Some(_) => Some(outcome),
+        None => None,
+    }
+}
+
+/// The step of an instruction that sends this message, or none, under an answer that fits.
+fn step_by(
+    alloc: Global,
+    board: &Board,
+    instr: &Instr<usize>,
+    message: Option<&Message>,
+    machine: &Machine,
+    answer: &Answer,
+) -> Result<(Machine, Entry), AllocError>
+    requires instr { IsInstr instr.now }
+    requires asked { option_map (λ m. m.now) message ≡ message_of board.now instr.now machine.now.regs }
+    requires few { machine.now.place < 1024 }
+    requires fits { FitsStep board.now machine.now.bus (option_map (λ m. m.now) message) answer.now }
+    ensures step { IfOk result (λ r.
+        IsStepOf board.now instr.now (option_map (λ m. m.now) message.entry) machine.now answer.now r.1 r.0) }
+    ensures seen { IfOk result (λ r. IsSeen r.1) }
+    ensures belongs { IfOk result (λ r. Belongs board.now machine.now.bus → Belongs board.now r.0.bus) }
+{
+    let _count = board.target_count();
+    slots_are_one_frame();
+    reads_back();
+    states_belong();
+    let before = copied(&machine.bus)?;
+    let samples = step_samples(alloc, &machine.bus, instr, message, answer)?;
+    let (bus, outcome) = after(alloc, board, &machine.bus, message, answer)?;
+    let entry = Entry {
+        place: machine.place,
+        before,
+        ticks: samples.as_slice().len() as u64,
+        samples,
+        outcome: sent_outcome(message, outcome),
+    };
+    Ok((moved(instr, message, outcome, machine, bus), entry))
+}
+
+/// The step of an instruction that sends this message, or none, if the answer of this index fits.
+fn step_if_fits(
+    alloc: Global,
+    board: &Board,
+    instr: &Instr<usize>,
+    message: Option<&Message>,
+    machine: &Machine,
+    answer: &Answer,
+    index: usize,
+) -> Result<(Machine, Entry), RunFault>
+    requires instr { IsInstr instr.now }
+    requires asked { option_map (λ m. m.now) message ≡ message_of board.now instr.now machine.now.regs }
+    requires few { machine.now.place < 1024 }
+    ensures step { IfOk result (λ r.
+        IsStepOf board.now instr.now (option_map (λ m. m.now) message.entry) machine.now answer.now r.1 r.0) }
+    ensures seen { IfOk result (λ r. IsSeen r.1) }
+    ensures belongs { IfOk result (λ r. Belongs board.now machine.now.bus → Belongs board.now r.0.bus) }
+    ensures fault { IfErr result (λ e. e ≢ Memory → (e ≡ RunFault.AnswerDoesNotFit index)
+        × (FitsStep board.now machine.now.bus (option_map (λ m. m.now) message.entry) answer.now → ⊥)) }
+{
+    if !fits(board, &machine.bus, message, answer) {
+        return Err(RunFault::AnswerDoesNotFit(index));
+    }
+    Ok(step_by(alloc, board, instr, message, machine, answer)?)
+}
+
+/// The step of a machine under the answer of an index, where so many samples stand before it.
+pub(crate) fn step_at(
+    alloc: Global,
+    board: &Board,
+    program: &Program,
+    machine: &Machine,
+    answer: &Answer,
+    index: usize,
+    before: u64,
+) -> Result<(Machine, Entry), RunFault>
+    requires on_board { All (λ i. IsOnBoard (length board.now.target_names) i) program.now }
+    requires machine { IsMachine board.now program.now machine.now }
+    requires before { before ≤ most_ticks }
+    ensures step { IfOk result (λ r. IsStep board.now program.now machine.now answer.now r.1 r.0) }
+    ensures within { IfOk result (λ r. before + r.1.ticks ≤ most_ticks) }
+    ensures machine { IfOk result (λ r. IsMachine board.now program.now r.0) }
+    ensures seen { IfOk result (λ r. IsSeen r.1) }
+    ensures fault { IfErr result (λ e. e ≢ Memory
+        → IsStepFault board.now program.now machine.now answer.now before index e) }
+{
+    if !is_running(machine) {
+        return Err(RunFault::AfterEnd(index));
+    }
+    let instr = instr_of(program, machine);
+    let message = message_of(alloc, board, instr, &machine.regs)?;
+    let (next, entry) = step_if_fits(
+        alloc,
+        board,
+        instr,
+        message.as_ref(),
+        machine,
+        answer,
+        index,
+    )?;
+    if entry.ticks > MOST_TICKS - before {
+        return Err(RunFault::TooLong);
+    }
+    Ok((next, entry))
+}
+
+/// One step of a program: the machine after it, and what it leaves to be seen. The program and the
+/// machine are those of the board.
+///
+/// AfterEnd is answered where the program has ended, then AnswerDoesNotFit where the targets can't answer
+/// so, then TooLong for over 1,000,000 samples; both indices are 0. Memory is answered where a growth was
+/// refused.
+pub fn step(
+    alloc: Global,
+    board: &Board,
+    program: &Program,
+    machine: &Machine,
+    answer: &Answer,
+) -> Result<(Machine, Entry), RunFault>
+    requires on_board { All (λ i. IsOnBoard (length board.now.target_names) i) program.now }
+    requires machine { IsMachine board.now program.now machine.now }
+    ensures step { IfOk result (λ r. IsStep board.now program.now machine.now answer.now r.1 r.0) }
+    ensures within { IfOk result (λ r. r.1.ticks ≤ most_ticks) }
+    ensures machine { IfOk result (λ r. IsMachine board.now program.now r.0) }
+    ensures seen { IfOk result (λ r. IsSeen r.1) }
+    ensures fault { IfErr result (λ e. e ≢ Memory → IsStepFault board.now program.now machine.now answer.now 0 0 e) }
+{
+    step_at(alloc, board, program, machine, answer, 0, 0)
+}
