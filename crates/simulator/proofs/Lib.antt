@@ -5,6 +5,7 @@ pub mod SmallCodes
 pub mod WireMessages
 pub mod WireAnswers
 pub mod SeenSteps
+pub mod SeenRuns
 pub mod NextPlaces
 pub mod Observed
 pub mod OneEntry

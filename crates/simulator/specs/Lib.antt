@@ -12,3 +12,4 @@ pub mod Reports
 pub mod Safe
 pub mod Headline
 pub mod StepLaws
+pub mod RunLaws

@@ -1,5 +1,6 @@
 ghost use Rattle.simulator.specs.Does.{EntriesDoAsAsked};
 ghost use Rattle.simulator.specs.EntryLaws.{EntriesReadBack, IdleReadsBack, JoinedReadBack};
+ghost use Rattle.simulator.specs.RunLaws.{RunsAreSeen};
 ghost use Rattle.simulator.specs.StepLaws.{StepsAreSeen, StartsAreReady};
 
 use targets::states_belong;
@@ -23,4 +24,13 @@ pub fn steps_are_seen()
 {
     entries_read_back();
     states_belong();
+}
+
+/// The joined samples of a run are read as the frames of the messages that it sent, in order, and as no
+/// others: whole where the message was done, broken off otherwise.
+pub fn runs_are_seen()
+    ensures { RunsAreSeen }
+{
+    entries_read_back();
+    steps_are_seen();
 }
