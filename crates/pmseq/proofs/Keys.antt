@@ -8,7 +8,7 @@ use Rattle.std.proofs.lemmas.Bool.Decides.{Decides-eqb}
 use Rattle.std.proofs.lemmas.Bool.{cases_Bool, and_parts}
 use Rattle.pmseq.specs.Bundles.{Line}
 use Rattle.pmseq.specs.Fields.{after_key, value_of, rest_of}
-use Rattle.pmseq.specs.MessageLines.{Keyed, spelled}
+use Rattle.pmseq.specs.Spelled.{Keyed, spelled}
 
 -- ---- a word and its key
 

@@ -4,6 +4,8 @@ pub mod Parts
 pub mod Words
 pub mod HoldsLaw
 pub mod Keys
+pub mod Readings
+pub mod AnswerReading
 pub mod MessageLineLaw
 pub mod Observed
 pub mod Fronts

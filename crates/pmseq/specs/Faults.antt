@@ -6,7 +6,7 @@ use Rattle.pmseq.specs.Bundles.{header_text}
 use Rattle.pmseq.specs.declared.fault.InputFault.{InputFault}
 use Rattle.pmseq.specs.declared.fault.InputFault.TheVariants as faults
 use Rattle.pmseq.specs.declared.fault.BundleFault.{BundleFault}
-use Rattle.pmseq.specs.declared.fault.BundleFault.TheVariants.{NoCommand, NotText, UnknownCommand, Unexpected, MissingSection, BadMessage, TooLarge}
+use Rattle.pmseq.specs.declared.fault.BundleFault.TheVariants.{NoCommand, NotText, UnknownCommand, Unexpected, MissingSection, BadMessage, BadAnswer, TooLarge}
 
 abbrev pub number_of : BundleFault → ℕ
 number_of NoCommand = 1
@@ -15,6 +15,7 @@ number_of UnknownCommand = 3
 number_of (Unexpected line) = 4
 number_of (MissingSection header) = 5
 number_of (BadMessage line) = 6
+number_of (BadAnswer line) = 7
 number_of TooLarge = 8
 
 abbrev pub name_of : BundleFault → List ℕ
@@ -24,6 +25,7 @@ name_of UnknownCommand = codes "UnknownCommand"
 name_of (Unexpected line) = codes "Unexpected"
 name_of (MissingSection header) = codes "MissingSection"
 name_of (BadMessage line) = codes "BadMessage"
+name_of (BadAnswer line) = codes "BadAnswer"
 name_of TooLarge = codes "TooLarge"
 
 -- the line of the fault, or the header that is missing
@@ -31,6 +33,7 @@ abbrev pub detail_of : BundleFault → List ℕ
 detail_of (Unexpected line) = codes " " ++ decimal line
 detail_of (MissingSection header) = codes " " ++ header_text header
 detail_of (BadMessage line) = codes " " ++ decimal line
+detail_of (BadAnswer line) = codes " " ++ decimal line
 detail_of _ = []
 
 -- `fault WHERE N NAME`, with the detail where the fault has one

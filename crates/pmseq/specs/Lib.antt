@@ -6,7 +6,10 @@ pub mod Views
 pub mod Fields
 pub mod Holds
 pub mod HoldsRead
+pub mod AnswerWords
+pub mod CountedLines
 pub mod Messages
+pub mod Spelled
 pub mod MessageLines
 pub mod Outcomes
 pub mod Replies

@@ -1,42 +1,23 @@
 -- Which lines are messages: those whose words spell one, KEY=VALUE in the order of the keys.
-use Rattle.std.specs.Prelude.{◌≡◌, ◌↔◌, ℕ, List, [], ◌∷◌, ◌++◌, false, Option, Some, None, option_and_then, Ok, Err, codes}
+use Rattle.std.specs.Prelude.{◌≡◌, ◌↔◌, ℕ, List, [], ◌∷◌, false, Option, Some, option_and_then, Ok, Err, codes}
 use Rattle.texts.specs.Words.{words_of}
 use Rattle.pmseq.specs.declared.message.Exchange.{Exchange}
 use Rattle.pmseq.specs.declared.fault.InputFault.{InputFault}
 use Rattle.pmseq.specs.Bundles.{Line}
-use Rattle.pmseq.specs.Fields.{refuse_of, number_of, bytes_of}
-use Rattle.pmseq.specs.Holds.{holds_of}
+use Rattle.pmseq.specs.Fields.{bytes_of}
 use Rattle.pmseq.specs.Messages.{form_of, address_of, code_of, bad_message, exchange_of}
+use Rattle.pmseq.specs.Spelled.{Keyed, spelled, AnswerValues, keyed_answer, SaysAnswer}
 
--- keys with their values, which may be missing
-abbrev pub Keyed : Type 0
-Keyed = List (List ℕ × Option (List ℕ))
-
--- a word for each value that there is
-abbrev pub spelled : Keyed → List Line
-spelled [] = []
-spelled ((key, None) ∷ later) = spelled later
-spelled ((key, Some value) ∷ later) = (key ++ value) ∷ spelled later
-
--- the values that a message line may have
+-- the values that a message line may have before those of its answer
 pub record MessageValues : Type 0 where
   pub form : Option (List ℕ)
   pub address : Option (List ℕ)
   pub code : Option (List ℕ)
   pub out : Option (List ℕ)
 
-pub record AnswerValues : Type 0 where
-  pub holds : Option (List ℕ)
-  pub refuse : Option (List ℕ)
-  pub value : Option (List ℕ)
-  pub bytes : Option (List ℕ)
-
 -- the keys in their order
 abbrev pub keyed : MessageValues → AnswerValues → Keyed
-keyed m a =
-    (codes "form=", m.form) ∷ (codes "address=", m.address) ∷ (codes "code=", m.code) ∷ (codes "out=", m.out)
-    ∷ (codes "holds=", a.holds) ∷ (codes "refuse=", a.refuse) ∷ (codes "value=", a.value) ∷ (codes "bytes=", a.bytes)
-    ∷ []
+keyed m a = (codes "form=", m.form) ∷ (codes "address=", m.address) ∷ (codes "code=", m.code) ∷ (codes "out=", m.out) ∷ keyed_answer a []
 
 -- a line that spells a message and its answer
 pub record IsMessageLine (line : Line) (exchange : Exchange) : Type 0 where
@@ -47,10 +28,7 @@ pub record IsMessageLine (line : Line) (exchange : Exchange) : Type 0 where
   pub address : option_and_then (address_of exchange.message.form) asked.address ≡ Some exchange.message.address
   pub code : code_of exchange.message.form asked.code ≡ Some exchange.message.code
   pub out : bytes_of asked.out ≡ Some exchange.message.out
-  pub holds : holds_of answered.holds ≡ Some exchange.answer.holds
-  pub refuse : refuse_of answered.refuse ≡ Some exchange.answer.refuse
-  pub value : number_of answered.value ≡ Some exchange.answer.value
-  pub bytes : bytes_of answered.bytes ≡ Some exchange.answer.bytes
+  pub says : SaysAnswer answered exchange.answer
   pub took : exchange.answer.took ≡ false
   pub alerts : exchange.answer.alerts ≡ 0
 

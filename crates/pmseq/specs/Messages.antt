@@ -1,12 +1,10 @@
 -- A message line: what the controller asks, and the answer that it gets.
-use Rattle.std.specs.Prelude.{ℕ, ◌+◌, List, [], ◌∷◌, ◌==◌, length, Bool, false, not, ◌&&◌, nat_le, slice_index, filter, Option, Some, None, option_and_then, Result, Ok, Err, if◌then◌else◌, codes}
-use Rattle.std.specs.List.{enumerate_from}
+use Rattle.std.specs.Prelude.{ℕ, ◌+◌, List, [], ◌∷◌, ◌==◌, length, not, ◌&&◌, nat_le, Option, Some, None, option_and_then, Result, Ok, Err, if◌then◌else◌, codes}
 use Rattle.std.specs.Str.{bytes_eq}
 use Rattle.texts.specs.Reading.{◌>>=◌, some_or, value_if}
 use Rattle.texts.specs.Words.{words_of}
 use Rattle.texts.specs.Hex.{pair_of}
 use Rattle.smbus.specs.Asked.{Asked}
-use Rattle.smbus.specs.Answered.{Answered}
 use Rattle.smbus.specs.declared.message.Form.{Form}
 use Rattle.smbus.specs.declared.message.Form.TheVariants as forms
 use Rattle.smbus.specs.FormWords.{form_named, carries_code}
@@ -14,9 +12,10 @@ use Rattle.pmseq.specs.declared.fault.InputFault.{InputFault}
 use Rattle.pmseq.specs.declared.fault.InputFault.TheVariants as faults
 use Rattle.pmseq.specs.declared.fault.BundleFault.TheVariants.{BadMessage}
 use Rattle.pmseq.specs.declared.message.Exchange.{Exchange}
-use Rattle.pmseq.specs.Bundles.{Line, Section, is_blank}
-use Rattle.pmseq.specs.Fields.{value_of, rest_of, refuse_of, number_of, bytes_of}
-use Rattle.pmseq.specs.Holds.{holds_of}
+use Rattle.pmseq.specs.Bundles.{Line, Section}
+use Rattle.pmseq.specs.Fields.{value_of, rest_of, bytes_of}
+use Rattle.pmseq.specs.AnswerWords.{answer_of, past_bytes}
+use Rattle.pmseq.specs.CountedLines.{counted_lines}
 
 -- two digits exactly where the form takes a code
 abbrev pub code_of : Form → Option (List ℕ) → Option ℕ
@@ -49,18 +48,6 @@ past_code words = rest_of (codes "code=") (past_address words)
 abbrev pub past_asked : List (List ℕ) → List (List ℕ)
 past_asked words = rest_of (codes "out=") (past_code words)
 
-abbrev pub past_holds : List (List ℕ) → List (List ℕ)
-past_holds words = rest_of (codes "holds=") words
-
-abbrev pub past_refuse : List (List ℕ) → List (List ℕ)
-past_refuse words = rest_of (codes "refuse=") (past_holds words)
-
-abbrev pub past_value : List (List ℕ) → List (List ℕ)
-past_value words = rest_of (codes "value=") (past_refuse words)
-
-abbrev pub past_bytes : List (List ℕ) → List (List ℕ)
-past_bytes words = rest_of (codes "bytes=") (past_value words)
-
 abbrev pub bad_message : ℕ → InputFault
 bad_message number = faults.Bundle (BadMessage number)
 
@@ -73,29 +60,13 @@ asked_of number words = do
   out ← some_or (bad_message number) (bytes_of (value_of (codes "out=") (past_code words)))
   Ok (record { address = address; form = form; code = code; out = out })
 
--- `holds=SLOT:K,.. refuse=N value=DIGITS bytes=PAIRS`, each of which may be missing
-unfoldable pub answer_of : ℕ → List (List ℕ) → Result Answered InputFault
-answer_of number words = do
-  holds ← some_or (bad_message number) (holds_of (value_of (codes "holds=") words))
-  refuse ← some_or (bad_message number) (refuse_of (value_of (codes "refuse=") (past_holds words)))
-  value ← some_or (bad_message number) (number_of (value_of (codes "value=") (past_refuse words)))
-  bytes ← some_or (bad_message number) (bytes_of (value_of (codes "bytes=") (past_value words)))
-  Ok (record { holds = holds; refuse = refuse; value = value; bytes = bytes; took = false; alerts = 0 })
-
 -- what the controller asks, and then the answer
 unfoldable pub exchange_of : ℕ → Line → Result Exchange InputFault
 exchange_of number line = do
   message ← asked_of number (words_of line)
-  answer ← answer_of number (past_asked (words_of line))
+  answer ← answer_of (bad_message number) (past_asked (words_of line))
   whole ← value_if (bad_message number) (length (past_bytes (past_asked (words_of line))) == 0) answer
   Ok (record { message = message; answer = whole })
-
--- blank lines and those that begin with `#` don't count
-abbrev pub is_counted : Line → Bool
-is_counted line = not (is_blank line) && not (slice_index line 0 == 35)
-
-abbrev pub counted_lines : Section → List (ℕ × Line)
-counted_lines section = filter (λ (numbered : ℕ × Line). is_counted numbered.1) (enumerate_from section.first_line section.lines)
 
 -- the one line that counts: where there is none, the fault is at the line below the bundle's last, and
 -- where there is a second, at that

@@ -22,6 +22,8 @@ pub enum BundleFault {
     MissingSection(Header),
     #[error("line {0} is no message")]
     BadMessage(usize),
+    #[error("line {0} is no answer")]
+    BadAnswer(usize),
     #[error("the bundle is too large")]
     TooLarge,
 }
@@ -38,6 +40,7 @@ impl BundleFault {
             BundleFault::Unexpected(_) => 4,
             BundleFault::MissingSection(_) => 5,
             BundleFault::BadMessage(_) => 6,
+            BundleFault::BadAnswer(_) => 7,
             BundleFault::TooLarge => 8,
         }
     }
@@ -53,6 +56,7 @@ impl BundleFault {
             BundleFault::Unexpected(_) => "Unexpected",
             BundleFault::MissingSection(_) => "MissingSection",
             BundleFault::BadMessage(_) => "BadMessage",
+            BundleFault::BadAnswer(_) => "BadAnswer",
             BundleFault::TooLarge => "TooLarge",
         }
     }
@@ -79,9 +83,9 @@ fn detail_of(alloc: Global, fault: BundleFault) -> Result<String, AllocError>
     ensures { IfOk result (λ text. string_bytes text ≡ detail_of fault) }
 {
     match fault {
-        BundleFault::Unexpected(line) | BundleFault::BadMessage(line) => {
-            format!(in alloc; " {line}")
-        }
+        BundleFault::Unexpected(line)
+        | BundleFault::BadMessage(line)
+        | BundleFault::BadAnswer(line) => { format!(in alloc; " {line}") }
         BundleFault::MissingSection(header) => {
             let text = header.text();
             format!(in alloc; " {text}")

@@ -1,9 +1,11 @@
 //! Reads a bundle from standard input and answers it on standard output.
 #![tactic(auto)]
 
+mod answer_words;
 mod bundle;
 mod command;
 mod commands;
+mod counted;
 mod fault;
 mod field;
 mod frame;

@@ -1,14 +1,17 @@
 ghost use Rattle.std.specs.Prelude.{◌≡◌, option_copied, option_map, option_and_then, codes, IfOk, IfSome, OnOk, map, ◌≤◌, length, All, Some, None, if◌then◌else◌};
 ghost use Rattle.smbus.specs.Asked.{IsAddressed};
 ghost use Rattle.texts.specs.Reading.{Gives};
-ghost use Rattle.pmseq.specs.Messages.{code_of, form_of, address_for, address_of, asked_of, answer_of, exchange_of, past_asked, past_bytes, is_counted, counted_lines, only_exchange, exchange_in};
+ghost use Rattle.pmseq.specs.Messages.{code_of, form_of, address_for, address_of, asked_of, exchange_of, past_asked, only_exchange, exchange_in};
+ghost use Rattle.pmseq.specs.AnswerWords.{answer_of, past_bytes};
+ghost use Rattle.pmseq.specs.CountedLines.{counted_lines};
 ghost use Rattle.pmseq.specs.Texts.{texts_of};
 ghost use Rattle.pmseq.specs.Views.{section_view};
 ghost use Rattle.pmseq.specs.Fields.{value_of, rest_of, bytes_of};
 
-use crate::bundle::is_blank;
+use crate::answer_words::answer_of;
+use crate::counted::counted_lines;
 use crate::fault::{BundleFault, InputFault};
-use crate::field::{Fields, bytes_of, holds_of, number_of, refuse_of};
+use crate::field::{Fields, bytes_of};
 use crate::section::Section;
 use smbus::{Answer, Form, Message, carries_code, form_named};
 use std::alloc::{AllocError, Global};
@@ -119,39 +122,6 @@ fn asked_of(
     })
 }
 
-/// The answer, by the words behind what is asked.
-#[tactic(auto, unfolding(crate::specs::Messages::answer_of))]
-fn answer_of(
-    alloc: Global,
-    line: usize,
-    words: &mut Fields<'_>,
-) -> Result<Answer, ReadError<InputFault>>
-    ensures held { IfOk result (λ answer. All (λ hold. hold ≤ 6999) answer.holds) }
-    ensures value { Gives (λ a. a) result (answer_of line (texts_of words.old.words.now)) }
-    ensures rest { OnOk result (texts_of words.new.words.now ≡ past_bytes (texts_of words.old.words.now)) }
-{
-    let Some(holds) = holds_of(alloc, words.take("holds="))? else {
-        return Err(bad_message(line));
-    };
-    let Some(refuse) = refuse_of(words.take("refuse=")) else {
-        return Err(bad_message(line));
-    };
-    let Some(value) = number_of(words.take("value=")) else {
-        return Err(bad_message(line));
-    };
-    let Some(bytes) = bytes_of(alloc, words.take("bytes="))? else {
-        return Err(bad_message(line));
-    };
-    Ok(Answer {
-        holds,
-        refuse,
-        value,
-        bytes,
-        took: false,
-        alerts: 0,
-    })
-}
-
 /// The message and the answer of a line.
 #[tactic(auto, unfolding(crate::specs::Messages::exchange_of))]
 fn exchange_of(alloc: Global, number: usize, line: &str) -> Result<Exchange, ReadError<InputFault>>
@@ -161,34 +131,11 @@ fn exchange_of(alloc: Global, number: usize, line: &str) -> Result<Exchange, Rea
     let list = words_of(alloc, line)?;
     let mut words = Fields { words: &list };
     let message = asked_of(alloc, number, &mut words)?;
-    let answer = answer_of(alloc, number, &mut words)?;
+    let answer = answer_of(alloc, BundleFault::BadMessage(number), &mut words)?;
     if !words.words.is_empty() {
         return Err(bad_message(number));
     }
     Ok(Exchange { message, answer })
-}
-
-/// Whether a line of the section says something.
-fn counts(line: &str) -> bool
-    ensures { result ≡ is_counted line.now }
-{
-    !is_blank(line) && line.as_bytes().first() != Some(&b'#')
-}
-
-/// The lines that count, with their numbers in the bundle.
-fn counted_lines<'a>(
-    alloc: Global,
-    section: &Section<'a>,
-) -> Result<Vec<(usize, &'a str)>, AllocError>
-    ensures { IfOk result (λ lines. map (λ l. (l.0, l.1.now)) lines.items ≡ counted_lines (section_view section.now)) }
-{
-    let mut counted = Vec::new(alloc);
-    for (place, line) in section.lines.iter().enumerate() {
-        if counts(line) {
-            counted.push((section.first_line + place, *line))?;
-        }
-    }
-    Ok(counted)
 }
 
 /// The message of a section.

@@ -1,8 +1,8 @@
 use Rattle.std.proofs.Common.{◌≡◌, ◌+◌, ◌++◌, drop, map, filter}
 use Rattle.std.specs.List.{enumerate_from}
 use Rattle.pmseq.specs.Views.{section_view}
-use Rattle.pmseq.specs.Messages.{is_counted, counted_lines}
-use Rattle.pmseq.proofs.message.counted_lines.Given as goal
+use Rattle.pmseq.specs.CountedLines.{is_counted, counted_lines}
+use Rattle.pmseq.proofs.counted.counted_lines.Given as goal
 
 abbrev pub invariant-loop-place : goal.invariant-loop-place
 invariant-loop-place l =
