@@ -7,6 +7,7 @@ pub mod Keys
 pub mod Readings
 pub mod AnswerReading
 pub mod MessageLineLaw
+pub mod AnswerLineLaw
 pub mod Observed
 pub mod Fronts
 pub mod WellFormedBundles

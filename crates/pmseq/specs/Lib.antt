@@ -7,10 +7,12 @@ pub mod Fields
 pub mod Holds
 pub mod HoldsRead
 pub mod AnswerWords
+pub mod AnswerLines
 pub mod CountedLines
 pub mod Messages
 pub mod Spelled
 pub mod MessageLines
+pub mod SpelledAnswers
 pub mod Outcomes
 pub mod Replies
 pub mod FrameReplies

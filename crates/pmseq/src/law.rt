@@ -1,4 +1,5 @@
 ghost use Rattle.pmseq.specs.MessageLines.{MessageLinesAreRead, OtherLinesAreBad};
+ghost use Rattle.pmseq.specs.SpelledAnswers.{AnswerLinesAreRead, OtherLinesAreBad as OtherAnswerLinesAreBad};
 ghost use Rattle.pmseq.specs.WellFormed.{WellFormedBundlesAreRead, NoOthersAreRead};
 
 /// The bundles that are read are those with exactly the headers of their command, in order, and only
@@ -13,4 +14,11 @@ pub fn well_formed_bundles_are_read()
 pub fn message_lines_are_read()
     ensures read { MessageLinesAreRead }
     ensures others { OtherLinesAreBad }
+{}
+
+/// The lines that are read as answers are `-` and those whose words spell one, and any other line is
+/// answered by BadAnswer with its number.
+pub fn answer_lines_are_read()
+    ensures read { AnswerLinesAreRead }
+    ensures others { OtherAnswerLinesAreBad }
 {}

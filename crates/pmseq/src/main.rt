@@ -1,6 +1,7 @@
 //! Reads a bundle from standard input and answers it on standard output.
 #![tactic(auto)]
 
+mod answer_lines;
 mod answer_words;
 mod bundle;
 mod command;
