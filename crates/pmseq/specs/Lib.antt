@@ -13,6 +13,7 @@ pub mod Messages
 pub mod Spelled
 pub mod MessageLines
 pub mod SpelledAnswers
+pub mod Answers
 pub mod Outcomes
 pub mod Replies
 pub mod FrameReplies

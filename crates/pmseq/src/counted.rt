@@ -1,5 +1,6 @@
-ghost use Rattle.std.specs.Prelude.{◌≡◌, map, IfOk};
+ghost use Rattle.std.specs.Prelude.{◌≡◌, IfOk};
 ghost use Rattle.pmseq.specs.CountedLines.{is_counted, counted_lines};
+ghost use Rattle.pmseq.specs.Texts.{numbered_texts_of};
 ghost use Rattle.pmseq.specs.Views.{section_view};
 
 use crate::bundle::is_blank;
@@ -18,7 +19,7 @@ pub fn counted_lines<'a>(
     alloc: Global,
     section: &Section<'a>,
 ) -> Result<Vec<(usize, &'a str)>, AllocError>
-    ensures { IfOk result (λ lines. map (λ l. (l.0, l.1.now)) lines.items ≡ counted_lines (section_view section.now)) }
+    ensures { IfOk result (λ lines. numbered_texts_of lines.items ≡ counted_lines (section_view section.now)) }
 {
     let mut counted = Vec::new(alloc);
     for (place, line) in section.lines.iter().enumerate() {

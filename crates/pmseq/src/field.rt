@@ -94,7 +94,7 @@ fn hold_of(part: &str) -> Option<(usize, u16)>
 }
 
 /// The parts between commas.
-fn parts_of<'a>(alloc: Global, text: &'a str) -> Result<Vec<&'a str>, AllocError>
+pub fn parts_of<'a>(alloc: Global, text: &'a str) -> Result<Vec<&'a str>, AllocError>
     ensures { IfOk result (λ parts. texts_of parts.items ≡ slice_split (λ b. b == 44) text.now) }
 {
     let mut parts = Vec::new(alloc);

@@ -3,6 +3,7 @@
 
 mod answer_lines;
 mod answer_words;
+mod answers;
 mod bundle;
 mod command;
 mod commands;
