@@ -5,9 +5,9 @@ use Rattle.std.specs.Str.{bytes_eq}
 use Rattle.std.specs.Str.Lines.{lines}
 use Rattle.texts.specs.Reading.{◌>>=◌, some_or}
 use Rattle.pmseq.specs.declared.command.Command.{Command}
-use Rattle.pmseq.specs.declared.command.Command.TheVariants.{Frame}
+use Rattle.pmseq.specs.declared.command.Command.TheVariants.{Frame, Run}
 use Rattle.pmseq.specs.declared.command.Header.{Header}
-use Rattle.pmseq.specs.declared.command.Header.TheVariants.{Message}
+use Rattle.pmseq.specs.declared.command.Header.TheVariants.{Message, Board, Program, Answers}
 use Rattle.pmseq.specs.declared.fault.InputFault.{InputFault}
 use Rattle.pmseq.specs.declared.fault.InputFault.TheVariants as faults
 use Rattle.pmseq.specs.declared.fault.BundleFault.TheVariants.{NoCommand, UnknownCommand, Unexpected, MissingSection}
@@ -21,10 +21,14 @@ command_of line = if bytes_eq line (codes "%frame") then Some Frame else None
 
 abbrev pub header_text : Header → Line
 header_text Message = codes "%message"
+header_text Board = codes "%board"
+header_text Program = codes "%program"
+header_text Answers = codes "%answers"
 
 -- the headers of the sections that a command wants, in order
 abbrev pub headers_of : Command → List Header
 headers_of Frame = Message ∷ []
+headers_of Run = Board ∷ Program ∷ Answers ∷ []
 
 -- nothing but spaces
 abbrev pub is_blank : Line → Bool

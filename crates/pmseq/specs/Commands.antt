@@ -1,5 +1,5 @@
 -- What a bundle asks for, and the reply to it.
-use Rattle.std.specs.Prelude.{ℕ, ◌≤◌, List, [], Result, Ok, All, slice_index_or}
+use Rattle.std.specs.Prelude.{ℕ, ◌≤◌, List, [], Result, Ok, Err, All, slice_index_or}
 use Rattle.std.specs.Str.Lines.{lines}
 use Rattle.texts.specs.Reading.{◌>>=◌}
 use Rattle.pmseq.specs.declared.command.Command.{Command}
@@ -7,6 +7,8 @@ use Rattle.pmseq.specs.declared.command.Command.TheVariants as commands
 use Rattle.pmseq.specs.declared.commands.Task.{Task}
 use Rattle.pmseq.specs.declared.commands.Task.TheVariants as tasks
 use Rattle.pmseq.specs.declared.fault.InputFault.{InputFault}
+use Rattle.pmseq.specs.declared.fault.InputFault.TheVariants as faults
+use Rattle.pmseq.specs.declared.fault.BundleFault.TheVariants.{UnknownCommand}
 use Rattle.pmseq.specs.Bundles.{Section, Bundle, bundle_of}
 use Rattle.pmseq.specs.Messages.{exchange_in}
 use Rattle.pmseq.specs.Replies.{Reply}
@@ -18,6 +20,7 @@ section_at sections place = slice_index_or sections place (record { first_line =
 -- what each command asks for, from its sections in order
 abbrev pub asked_by : Command → List Section → Result Task InputFault
 asked_by commands.Frame sections = exchange_in (section_at sections 0) >>= λ exchange. Ok (tasks.Frame exchange)
+asked_by commands.Run sections = Err (faults.Bundle UnknownCommand)
 
 abbrev pub task_of : Bundle → Result Task InputFault
 task_of bundle = asked_by bundle.command bundle.sections

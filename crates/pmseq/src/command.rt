@@ -5,15 +5,20 @@ ghost use Rattle.pmseq.specs.Bundles.{header_text, headers_of, command_of};
 #[derive(Clone, Copy, Debug, PartialEq, Eq)]
 pub enum Command {
     Frame,
+    Run,
 }
 
 /// What a section holds, by the line above it.
 #[derive(Clone, Copy, Debug, PartialEq, Eq)]
 pub enum Header {
     Message,
+    Board,
+    Program,
+    Answers,
 }
 
 const FRAME_HEADERS: [Header; 1] = [Header::Message];
+const RUN_HEADERS: [Header; 3] = [Header::Board, Header::Program, Header::Answers];
 
 impl Header {
     /// The header line.
@@ -22,6 +27,9 @@ impl Header {
     {
         match self {
             Header::Message => "%message",
+            Header::Board => "%board",
+            Header::Program => "%program",
+            Header::Answers => "%answers",
         }
     }
 }
@@ -33,6 +41,7 @@ impl Command {
     {
         match self {
             Command::Frame => &FRAME_HEADERS,
+            Command::Run => &RUN_HEADERS,
         }
     }
 

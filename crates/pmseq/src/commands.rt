@@ -7,7 +7,7 @@ ghost use Rattle.pmseq.specs.Commands.{task_of, task_in, IsReady, IsReplyOf};
 
 use crate::bundle::{Bundle, read_bundle};
 use crate::command::Command;
-use crate::fault::InputFault;
+use crate::fault::{BundleFault, InputFault};
 use crate::frame::frame_reply;
 use crate::message::{Exchange, exchange_in};
 use crate::reply::{Reply, Status};
@@ -31,6 +31,9 @@ fn task_of(alloc: Global, bundle: &Bundle<'_>) -> Result<Task, ReadError<InputFa
             let exchange = exchange_in(alloc, &bundle.sections[0])?;
             Ok(Task::Frame(exchange))
         }
+
+        // No first line asks for a run yet.
+        Command::Run => Err(BundleFault::UnknownCommand.error()),
     }
 }
 
