@@ -1,6 +1,6 @@
 -- The lines that are read as answers are those that spell one.
-use Rattle.std.proofs.Common.{◌≡◌, ℕ, true, false, Bool, ◌==◌, List, [], ◌∷◌, length, Some, Result, Ok, codes, refl, ap, subst, ◌∙◌}
-use Rattle.texts.specs.Reading.{◌>>=◌, some_or, value_if}
+use Rattle.std.proofs.Common.{◌≡◌, ℕ, true, false, Bool, ◌==◌, List, [], length, Some, Ok, codes, refl, ap, subst, ◌∙◌}
+use Rattle.texts.specs.Reading.{some_or}
 use Rattle.texts.specs.Words.{words_of}
 use Rattle.smbus.specs.Answered.{Answered}
 use Rattle.pmseq.specs.Bundles.{Line}
@@ -10,7 +10,7 @@ use Rattle.pmseq.specs.AnswerLines.{took_of, past_took, past_alerts, bad_answer,
 use Rattle.pmseq.specs.Spelled.{spelled, AnswerValues, SaysAnswer}
 use Rattle.pmseq.specs.SpelledAnswers.{AnswerLineValues, keyed, IsAnswerLine, AnswerLinesAreRead, OtherLinesAreBad}
 use Rattle.pmseq.proofs.Keys.{spelled_by}
-use Rattle.pmseq.proofs.Readings.{bind_ok, some_ok, if_ok, ok_is, none_left, fails_then, fails_some, fails_if, FailsBy}
+use Rattle.pmseq.proofs.Readings.{bind_ok, some_ok, if_ok, none_left, fails_then, fails_some, fails_if, FailsBy}
 use Rattle.pmseq.proofs.AnswerReading.{answer_values, Answers, answers, answered_if, answer_spelled, taken, answer_taken, answer_fails}
 
 abbrev whole : Answered → Bool → ℕ → Answered

@@ -1,6 +1,6 @@
 -- The words of an answer are read as what they spell.
-use Rattle.std.proofs.Common.{◌≡◌, ℕ, true, false, List, [], ◌∷◌, Option, Some, Result, Ok, codes, refl, ap, subst, ◌∙◌}
-use Rattle.texts.specs.Reading.{◌>>=◌, some_or}
+use Rattle.std.proofs.Common.{◌≡◌, ℕ, true, false, List, ◌∷◌, Option, Ok, codes, refl, ap, subst, ◌∙◌}
+use Rattle.texts.specs.Reading.{some_or}
 use Rattle.smbus.specs.Answered.{Answered}
 use Rattle.pmseq.specs.declared.fault.InputFault.{InputFault}
 use Rattle.pmseq.specs.Bundles.{Line}

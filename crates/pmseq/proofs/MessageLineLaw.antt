@@ -1,6 +1,6 @@
 -- The lines that are read as messages are those that spell one.
-use Rattle.std.proofs.Common.{◌≡◌, ℕ, true, ◌==◌, List, [], ◌∷◌, length, Some, option_and_then, Result, Ok, codes, refl, ap, subst, ◌∙◌}
-use Rattle.texts.specs.Reading.{◌>>=◌, some_or, value_if}
+use Rattle.std.proofs.Common.{◌≡◌, ℕ, true, ◌==◌, List, [], length, Some, option_and_then, Ok, codes, refl, ap, subst, ◌∙◌}
+use Rattle.texts.specs.Reading.{some_or, value_if}
 use Rattle.texts.specs.Words.{words_of}
 use Rattle.smbus.specs.declared.message.Form.{Form}
 use Rattle.smbus.specs.Asked.{Asked}

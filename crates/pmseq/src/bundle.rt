@@ -129,7 +129,7 @@ fn sections_of<'a>(alloc: Global, lines: &'a [&'a str]) -> Result<Vec<Section<'a
 
 /// A command with the sections below its line.
 #[tactic(auto, unfolding(crate::specs::Bundles::bundle_below))]
-fn bundle_below<'a>(
+pub fn bundle_below<'a>(
     alloc: Global,
     command: Command,
     lines: &'a [&'a str],

@@ -18,6 +18,7 @@ pub enum Header {
 }
 
 const FRAME_HEADERS: [Header; 1] = [Header::Message];
+
 const RUN_HEADERS: [Header; 3] = [Header::Board, Header::Program, Header::Answers];
 
 impl Header {

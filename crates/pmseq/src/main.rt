@@ -23,6 +23,8 @@ use session::session;
 use std::process::ExitCode;
 
 #[cfg(test)]
+mod answer_tests;
+#[cfg(test)]
 mod tests;
 
 fn main(rt: HostRuntime) -> ExitCode {

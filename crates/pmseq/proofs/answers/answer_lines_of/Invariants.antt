@@ -1,4 +1,4 @@
-use Rattle.std.proofs.Common.{◌≡◌, ◌≤◌, ◌++◌, drop, map, Ok, All}
+use Rattle.std.proofs.Common.{◌≡◌, ◌≤◌, ◌++◌, drop, Ok, All}
 use Rattle.texts.specs.Reading.{◌>>=◌}
 use Rattle.pmseq.specs.Answers.{answer_lines_of}
 use Rattle.pmseq.specs.Texts.{numbered_texts_of}
