@@ -12,3 +12,4 @@ pub mod Observed
 pub mod Fronts
 pub mod WellFormedBundles
 pub mod ReadBundles
+pub mod NumberedSections

@@ -135,7 +135,7 @@ pub record IsRead (command : Command) (lines : List Line) (bundle : Bundle) : Ty
 abbrev with_headers : Command → Option Header → List Line → Result Bundle InputFault
 with_headers command missing lines = unless (option_map (λ header. faults.Bundle (MissingSection header)) missing) lines >>= λ whole. Ok (record { command = command; sections = sections_of whole })
 
-steps : (command : Command) (lines : List Line) (bundle : Bundle) (o : Option (ℕ × Line)) (p : Option Header) → first_unexpected (headers_of command) lines ≡ o → slice_get (headers_of command) (count_by starts_section lines) ≡ p
+pub steps : (command : Command) (lines : List Line) (bundle : Bundle) (o : Option (ℕ × Line)) (p : Option Header) → first_unexpected (headers_of command) lines ≡ o → slice_get (headers_of command) (count_by starts_section lines) ≡ p
     → bundle_below command lines ≡ Ok bundle → IsRead command lines bundle
 unfolding bundle_below
 steps command lines bundle (Some x) p t u e = let z = rw t at e in absurd (cc)

@@ -20,4 +20,5 @@ pub mod FrameReplies
 pub mod Commands
 pub mod Sessions
 pub mod WellFormed
+pub mod SectionLines
 pub mod Devices

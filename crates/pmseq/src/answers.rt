@@ -90,7 +90,7 @@ fn answer_lines_of(
     Ok(answers)
 }
 
-/// What the lines that count say, where the last line of the bundle stands above this one.
+/// What the lines that count say, where `end` is the number of the line below the bundle's last.
 #[tactic(auto, unfolding(crate::specs::Answers::answers_of))]
 fn answers_of(
     alloc: Global,

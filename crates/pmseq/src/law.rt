@@ -1,4 +1,5 @@
 ghost use Rattle.pmseq.specs.MessageLines.{MessageLinesAreRead, OtherLinesAreBad};
+ghost use Rattle.pmseq.specs.SectionLines.{SectionsStandInBundles, LastSectionsEndBundles};
 ghost use Rattle.pmseq.specs.SpelledAnswers.{AnswerLinesAreRead, OtherLinesAreBad as OtherAnswerLinesAreBad};
 ghost use Rattle.pmseq.specs.WellFormed.{WellFormedBundlesAreRead, NoOthersAreRead};
 
@@ -7,6 +8,13 @@ ghost use Rattle.pmseq.specs.WellFormed.{WellFormedBundlesAreRead, NoOthersAreRe
 pub fn well_formed_bundles_are_read()
     ensures read { WellFormedBundlesAreRead }
     ensures no_others { NoOthersAreRead }
+{}
+
+/// The lines of each section are lines of its bundle, and their numbers are the bundle's, counted from
+/// the command; the last section goes on to the bundle's last line.
+pub fn sections_keep_their_lines()
+    ensures stand { SectionsStandInBundles }
+    ensures last { LastSectionsEndBundles }
 {}
 
 /// The lines that are read as messages are those whose words spell one, and any other line is answered by
