@@ -1,15 +1,14 @@
 -- The sections of a bundle have its lines, with their numbers.
-use Rattle.std.proofs.Common.{◌≡◌, ℕ, ◌+◌, Bool, true, false, List, [], ◌∷◌, ◌++◌, length, drop, Result, Ok, refl, sym, ap, subst, ◌∙◌, arith, append_assoc, length-append}
+use Rattle.std.proofs.Common.{◌≡◌, ℕ, ◌+◌, Bool, true, false, List, [], ◌∷◌, ◌++◌, length, drop, Ok, refl, sym, ap, subst, ◌∙◌, arith, append_assoc, length-append}
 use Rattle.std.specs.Prelude.{All, slice_get, count_by}
 use Rattle.std.specs.List.{slice_split, onto_first}
 use Rattle.std.proofs.lemmas.List.{append-nil}
 use Rattle.std.proofs.lemmas.List.Elements.{All-nil, All-cons, All-drop}
 use Rattle.std.proofs.lemmas.List.Splits.{slice_split-cons_yes, slice_split-cons_no}
-use Rattle.texts.specs.Reading.{◌>>=◌, some_or}
-use Rattle.pmseq.specs.declared.command.Command.{Command}
+use Rattle.texts.specs.Reading.{some_or}
 use Rattle.pmseq.specs.declared.fault.InputFault.TheVariants as faults
 use Rattle.pmseq.specs.declared.fault.BundleFault.TheVariants.{UnknownCommand}
-use Rattle.pmseq.specs.Bundles.{Line, Section, Bundle, command_of, headers_of, starts_section, first_unexpected, numbered, sections_of, bundle_below, bundle_of}
+use Rattle.pmseq.specs.Bundles.{Line, Section, Bundle, command_of, headers_of, starts_section, first_unexpected, numbered, sections_of, bundle_of}
 use Rattle.pmseq.specs.SectionLines.{StandsIn, SectionsStandInBundles, LastSectionsEndBundles}
 use Rattle.pmseq.proofs.Readings.{bind_ok}
 use Rattle.pmseq.proofs.WellFormedBundles.{steps}

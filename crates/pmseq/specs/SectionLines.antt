@@ -1,5 +1,5 @@
 -- Where the sections of a bundle stand in it.
-use Rattle.std.specs.Prelude.{◌≡◌, ℕ, ◌+◌, List, [], ◌∷◌, ◌++◌, length, Ok, All}
+use Rattle.std.specs.Prelude.{◌≡◌, ◌+◌, List, [], ◌∷◌, ◌++◌, length, Ok, All}
 use Rattle.pmseq.specs.Bundles.{Line, Section, Bundle, bundle_of}
 
 -- the section's lines are lines of the bundle, and the first of them has its number, counted from 1
