@@ -6,6 +6,8 @@ pub mod NewNames
 pub mod Seats
 pub mod Counts
 pub mod Steps
+pub mod OrderedReading
+pub mod ListsInOrder
 pub mod NotToml
 pub mod ValidRanges
 pub mod ValidForms

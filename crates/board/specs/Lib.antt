@@ -12,5 +12,7 @@ pub mod Targets
 pub mod Rails
 pub mod SeatViews
 pub mod Files
+pub mod InOrder
+pub mod OrderLaws
 pub mod EntryLaws
 pub mod EntryKeys

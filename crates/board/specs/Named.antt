@@ -19,6 +19,10 @@ is_named name names = list_any (bytes_eq name) names
 abbrev pub with_item : {A : Type 0} → List ℕ → A → Named A → Named A
 with_item name item done = record { names = done.names ++ name ∷ []; items = done.items ++ item ∷ [] }
 
+-- items with the names that stand beside them
+abbrev pub named_of : {A : Type 0} → List (List ℕ × A) → Named A
+named_of pairs = record { names = map (λ p. p.0) pairs; items = map (λ p. p.1) pairs }
+
 -- the code's
 abbrev pub names : {S : Type 0} → IndexSet (String Global) S → List (List ℕ)
 names set = map string_bytes (keys set)

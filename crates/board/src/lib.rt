@@ -9,6 +9,7 @@ mod fault;
 mod fields;
 mod file;
 mod keys;
+mod law;
 mod named;
 mod names;
 mod rail;
@@ -20,6 +21,7 @@ pub use board::Board;
 pub use entry::{Allow, Range};
 pub use fault::BoardFault;
 pub use file::read_board;
+pub use law::lists_are_read_in_order;
 pub use rail::Rail;
 pub use target::Target;
 

@@ -1,0 +1,69 @@
+-- Each list of a board file is read in order.
+use Rattle.std.specs.Prelude.{◌≡◌, ◌↔◌, ℕ, pos, List, [], ◌∷◌, length, codes, Result, Ok, Err}
+use Rattle.toml.specs.Data.{Data, string, integer, table, Items, no_items, item, no_members, member, as_table}
+use Rattle.texts.specs.Reading.{◌>>=◌, some_or}
+use Rattle.board.specs.declared.fault.BoardFault.{BoardFault}
+use Rattle.board.specs.declared.fault.BoardFault.TheVariants.{SameName, BadStart, BadKey}
+use Rattle.board.specs.Boards.{Target, Rail, Allow}
+use Rattle.board.specs.Named.{Named, none, named_of}
+use Rattle.board.specs.Fields.{number_in}
+use Rattle.board.specs.Entries.{entry_from, entries_of}
+use Rattle.board.specs.Targets.{bytes_of, target_from, targets_of}
+use Rattle.board.specs.Rails.{Seat, seat_from, seats_of, need_of, needs_of, rail_with, rails_of}
+use Rattle.board.specs.InOrder.{InOrder, NamedInOrder}
+
+-- the elements of a list in a file
+abbrev pub list_of : Items → List Data
+list_of no_items = []
+list_of (item d ds) = d ∷ list_of ds
+
+-- a table's entry, after the entries before it
+abbrev pub entry_after : List Allow → Data → Result Allow BoardFault
+entry_after before d = some_or BadKey (as_table d) >>= entry_from before
+
+abbrev pub EntriesInOrder : Type 0
+EntriesInOrder = (items : Items) (r : Result (List Allow) BoardFault) → (entries_of [] items ≡ r) ↔ InOrder entry_after (list_of items) r
+
+-- a byte, whatever stands before it
+abbrev pub byte_after : List ℕ → Data → Result ℕ BoardFault
+byte_after before d = some_or BadStart (number_in 0 255 d)
+
+abbrev pub BytesInOrder : Type 0
+BytesInOrder = (items : Items) (r : Result (List ℕ) BoardFault) → (bytes_of [] items ≡ r) ↔ InOrder byte_after (list_of items) r
+
+-- a table's target with its name, after those before it
+abbrev pub target_after : List (List ℕ × Target) → Data → Result (List ℕ × Target) BoardFault
+target_after before d = some_or BadKey (as_table d) >>= target_from (named_of before)
+
+abbrev pub TargetsInOrder : Type 0
+TargetsInOrder = (items : Items) (r : Result (Named Target) BoardFault) → (targets_of none items ≡ r) ↔ NamedInOrder target_after (list_of items) r
+
+-- a table's rail with its name, after those before it; its needs aren't judged yet
+abbrev pub seat_after : Named Target → List (List ℕ × Seat) → Data → Result (List ℕ × Seat) BoardFault
+seat_after targets before d = some_or BadKey (as_table d) >>= seat_from targets (named_of before)
+
+abbrev pub SeatsInOrder : Type 0
+SeatsInOrder = (targets : Named Target) (items : Items) (r : Result (Named Seat) BoardFault) → (seats_of targets none items ≡ r) ↔ NamedInOrder (seat_after targets) (list_of items) r
+
+-- a need of the rail at a place, whatever stands before it
+abbrev pub need_after : List (List ℕ) → ℕ → List ℕ → Data → Result ℕ BoardFault
+need_after names rail before d = need_of names rail d
+
+abbrev pub NeedsInOrder : Type 0
+NeedsInOrder = (names : List (List ℕ)) (rail : ℕ) (items : Items) (r : Result (List ℕ) BoardFault) → (needs_of names rail [] items ≡ r) ↔ InOrder (need_after names rail) (list_of items) r
+
+-- a rail with its needs; its place is the count of those before it
+abbrev pub rail_after : List (List ℕ) → List Rail → Seat → Result Rail BoardFault
+rail_after names before s = needs_of names (length before) [] s.needs >>= λ needs. Ok (rail_with s needs)
+
+abbrev pub RailsInOrder : Type 0
+RailsInOrder = (names : List (List ℕ)) (seats : List Seat) (r : Result (List Rail) BoardFault) → (rails_of names [] seats ≡ r) ↔ InOrder (rail_after names) seats r
+
+-- a table that allows the form `receive`
+abbrev pub receive_table : Data
+receive_table = table (member (codes "form") (string (codes "receive")) no_members)
+
+-- two bytes are read, and of two equal entries the second is at fault
+pub record SomeListsInOrder : Type 0 where
+  pub bytes : InOrder byte_after (integer (pos 7) ∷ integer (pos 9) ∷ []) (Ok (7 ∷ 9 ∷ []))
+  pub entries : InOrder entry_after (receive_table ∷ receive_table ∷ []) (Err SameName)
