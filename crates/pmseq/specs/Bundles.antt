@@ -17,7 +17,10 @@ abbrev pub Line : Type 0
 Line = List ℕ
 
 abbrev pub command_of : Line → Option Command
-command_of line = if bytes_eq line (codes "%frame") then Some Frame else None
+command_of line =
+    if bytes_eq line (codes "%frame") then Some Frame
+    else if bytes_eq line (codes "%run") then Some Run
+    else None
 
 abbrev pub header_text : Header → Line
 header_text Message = codes "%message"

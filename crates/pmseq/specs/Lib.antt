@@ -17,6 +17,9 @@ pub mod Answers
 pub mod Outcomes
 pub mod Replies
 pub mod FrameReplies
+pub mod SectionTexts
+pub mod Scenarios
+pub mod RunReplies
 pub mod Commands
 pub mod Sessions
 pub mod WellFormed

@@ -1,5 +1,5 @@
 -- The reply to an input: a status, and what is written.
-use Rattle.std.specs.Prelude.{ℕ, List, string_bytes}
+use Rattle.std.specs.Prelude.{ℕ, List}
 use Rattle.pmseq.specs.Faults.{fault_text}
 use Rattle.pmseq.specs.declared.fault.InputFault.{InputFault as Fault}
 use Rattle.pmseq.specs.declared.reply.Reply.{Reply as ReplyCode}
@@ -18,7 +18,7 @@ pub record Reply : Type 0 where
   pub text : List ℕ
 
 abbrev pub reply_view : ReplyCode → Reply
-reply_view reply = record { status = reply.status; text = string_bytes reply.text }
+reply_view reply = record { status = reply.status; text = reply.text.items }
 
 -- the reply to an input with a fault
 abbrev pub refusal : Fault → Reply

@@ -52,6 +52,7 @@ impl Command {
     {
         match line {
             "%frame" => Some(Command::Frame),
+            "%run" => Some(Command::Run),
             _ => None,
         }
     }

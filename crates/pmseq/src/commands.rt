@@ -7,17 +7,20 @@ ghost use Rattle.pmseq.specs.Commands.{task_of, task_in, IsReady, IsReplyOf};
 
 use crate::bundle::{Bundle, read_bundle};
 use crate::command::Command;
-use crate::fault::{BundleFault, InputFault};
+use crate::fault::InputFault;
 use crate::frame::frame_reply;
 use crate::message::{Exchange, exchange_in};
 use crate::reply::{Reply, Status};
+use crate::scenario::{Scenario, scenario_in};
+use crate::tracing::run_reply;
 use std::alloc::{AllocError, Global};
 use texts::{ReadError, lines_of};
 
 /// What a bundle asks for, with all that its sections say.
-#[derive(Debug, Drop)]
+#[derive(Drop)]
 pub enum Task {
     Frame(Exchange),
+    Run(Scenario),
 }
 
 /// What a bundle asks for. Its sections are read in order.
@@ -31,9 +34,11 @@ fn task_of(alloc: Global, bundle: &Bundle<'_>) -> Result<Task, ReadError<InputFa
             let exchange = exchange_in(alloc, &bundle.sections[0])?;
             Ok(Task::Frame(exchange))
         }
-
-        // No first line asks for a run yet.
-        Command::Run => Err(BundleFault::UnknownCommand.error()),
+        Command::Run => {
+            let sections = &bundle.sections;
+            let scenario = scenario_in(alloc, &sections[0], &sections[1], &sections[2])?;
+            Ok(Task::Run(scenario))
+        }
     }
 }
 
@@ -55,5 +60,6 @@ pub fn reply_of(alloc: Global, task: &Task) -> Result<Reply, AllocError>
 {
     match task {
         Task::Frame(exchange) => frame_reply(alloc, &exchange.message, &exchange.answer),
+        Task::Run(scenario) => run_reply(alloc, scenario),
     }
 }

@@ -1,7 +1,10 @@
 ghost use Rattle.std.specs.Prelude.{◌≡◌, IfOk, string_bytes};
-ghost use Rattle.pmseq.specs.Faults.{number_of, name_of, detail_of, fault_text};
+ghost use Rattle.pmseq.specs.Faults.{number_of, name_of, detail_of, counted_text, fault_text};
 
 use crate::command::Header;
+use board::BoardFault;
+use seq_program::ProgramFault;
+use simulator::RunFault;
 use smbus::SmbusFault;
 use std::alloc::{AllocError, Global};
 use texts::ReadError;
@@ -76,6 +79,12 @@ pub enum InputFault {
     Bundle(BundleFault),
     #[error("{0}")]
     Frame(SmbusFault),
+    #[error("{0}")]
+    Board(BoardFault),
+    #[error("{0}")]
+    Program(ProgramFault),
+    #[error("{0}")]
+    Run(RunFault),
 }
 
 /// What stands behind the name of a fault: its line, or the header that is missing.
@@ -94,6 +103,16 @@ fn detail_of(alloc: Global, fault: BundleFault) -> Result<String, AllocError>
     }
 }
 
+/// The line or the index of a fault, where it has one.
+fn counted_text(alloc: Global, number: Option<usize>) -> Result<String, AllocError>
+    ensures { IfOk result (λ text. string_bytes text ≡ counted_text number) }
+{
+    match number {
+        Some(number) => { format!(in alloc; " {number}") }
+        None => Ok(String::new(alloc)),
+    }
+}
+
 /// The line that is printed for a fault.
 pub fn fault_line(alloc: Global, fault: InputFault) -> Result<String, AllocError>
     ensures { IfOk result (λ text. string_bytes text ≡ fault_text fault) }
@@ -109,6 +128,23 @@ pub fn fault_line(alloc: Global, fault: InputFault) -> Result<String, AllocError
             let number = fault.number();
             let name = fault.name();
             format!(in alloc; "fault frame {number} {name}\n")
+        }
+        InputFault::Board(fault) => {
+            let number = fault.number();
+            let name = fault.name();
+            format!(in alloc; "fault board {number} {name}\n")
+        }
+        InputFault::Program(fault) => {
+            let number = fault.number();
+            let name = fault.name();
+            let line = counted_text(alloc, fault.line())?;
+            format!(in alloc; "fault program {number} {name}{line}\n")
+        }
+        InputFault::Run(fault) => {
+            let number = fault.number();
+            let name = fault.name();
+            let index = counted_text(alloc, fault.index())?;
+            format!(in alloc; "fault run {number} {name}{index}\n")
         }
     }
 }

@@ -88,6 +88,6 @@ pub fn frame_reply(alloc: Global, message: &Message, answer: &Answer) -> Result<
     let text = shown(alloc, slots, message, answer)?;
     Ok(Reply {
         status: Status::Accepted,
-        text,
+        text: text.into_bytes(),
     })
 }

@@ -16,14 +16,18 @@ mod law;
 mod message;
 mod outcome;
 mod reply;
+mod scenario;
 mod section;
 mod session;
+mod tracing;
 
 use session::session;
 use std::process::ExitCode;
 
 #[cfg(test)]
 mod answer_tests;
+#[cfg(test)]
+mod run_tests;
 #[cfg(test)]
 mod tests;
 

@@ -31,7 +31,7 @@ impl Status {
 #[derive(Debug, Drop)]
 pub struct Reply {
     pub status: Status,
-    pub text: String,
+    pub text: Vec<u8>,
 }
 
 /// The reply to an input with a fault.
@@ -42,6 +42,6 @@ pub fn refused(alloc: Global, fault: InputFault) -> Result<Reply, AllocError>
     let text = fault_line(alloc, fault)?;
     Ok(Reply {
         status: Status::InputFault,
-        text,
+        text: text.into_bytes(),
     })
 }

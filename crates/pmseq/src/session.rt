@@ -117,7 +117,7 @@ pub fn answer<R: Read, W: Write>(
     ensures silent { IfErr result (λ fault. fault ≢ Writer → writer.new ≡ writer.old) }
 {
     let reply = received(alloc, reader)?;
-    match send(writer, reply.text.as_bytes()) {
+    match send(writer, &reply.text) {
         Ok(()) => Ok(reply.status),
         Err(WriteFault) => Err(DeviceFault::Writer),
     }
