@@ -16,3 +16,8 @@ pub mod Sent
 pub mod StepLines
 pub mod Stretches
 pub mod Taken
+pub mod TakenForms
+pub mod FrontBytes
+pub mod StepDoing
+pub mod TakenStep
+pub mod WorkedDefinitions

@@ -25,9 +25,12 @@ use Rattle.simulator.specs.Does.{EntriesDoAsAsked}
 use Rattle.simulator.specs.Machines.{Machine, Entry}
 use Rattle.simulator.specs.Moves.{result_in, with_result, after_message, silently}
 use Rattle.simulator.specs.Steps.{alert_level, idle_ticks, IsStepOf}
+use Rattle.simulator.specs.StepDoes.{StepDoes}
 use Rattle.simulator.specs.StepLaws.{Sees, StepsAreSeen, StartsAreReady}
 use Rattle.simulator.proofs.NextPlaces.{is_instr, stepped_place}
 use Rattle.simulator.proofs.Sendable.{sendable}
+use Rattle.simulator.proofs.StepDoing.{message_does, silence_does}
+use Rattle.simulator.proofs.TakenForms.{takes_own_form, no_block_read}
 use Rattle.simulator.proofs.WireMessages.{sent_bytes}
 use Rattle.simulator.proofs.WireAnswers.{IsOnWire, fitting_bytes}
 
@@ -116,11 +119,15 @@ outcome_small msg a v wire e =
 
 record Seen (b : Board) (i : Instr ℕ) (o : Option Asked) (m : Machine) (a : Answered) (e : Entry) (next : Machine) : Type 0 where
   pub sees : Sees m.bus o a e
+  pub does : StepDoes b m.bus o a e
   pub entry : IsEntry e.samples
   pub words : Words next.regs
 
 same_samples : (e f : Entry) → e ≡ f → e.samples ≡ f.samples
 same_samples e f is = ap (λ (x : Entry). x.samples) is
+
+same_before : (e f : Entry) → e ≡ f → e.before ≡ f.before
+same_before e f is = ap (λ (x : Entry). x.before) is
 
 same_regs : (x y : Machine) → x ≡ y → x.regs ≡ y.regs
 same_regs x y is = ap (λ (m : Machine). m.regs) is
@@ -132,6 +139,7 @@ by_message reads does idle b i None m a e next is ok belongs words asked step =
     let samples = same_samples e _ step.entry_is in
     record {
       sees = rw samples none.none;
+      does = silence_does b m.bus a e (same_before e _ step.entry_is) (rw samples none.only);
       entry = rw samples (none.entry (omega arith));
       words = rw (same_regs next _ step.next_is) (silent_words i m ok words);
     }
@@ -140,8 +148,12 @@ by_message reads does idle b i (Some msg) m a e next is ok belongs words asked s
     let one = reads msg a (alert_level m.bus) sent in
     let samples : e.samples ≡ samples_of (alert_level m.bus) msg a = same_samples e _ step.entry_is in
     let wire = fitting_bytes b m.bus msg a is belongs step.fits.form in
+    let takes = takes_own_form b i m.regs msg ok asked in
+    let no_block = no_block_read msg takes in
+    let shown = does msg a (alert_level m.bus) sent in
     record {
-      sees = record { asked = sent; samples = samples; reads = one; does = does msg a (alert_level m.bus) sent };
+      sees = record { asked = sent; samples = samples; reads = one; does = shown; no_block = no_block };
+      does = message_does b m.bus msg a (alert_level m.bus) e is (same_before e _ step.entry_is) samples takes sent.can_be_sent.has_good_data.has_length no_block shown;
       entry = rw samples one.entry;
       words = rw (same_regs next _ step.next_is) (message_words i (outcome_of (Some msg) a) m words (λ v done. outcome_small msg a v wire done));
     }
@@ -156,6 +168,7 @@ steps_are_seen reads does idle stays b p m next a e is program ready step =
       instr = i;
       here = step.here;
       sees = seen.sees;
+      does = seen.does;
       entry = seen.entry;
       ready = record {
         machine = record {

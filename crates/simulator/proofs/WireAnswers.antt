@@ -92,7 +92,7 @@ indexed [] i x e = cc
 indexed (y ∷ xs) zero x e = cc
 indexed (y ∷ xs) (suc i) x e = indexed xs i x e
 
-target_there : (ts : List Target) (i : ℕ) → i < length ts → (t : Target) × (slice_get ts i ≡ Some t)
+pub target_there : (ts : List Target) (i : ℕ) → i < length ts → (t : Target) × (slice_get ts i ≡ Some t)
 target_there [] i lt = absurd (omega (arith, lt))
 target_there (t ∷ ts) zero lt = (t, refl)
 target_there (t ∷ ts) (suc i) lt = let within : i < length ts = omega (arith, lt) in target_there ts i within

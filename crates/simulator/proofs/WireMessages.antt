@@ -29,7 +29,7 @@ pub record AreBytes (m : Asked) : Type 0 where
 taken_small : (code : ℕ) (f : Form) → IsTrue (takes_form code f) → code < 256
 taken_small code f takes = command_small code (taken_is_command code f takes)
 
-abbrev asked_at : Form → ℕ → List ℕ → Target → Asked
+abbrev pub asked_at : Form → ℕ → List ℕ → Target → Asked
 asked_at f code out t = record { address = t.address; form = f; code = code; out = out }
 
 asked_bytes : (b : Board) (n : ℕ) (f : Form) (code : ℕ) (out : List ℕ) (m : Asked) (o : Option Target) → IsBoard b → slice_get b.targets n ≡ o → f ≢ form.Alert → code < 256 → AllByRecursion (λ byte. byte < 256) out

@@ -11,5 +11,6 @@ pub mod Allowed
 pub mod Reports
 pub mod Safe
 pub mod Headline
+pub mod StepDoes
 pub mod StepLaws
 pub mod RunLaws

@@ -4,7 +4,8 @@ use Rattle.wires.specs.Events.{events_of}
 use Rattle.smbus.specs.Asked.{Asked}
 use Rattle.smbus.specs.Answered.{Answered}
 use Rattle.smbus.specs.Frames.{AreFrames}
-use Rattle.smbus.specs.MessageFrame.{AreAsked}
+use Rattle.smbus.specs.MessageFrame.{AreAsked, ReadsNoBlock}
+use Rattle.pmbus_table.specs.Codes.{status_word_code}
 use Rattle.board.specs.Boards.{Board}
 use Rattle.board.specs.Valid.{IsBoard}
 use Rattle.targets.specs.States.{BusState, IsStart}
@@ -16,6 +17,7 @@ use Rattle.simulator.specs.EntryLaws.{ReadsOne}
 use Rattle.simulator.specs.Does.{DoesAsAsked}
 use Rattle.simulator.specs.Machines.{Machine, Entry, IsMachine, start_at}
 use Rattle.simulator.specs.Steps.{alert_level, IsStep}
+use Rattle.simulator.specs.StepDoes.{StepDoes}
 
 -- a machine of the board and the program whose registers are words
 pub record IsReady (b : Board) (p : List (Instr ℕ)) (m : Machine) : Type 0 where
@@ -29,6 +31,8 @@ pub record SeesMessage (s : BusState) (m : Asked) (a : Answered) (e : Entry) : T
   pub samples : e.samples ≡ samples_of (alert_level s) m a
   pub reads : ReadsOne m a (alert_level s)
   pub does : DoesAsAsked m a (alert_level s)
+  -- STATUS_WORD isn't read by a Block Read, whose frame could look like that of a Read Word
+  pub no_block : ReadsNoBlock status_word_code m
 
 -- without a message no frame is seen
 abbrev pub Sees : BusState → Option Asked → Answered → Entry → Type 0
@@ -39,6 +43,8 @@ pub record StepIsSeen (b : Board) (p : List (Instr ℕ)) (m : Machine) (a : Answ
   pub instr : Instr ℕ
   pub here : slice_get p m.place ≡ Some instr
   pub sees : Sees m.bus (message_of b instr m.regs) a e
+  -- the message and the answer tell what it is seen to write, report and withdraw
+  pub does : StepDoes b m.bus (message_of b instr m.regs) a e
   -- the lines are idle before it, and free after it
   pub entry : IsEntry e.samples
   pub ready : IsReady b p next
@@ -51,3 +57,18 @@ StepsAreSeen = (b : Board) (p : List (Instr ℕ)) (m next : Machine) (a : Answer
 -- and where a run may start it is
 abbrev pub StartsAreReady : Type 0
 StartsAreReady = (b : Board) (p : List (Instr ℕ)) (s : BusState) → IsBoard b → IsProgram p → IsStart b s → IsReady b p (start_at s)
+
+-- there is such a step, and it sends a message
+pub record SomeStepIsTaken : Type 0 where
+  pub board : Board
+  pub program : List (Instr ℕ)
+  pub machine : Machine
+  pub answer : Answered
+  pub entry : Entry
+  pub next : Machine
+  pub is_board : IsBoard board
+  pub is_program : IsProgram program
+  pub ready : IsReady board program machine
+  pub step : IsStep board program machine answer entry next
+  pub message : Asked
+  pub sends : message_of board step.instr machine.regs ≡ Some message

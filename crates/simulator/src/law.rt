@@ -1,9 +1,9 @@
 ghost use Rattle.simulator.specs.Does.{EntriesDoAsAsked};
 ghost use Rattle.simulator.specs.EntryLaws.{EntriesReadBack, IdleReadsBack, JoinedReadBack};
 ghost use Rattle.simulator.specs.RunLaws.{RunsAreSeen};
-ghost use Rattle.simulator.specs.StepLaws.{StepsAreSeen, StartsAreReady};
+ghost use Rattle.simulator.specs.StepLaws.{StepsAreSeen, StartsAreReady, SomeStepIsTaken};
 
-use targets::states_belong;
+use targets::{some_answer_fits, states_belong};
 
 /// The samples of an entry that sends a message have one frame, the one that shows the message, and what
 /// they are seen to do is what was asked and answered. Idle samples have no frame. The joined samples of
@@ -18,12 +18,16 @@ pub fn entries_read_back()
 /// Every step of a program on its board meets what the laws on entries ask: its message and answer are bytes
 /// on the wire that can be sent. So its samples are read as its message's one frame, or as none, they begin
 /// idle and end with both lines high, and the machine after it is ready for the next step, as it is at the start.
+/// What a step is seen to write, report and withdraw is told from its message, its answer and the state before it.
 pub fn steps_are_seen()
     ensures steps { StepsAreSeen }
     ensures starts { StartsAreReady }
+    // There are such steps.
+    ensures some { SomeStepIsTaken }
 {
     entries_read_back();
     states_belong();
+    some_answer_fits();
 }
 
 /// The joined samples of a run are read as the frames of the messages that it sent, in order, and as no
