@@ -1,8 +1,7 @@
 use super::*;
-use board::{Board, read_board};
+use board::{Board, BoardFault, read_board};
 use smbus::{Answer, Form, Message};
 use std::alloc::Global;
-use std::test::Fail;
 
 const TARGET_A: &str = "[[target]]\nname = \"a\"\naddress = 0x40\n";
 
@@ -21,18 +20,13 @@ allow = [
 ";
 
 /// Targets a at 40h and b, where the texts hold the keys by which boards differ here.
-fn board_of(alloc: Global, a: &str, b: &str) -> Result<Board, Fail> {
-    let mut text = String::from_str(alloc, TARGET_A)?;
-    text.push_str(a)?;
-    text.push_str(ALLOWED)?;
-    text.push_str("[[target]]\nname = \"b\"\n")?;
-    text.push_str(b)?;
-    text.push_str(ALLOWED)?;
-    Ok(read_board(alloc, &text)?)
+fn board_of(alloc: Global, a: &str, b: &str) -> Result<Board, BoardFault> {
+    let text = format!(in alloc; "{TARGET_A}{a}{ALLOWED}[[target]]\nname = \"b\"\n{b}{ALLOWED}")?;
+    read_board(alloc, &text)
 }
 
 /// Target a has two pages.
-fn pages_board(alloc: Global) -> Result<Board, Fail> {
+fn pages_board(alloc: Global) -> Result<Board, BoardFault> {
     board_of(
         alloc,
         "pages = 2\nstretch = 0\n",
@@ -41,7 +35,7 @@ fn pages_board(alloc: Global) -> Result<Board, Fail> {
 }
 
 /// The same, and a may hold the clock for too long.
-fn held_board(alloc: Global) -> Result<Board, Fail> {
+fn held_board(alloc: Global) -> Result<Board, BoardFault> {
     board_of(
         alloc,
         "pages = 2\nstretch = 6999\n",
@@ -50,7 +44,7 @@ fn held_board(alloc: Global) -> Result<Board, Fail> {
 }
 
 /// Both targets may alert, and b has the lower address.
-fn alert_board(alloc: Global) -> Result<Board, Fail> {
+fn alert_board(alloc: Global) -> Result<Board, BoardFault> {
     board_of(
         alloc,
         "pages = 1\nstretch = 0\nalerts = true\n",
@@ -58,7 +52,12 @@ fn alert_board(alloc: Global) -> Result<Board, Fail> {
     )
 }
 
-fn state_of(alloc: Global, pages: &[u8], protects: &[u8], alerting: u16) -> Result<BusState, Fail> {
+fn state_of(
+    alloc: Global,
+    pages: &[u8],
+    protects: &[u8],
+    alerting: u16,
+) -> Result<BusState, BoardFault> {
     Ok(BusState {
         page: pages.to_vec(alloc)?,
         protect: protects.to_vec(alloc)?,
@@ -66,7 +65,7 @@ fn state_of(alloc: Global, pages: &[u8], protects: &[u8], alerting: u16) -> Resu
     })
 }
 
-fn message_of(alloc: Global, form: Form, code: u8, out: &[u8]) -> Result<Message, Fail> {
+fn message_of(alloc: Global, form: Form, code: u8, out: &[u8]) -> Result<Message, BoardFault> {
     let address = match form {
         Form::Alert => 0x0C,
         _ => 0x40,
@@ -79,186 +78,236 @@ fn message_of(alloc: Global, form: Form, code: u8, out: &[u8]) -> Result<Message
     })
 }
 
-fn answer_of(alloc: Global, value: u16, bytes: &[u8]) -> Result<Answer, Fail> {
+fn answer_of(
+    alloc: Global,
+    refuse: Option<u16>,
+    value: u16,
+    bytes: &[u8],
+) -> Result<Answer, BoardFault> {
+    let bytes = bytes.to_vec(alloc)?;
     Ok(Answer {
         holds: Vec::new(alloc),
-        refuse: None,
+        refuse,
         value,
-        bytes: bytes.to_vec(alloc)?,
+        bytes,
         took: false,
         alerts: 0,
     })
 }
 
-/// A PAGE write of a value to target a, whose stored protection is given.
-fn page_write(
+/// What an answer to a write says: the byte of the controller that it refuses, the slot in which it
+/// holds the clock for too long, and whether the write takes effect.
+type Said = (Option<u16>, Option<usize>, bool);
+
+fn write_answer(alloc: Global, said: Said) -> Result<Answer, BoardFault> {
+    let (refuse, slot, took) = said;
+    let mut answer = answer_of(alloc, refuse, 0, &[])?;
+    if let Some(slot) = slot {
+        answer.holds.resize(slot, 0)?;
+        answer.holds.push(5000)?;
+    }
+    answer.took = took;
+    Ok(answer)
+}
+
+/// Whether an answer to a write fits, the page of target a after it, and how it ends.
+type Written = (bool, Option<u8>, Outcome);
+
+fn after_write(
     alloc: Global,
+    board: &Board,
+    state: &BusState,
+    message: &Message,
+    answer: &Answer,
+) -> Result<Written, BoardFault> {
+    let is_fitting = fits(board, state, Some(message), answer);
+    let (new, outcome) = after(alloc, board, state, Some(message), answer)?;
+    Ok((is_fitting, new.page.first().copied(), outcome))
+}
+
+fn page_write_on(
+    alloc: Global,
+    board: &Board,
     protect: u8,
     value: u8,
-    answer: &Answer,
-) -> Result<(u8, Outcome), Fail> {
-    let board = held_board(alloc)?;
+    said: Said,
+) -> Result<Written, BoardFault> {
     let state = state_of(alloc, &[0, 0], &[protect, 0], 0)?;
     let message = message_of(alloc, Form::WriteByte, 0x00, &[value])?;
-    if !fits(&board, &state, Some(&message), answer) {
-        return Err("the answer doesn't fit".into());
-    }
-    let (new, outcome) = after(alloc, &board, &state, Some(&message), answer)?;
-    let page = new.page.first().ok_or("no page")?;
-    Ok((*page, outcome))
+    let answer = write_answer(alloc, said)?;
+    after_write(alloc, board, &state, &message, &answer)
 }
 
-/// An answer that refuses a byte of the controller.
-fn refusing(alloc: Global, number: u16, took: bool) -> Result<Answer, Fail> {
-    let mut answer = answer_of(alloc, 0, &[])?;
-    answer.refuse = Some(number);
-    answer.took = took;
-    Ok(answer)
+/// A PAGE write of a value to target a, whose stored protection is given.
+fn page_write(alloc: Global, protect: u8, value: u8, said: Said) -> Result<Written, BoardFault> {
+    let board = held_board(alloc)?;
+    page_write_on(alloc, &board, protect, value, said)
 }
 
-/// An answer that holds the clock for too long in a slot.
-fn holding(alloc: Global, slot: usize, took: bool) -> Result<Answer, Fail> {
-    let mut answer = answer_of(alloc, 0, &[])?;
-    for _ in 0..slot {
-        answer.holds.push(0)?;
-    }
-    answer.holds.push(5000)?;
-    answer.took = took;
-    Ok(answer)
+fn may_start_on(
+    alloc: Global,
+    board: &Board,
+    pages: &[u8],
+    protects: &[u8],
+    alerting: u16,
+) -> Result<bool, BoardFault> {
+    let state = state_of(alloc, pages, protects, alerting)?;
+    Ok(starts(board, &state))
 }
 
 /// Whether a run on two targets, the first with two pages, may start so.
-fn may_start(alloc: Global, pages: &[u8], protects: &[u8], alerting: u16) -> Result<bool, Fail> {
+fn may_start(
+    alloc: Global,
+    pages: &[u8],
+    protects: &[u8],
+    alerting: u16,
+) -> Result<bool, BoardFault> {
     let board = pages_board(alloc)?;
-    Ok(starts(&board, &state_of(alloc, pages, protects, alerting)?))
+    may_start_on(alloc, &board, pages, protects, alerting)
 }
 
-/// Whether an answer to an alert response fits, and who alerts after it.
-fn respond(alloc: Global, alerting: u16, answer: &Answer) -> Result<(bool, u16, Outcome), Fail> {
-    let board = alert_board(alloc)?;
+/// Whether an answer to an alert response fits, who alerts after it, and how it ends.
+type Responded = (bool, u16, Outcome);
+
+fn respond_on(
+    alloc: Global,
+    board: &Board,
+    alerting: u16,
+    refuse: Option<u16>,
+    value: u16,
+) -> Result<Responded, BoardFault> {
     let state = state_of(alloc, &[0, 0], &[0, 0], alerting)?;
     let message = message_of(alloc, Form::Alert, 0, &[])?;
-    let (new, outcome) = after(alloc, &board, &state, Some(&message), answer)?;
-    let is_fitting = fits(&board, &state, Some(&message), answer);
+    let answer = answer_of(alloc, refuse, value, &[])?;
+    let is_fitting = fits(board, &state, Some(&message), &answer);
+    let (new, outcome) = after(alloc, board, &state, Some(&message), &answer)?;
     Ok((is_fitting, new.alerting, outcome))
 }
 
-/// Whether a message of target a may return a number or a block, where its page is 1.
-fn may_return(
+/// An alert response, which is answered by a refused byte or a value.
+fn respond(
     alloc: Global,
-    asked: (Form, u8, &[u8]),
+    alerting: u16,
+    refuse: Option<u16>,
+    value: u16,
+) -> Result<Responded, BoardFault> {
+    let board = alert_board(alloc)?;
+    respond_on(alloc, &board, alerting, refuse, value)
+}
+
+/// The form, the code and the bytes of a message.
+type Asked = (Form, u8, &'static [u8]);
+
+fn may_return_on(
+    alloc: Global,
+    board: &Board,
+    asked: Asked,
     value: u16,
     bytes: &[u8],
-) -> Result<bool, Fail> {
+) -> Result<bool, BoardFault> {
     let (form, code, out) = asked;
-    let board = pages_board(alloc)?;
     let state = state_of(alloc, &[1, 0], &[0, 0], 0)?;
     let message = message_of(alloc, form, code, out)?;
-    let answer = answer_of(alloc, value, bytes)?;
-    Ok(fits(&board, &state, Some(&message), &answer))
+    let answer = answer_of(alloc, None, value, bytes)?;
+    Ok(fits(board, &state, Some(&message), &answer))
+}
+
+/// Whether a message of target a may return a number or a block, where its page is 1.
+fn may_return(alloc: Global, asked: Asked, value: u16, bytes: &[u8]) -> Result<bool, BoardFault> {
+    let board = pages_board(alloc)?;
+    may_return_on(alloc, &board, asked, value, bytes)
+}
+
+/// The pages, the protections and who alerts, and whether a run may start so.
+const STARTS: [(&[u8], &[u8], u16, bool); 5] = [
+    (&[0, 0], &[0, 0], 0, true),
+    (&[1, 0], &[0, 0], 0, false),
+    (&[0, 0], &[0, 0x80], 0, false),
+    (&[0, 0], &[0, 0], 1, false),
+    (&[0], &[0], 0, false),
+];
+
+#[test]
+fn runs_start_where_the_board_says(rt: HostRuntime) {
+    for (pages, protects, alerting, want) in STARTS {
+        let is_start = may_start(rt.alloc(), pages, protects, alerting);
+        assert_eq!(rt; is_start, Ok(want), "{pages:?} {protects:?} {alerting}");
+    }
+}
+
+/// Who alerts, the refused byte and the value of an answer, and what becomes of it.
+const RESPONSES: [(u16, Option<u16>, u16, Responded); 5] = [
+    (3, None, 0x42, (true, 1, Outcome::Done(0x42))),
+    (3, None, 0x80, (false, 1, Outcome::Done(0x80))),
+    (1, None, 0x80, (true, 0, Outcome::Done(0x80))),
+    (0, Some(0), 0, (true, 0, Outcome::NotAcknowledged)),
+    (3, Some(0), 0, (false, 3, Outcome::NotAcknowledged)),
+];
+
+#[test]
+fn lowest_address_answers_the_alert(rt: HostRuntime) {
+    for (alerting, refuse, value, want) in RESPONSES {
+        let responded = respond(rt.alloc(), alerting, refuse, value);
+        assert_eq!(rt; responded, Ok(want), "{alerting} {value}");
+    }
+}
+
+/// An answer that refuses nothing and holds no clock.
+const DONE: Said = (None, None, false);
+
+#[test]
+fn acknowledged_writes_take_effect(rt: HostRuntime) {
+    for (protect, value, page) in [(0x00, 1, 1), (0x80, 1, 0), (0x00, 5, 0), (0x00, 0xFF, 0xFF)] {
+        let written = page_write(rt.alloc(), protect, value, DONE);
+        let want = (true, Some(page), Outcome::Done(0));
+        assert_eq!(rt; written, Ok(want), "{protect} {value}");
+    }
 }
 
 #[test]
-fn runs_start_where_the_board_says(rt: HostRuntime) -> Result<(), Fail> {
-    let alloc = rt.alloc();
-    assert!(rt; may_start(alloc, &[0, 0], &[0, 0], 0)?);
-    assert!(rt; !may_start(alloc, &[1, 0], &[0, 0], 0)?);
-    assert!(rt; !may_start(alloc, &[0, 0], &[0, 0x80], 0)?);
-    assert!(rt; !may_start(alloc, &[0, 0], &[0, 0], 1)?);
-    assert!(rt; !may_start(alloc, &[0], &[0], 0)?);
-    Ok(())
+fn refused_values_may_be_taken(rt: HostRuntime) {
+    for (number, took, page) in [(2, true, 1), (2, false, 0), (1, true, 0), (1, false, 0)] {
+        let written = page_write(rt.alloc(), 0, 1, (Some(number), None, took));
+        let want = (true, Some(page), Outcome::NotAcknowledged);
+        assert_eq!(rt; written, Ok(want), "{number} {took}");
+    }
 }
 
 #[test]
-fn lowest_address_answers_the_alert(rt: HostRuntime) -> Result<(), Fail> {
-    let alloc = rt.alloc();
-    let low = answer_of(alloc, 0x42, &[])?;
-    let high = answer_of(alloc, 0x80, &[])?;
-    let nobody = refusing(alloc, 0, false)?;
-    let refused = Outcome::NotAcknowledged;
-    assert_eq!(rt; respond(alloc, 3, &low)?, (true, 1, Outcome::Done(0x42)));
-    assert_eq!(rt; respond(alloc, 3, &high)?, (false, 1, Outcome::Done(0x80)));
-    assert_eq!(rt; respond(alloc, 1, &high)?, (true, 0, Outcome::Done(0x80)));
-    assert_eq!(rt; respond(alloc, 0, &nobody)?, (true, 0, refused));
-    assert_eq!(rt; respond(alloc, 3, &nobody)?, (false, 3, refused));
-    Ok(())
+fn cut_values_may_be_taken(rt: HostRuntime) {
+    for (slot, took, page) in [
+        (27, true, 1),
+        (26, true, 1),
+        (26, false, 0),
+        (25, true, 0),
+        (25, false, 0),
+    ] {
+        let written = page_write(rt.alloc(), 0, 1, (None, Some(slot), took));
+        let want = (true, Some(page), Outcome::TimedOut);
+        assert_eq!(rt; written, Ok(want));
+    }
 }
 
-#[test]
-fn acknowledged_writes_take_effect(rt: HostRuntime) -> Result<(), Fail> {
-    let alloc = rt.alloc();
-    let done = answer_of(alloc, 0, &[])?;
-    assert_eq!(rt; page_write(alloc, 0x00, 1, &done)?, (1, Outcome::Done(0)));
-    assert_eq!(rt; page_write(alloc, 0x80, 1, &done)?, (0, Outcome::Done(0)));
-    assert_eq!(rt; page_write(alloc, 0x00, 5, &done)?, (0, Outcome::Done(0)));
-    assert_eq!(rt;
-        page_write(alloc, 0x00, 0xFF, &done)?,
-        (0xFF, Outcome::Done(0))
-    );
-    Ok(())
-}
+const PAGE: Asked = (Form::ReadByte, 0x00, &[]);
+
+const STATUS: Asked = (Form::ReadWord, 0x79, &[]);
+
+const QUERY: Asked = (Form::BlockProcessCall, 0x1A, &[0x21]);
+
+/// What is asked, the number and the block that are returned, and whether they may be.
+const READS: [(Asked, u16, &[u8], bool); 6] = [
+    (PAGE, 1, &[], true),
+    (PAGE, 0, &[], false),
+    (STATUS, 4096, &[], true),
+    (STATUS, 0, &[], false),
+    (QUERY, 0, &[0xB0, 0], true),
+    (QUERY, 0, &[0xB0], false),
+];
 
 #[test]
-fn refused_values_may_be_taken(rt: HostRuntime) -> Result<(), Fail> {
-    let alloc = rt.alloc();
-    let refused = Outcome::NotAcknowledged;
-    assert_eq!(rt;
-        page_write(alloc, 0, 1, &refusing(alloc, 2, true)?)?,
-        (1, refused)
-    );
-    assert_eq!(rt;
-        page_write(alloc, 0, 1, &refusing(alloc, 2, false)?)?,
-        (0, refused)
-    );
-    assert_eq!(rt;
-        page_write(alloc, 0, 1, &refusing(alloc, 1, true)?)?,
-        (0, refused)
-    );
-    assert_eq!(rt;
-        page_write(alloc, 0, 1, &refusing(alloc, 1, false)?)?,
-        (0, refused)
-    );
-    Ok(())
-}
-
-#[test]
-fn cut_values_may_be_taken(rt: HostRuntime) -> Result<(), Fail> {
-    let alloc = rt.alloc();
-    let cut = Outcome::TimedOut;
-    assert_eq!(rt;
-        page_write(alloc, 0, 1, &holding(alloc, 27, true)?)?,
-        (1, cut)
-    );
-    assert_eq!(rt;
-        page_write(alloc, 0, 1, &holding(alloc, 26, true)?)?,
-        (1, cut)
-    );
-    assert_eq!(rt;
-        page_write(alloc, 0, 1, &holding(alloc, 26, false)?)?,
-        (0, cut)
-    );
-    assert_eq!(rt;
-        page_write(alloc, 0, 1, &holding(alloc, 25, true)?)?,
-        (0, cut)
-    );
-    assert_eq!(rt;
-        page_write(alloc, 0, 1, &holding(alloc, 25, false)?)?,
-        (0, cut)
-    );
-    Ok(())
-}
-
-#[test]
-fn reads_lie_in_their_ranges(rt: HostRuntime) -> Result<(), Fail> {
-    let alloc = rt.alloc();
-    let page = (Form::ReadByte, 0x00, [].as_slice());
-    assert!(rt; may_return(alloc, page, 1, &[])?);
-    assert!(rt; !may_return(alloc, page, 0, &[])?);
-    let status = (Form::ReadWord, 0x79, [].as_slice());
-    assert!(rt; may_return(alloc, status, 4096, &[])?);
-    assert!(rt; !may_return(alloc, status, 0, &[])?);
-    let query = (Form::BlockProcessCall, 0x1A, [0x21].as_slice());
-    assert!(rt; may_return(alloc, query, 0, &[0xB0, 0])?);
-    assert!(rt; !may_return(alloc, query, 0, &[0xB0])?);
-    Ok(())
+fn reads_lie_in_their_ranges(rt: HostRuntime) {
+    for (asked, value, bytes, want) in READS {
+        let is_allowed = may_return(rt.alloc(), asked, value, bytes);
+        assert_eq!(rt; is_allowed, Ok(want));
+    }
 }
