@@ -1,10 +1,15 @@
 use super::*;
 use bitflags::Flags;
 use smbus::Form;
+use std::alloc::{AllocError, Global};
+use std::process::Abort;
 use std::test::Fail;
 
-/// Code, name, written form, read form and whether it is paged, as this profile has them.
-const KNOWN: [(u8, &str, Option<Form>, Option<Form>, bool); 25] = [
+/// Code, name, written form, read form and whether it is paged.
+type Known = (u8, &'static str, Option<Form>, Option<Form>, bool);
+
+/// The named commands as this profile has them.
+const KNOWN: [Known; 25] = [
     (
         0x00,
         "PAGE",
@@ -98,17 +103,33 @@ const KNOWN: [(u8, &str, Option<Form>, Option<Form>, bool); 25] = [
     (0x99, "MFR_ID", None, Some(Form::BlockRead), false),
 ];
 
+/// The command that has the name of this one.
+fn read_back(alloc: Global, command: Command) -> Result<Option<Command>, AllocError> {
+    let name = name_of(alloc, command)?;
+    Ok(by_name(&name))
+}
+
+fn facts_of(command: Command) -> (u8, Option<Form>, Option<Form>, bool) {
+    (
+        command.code(),
+        command.form_written(),
+        command.form_read(),
+        command.paged(),
+    )
+}
+
+fn compare(rt: &impl Abort, alloc: Global, command: Command, known: Known) {
+    let (code, _, written, read, is_paged) = known;
+    assert_eq!(rt; facts_of(command), (code, written, read, is_paged));
+    assert_eq!(rt; by_code(code), Some(command));
+    assert_eq!(rt; read_back(alloc, command), Ok(Some(command)));
+}
+
 #[test]
 fn named_commands(rt: HostRuntime) -> Result<(), Fail> {
-    for (code, name, written, read, is_paged) in KNOWN {
-        let command = by_name(name).ok_or("no such name")?;
-        assert_eq!(rt; command.code(), code, "{name}");
-        assert_eq!(rt; by_code(code), Some(command), "{name}");
-        let printed = name_of(rt.alloc(), command)?;
-        assert_eq!(rt; by_name(&printed), Some(command), "{name}");
-        assert_eq!(rt; command.form_written(), written, "{name}");
-        assert_eq!(rt; command.form_read(), read, "{name}");
-        assert_eq!(rt; command.paged(), is_paged, "{name}");
+    for known in &KNOWN {
+        let command = by_name(known.1).ok_or("no such name")?;
+        compare(&rt, rt.alloc(), command, *known);
     }
     let status = by_code(code::STATUS_WORD).ok_or("no such code")?;
     assert_eq!(rt; name_of(rt.alloc(), status)?.as_str(), "STATUS_WORD");
@@ -119,10 +140,9 @@ fn named_commands(rt: HostRuntime) -> Result<(), Fail> {
 fn manufacturer_commands(rt: HostRuntime) -> Result<(), Fail> {
     for code in 0xD0..0xFEu8 {
         let command = by_code(code).ok_or("no such code")?;
-        let name = name_of(rt.alloc(), command)?;
-        assert_eq!(rt; by_name(&name), Some(command), "{code}");
-        assert_eq!(rt; command.form_written(), None, "{code}");
-        assert_eq!(rt; command.paged(), false, "{code}");
+        assert_eq!(rt; read_back(rt.alloc(), command), Ok(Some(command)));
+        let facts = (command.code(), command.form_written(), command.paged());
+        assert_eq!(rt; facts, (code, None, false));
     }
     let command = by_name("DF").ok_or("no such name")?;
     assert_eq!(rt; command.code(), 0xDF);

@@ -1,7 +1,8 @@
 use crate::{Instr, Program, ProgramFault, Width, message_of, read_program};
-use board::{Board, read_board};
+use board::{Board, BoardFault, read_board};
 use smbus::Form;
 use std::alloc::Global;
+use std::process::Abort;
 use std::test::*;
 
 /// Two targets, each with one output.
@@ -33,46 +34,53 @@ limit_uv = 1100000
 "#;
 
 /// The number and the line of a text's fault; 0 where it is a program.
-fn fault_in(alloc: Global, board: &Board, text: &str) -> (u8, Option<usize>) {
+fn fault_on(alloc: Global, board: &Board, text: &str) -> (u8, Option<usize>) {
     match read_program(alloc, board, text) {
         Ok(_) => (0, None),
         Err(fault) => (fault.number(), fault.line()),
     }
 }
 
-#[test]
-fn faults_of_lines(rt: HostRuntime) -> Result<(), Fail> {
-    let alloc = rt.alloc();
+fn fault_in(alloc: Global, text: &str) -> Result<(u8, Option<usize>), BoardFault> {
     let board = read_board(alloc, TWO)?;
-    assert_eq!(rt; fault_in(alloc, &board, "jump x"), (2, Some(1)));
-    assert_eq!(rt; fault_in(alloc, &board, "wait 0"), (3, Some(1)));
-    assert_eq!(rt; fault_in(alloc, &board, "set r0 07"), (3, Some(1)));
-    assert_eq!(rt;
-        fault_in(alloc, &board, "write z PAGE 0 else x"),
-        (4, Some(1))
-    );
-    assert_eq!(rt;
-        fault_in(alloc, &board, "write a STATUS_WORD 0 else x"),
-        (5, Some(1))
-    );
-    assert_eq!(rt; fault_in(alloc, &board, "set r8 1"), (10, Some(1)));
-    Ok(())
+    Ok(fault_on(alloc, &board, text))
 }
+
+/// Tries the number and the line of each text's fault.
+fn compare_faults(rt: &impl Abort, alloc: Global, faults: &[(&str, u8, usize)]) {
+    for (text, number, line) in faults {
+        let want = (*number, Some(*line));
+        assert_eq!(rt; fault_in(alloc, text), Ok(want), "{text}");
+    }
+}
+
+const BAD_LINES: [(&str, u8, usize); 6] = [
+    ("jump x", 2, 1),
+    ("wait 0", 3, 1),
+    ("set r0 07", 3, 1),
+    ("write z PAGE 0 else x", 4, 1),
+    ("write a STATUS_WORD 0 else x", 5, 1),
+    ("set r8 1", 10, 1),
+];
+
+#[test]
+fn faults_of_lines(rt: HostRuntime) {
+    compare_faults(&rt, rt.alloc(), &BAD_LINES);
+}
+
+const BAD_PROGRAMS: [(&str, u8, usize); 5] = [
+    ("goto x\nend", 6, 1),
+    ("x:\nend\nx:\nend", 7, 3),
+    ("wait 1", 8, 1),
+    ("", 8, 0),
+    ("end\nx:\n# the last line", 8, 3),
+];
 
 #[test]
 fn faults_of_programs(rt: HostRuntime) -> Result<(), Fail> {
-    let alloc = rt.alloc();
-    let board = read_board(alloc, TWO)?;
-    assert_eq!(rt; fault_in(alloc, &board, "goto x\nend"), (6, Some(1)));
-    assert_eq!(rt; fault_in(alloc, &board, "x:\nend\nx:\nend"), (7, Some(3)));
-    assert_eq!(rt; fault_in(alloc, &board, "wait 1"), (8, Some(1)));
-    assert_eq!(rt; fault_in(alloc, &board, ""), (8, Some(0)));
-    assert_eq!(rt;
-        fault_in(alloc, &board, "end\nx:\n# the last line"),
-        (8, Some(3))
-    );
-    let long = "end\n".repeat(alloc, 1025)?;
-    assert_eq!(rt; fault_in(alloc, &board, &long), (9, Some(1025)));
+    compare_faults(&rt, rt.alloc(), &BAD_PROGRAMS);
+    let long = "end\n".repeat(rt.alloc(), 1025)?;
+    assert_eq!(rt; fault_in(rt.alloc(), &long), Ok((9, Some(1025))));
     Ok(())
 }
 
@@ -97,67 +105,72 @@ end
 no:
 fail";
 
+/// The place of an instruction, and the message that it sends.
+type Sent = (usize, u8, Form, u8, &'static [u8]);
+
 /// Whether the instruction of a place sends this message.
-fn sends(
-    alloc: Global,
-    board: &Board,
-    program: &Program,
-    place: usize,
-    want: (u8, Form, u8, &[u8]),
-) -> bool {
+fn sends(alloc: Global, board: &Board, program: &Program, want: Sent) -> bool {
     let registers = [0, 0, 0, 0x1199, 0, 0, 0, 0];
-    let Some(instr) = program.at(place) else {
+    let Some(instr) = program.at(want.0) else {
         return false;
     };
     match message_of(alloc, board, instr, &registers) {
-        Ok(Some(m)) => (m.address, m.form, m.code, m.out.as_slice()) == want,
+        Ok(Some(m)) => (want.0, m.address, m.form, m.code, m.out.as_slice()) == want,
         _ => false,
     }
 }
 
-#[test]
-fn messages(rt: HostRuntime) -> Result<(), Fail> {
-    let alloc = rt.alloc();
-    let board = read_board(alloc, TWO)?;
-    let program = read_program(alloc, &board, MESSAGES)?;
-    assert_eq!(rt; program.places(), 16);
-    for (place, want) in [
-        (0, (0x40, Form::Quick(true), 0, b"".as_slice())),
-        (1, (0x41, Form::Quick(false), 0, b"".as_slice())),
-        (2, (0x40, Form::SendByte, 0x03, b"".as_slice())),
-        (3, (0x41, Form::ReceiveByte, 0, b"".as_slice())),
-        (4, (0x40, Form::WriteByte, 0x00, b"\xFF".as_slice())),
-        (5, (0x40, Form::WriteWord, 0xD0, b"\x00\x01".as_slice())),
-        (6, (0x41, Form::WriteWord, 0x21, b"\x99\x11".as_slice())),
-        (7, (0x40, Form::ReadWord, 0x79, b"".as_slice())),
-        (8, (0x40, Form::ReadByte, 0xFD, b"".as_slice())),
-        (9, (0x41, Form::ProcessCall, 0xD1, b"\x12\x34".as_slice())),
-        (10, (0x40, Form::BlockWrite, 0xD2, b"\x00\xFF".as_slice())),
-        (11, (0x40, Form::BlockRead, 0x99, b"".as_slice())),
-        (12, (0x40, Form::BlockProcessCall, 0x1A, b"\x21".as_slice())),
-        (13, (0x0C, Form::Alert, 0, b"".as_slice())),
-    ] {
-        assert!(rt; sends(alloc, &board, &program, place, want), "{place}");
+const SENT: [Sent; 14] = [
+    (0, 0x40, Form::Quick(true), 0, b""),
+    (1, 0x41, Form::Quick(false), 0, b""),
+    (2, 0x40, Form::SendByte, 0x03, b""),
+    (3, 0x41, Form::ReceiveByte, 0, b""),
+    (4, 0x40, Form::WriteByte, 0x00, b"\xFF"),
+    (5, 0x40, Form::WriteWord, 0xD0, b"\x00\x01"),
+    (6, 0x41, Form::WriteWord, 0x21, b"\x99\x11"),
+    (7, 0x40, Form::ReadWord, 0x79, b""),
+    (8, 0x40, Form::ReadByte, 0xFD, b""),
+    (9, 0x41, Form::ProcessCall, 0xD1, b"\x12\x34"),
+    (10, 0x40, Form::BlockWrite, 0xD2, b"\x00\xFF"),
+    (11, 0x40, Form::BlockRead, 0x99, b""),
+    (12, 0x40, Form::BlockProcessCall, 0x1A, b"\x21"),
+    (13, 0x0C, Form::Alert, 0, b""),
+];
+
+fn compare_messages(rt: &impl Abort, alloc: Global, board: &Board, program: &Program) {
+    for want in &SENT {
+        assert!(rt; sends(alloc, board, program, *want), "{want:?}");
     }
-    assert!(rt;
-        !sends(
-            alloc,
-            &board,
-            &program,
-            14,
-            (0, Form::Alert, 0, b"".as_slice())
-        )
-    );
+    assert!(rt; !sends(alloc, board, program, (14, 0, Form::Alert, 0, b"")));
+}
+
+fn compare_program(rt: &impl Abort, alloc: Global, board: &Board) -> Result<(), ProgramFault> {
+    let program = read_program(alloc, board, MESSAGES)?;
+    assert_eq!(rt; program.places(), 16);
+    compare_messages(rt, alloc, board, &program);
     Ok(())
 }
 
 #[test]
-fn jumps_and_registers(rt: HostRuntime) -> Result<(), Fail> {
-    let alloc = rt.alloc();
+fn messages(rt: HostRuntime) -> Result<(), Fail> {
+    let board = read_board(rt.alloc(), TWO)?;
+    Ok(compare_program(&rt, rt.alloc(), &board)?)
+}
+
+fn program_of(alloc: Global, text: &str) -> Result<Program, Fail> {
     let board = read_board(alloc, TWO)?;
-    let program = read_program(alloc, &board, MESSAGES)?;
+    Ok(read_program(alloc, &board, text)?)
+}
+
+fn compare_jumps(rt: &impl Abort, program: &Program) {
     assert!(rt; matches!(program.at(0), Some(Instr::Quick { otherwise: 15, .. })));
     assert!(rt; matches!(program.at(5), Some(Instr::Write { otherwise: 0, .. })));
+    assert!(rt; matches!(program.at(14), Some(Instr::End)));
+    assert!(rt; matches!(program.at(15), Some(Instr::Fail)));
+    assert!(rt; program.at(16).is_none());
+}
+
+fn compare_registers(rt: &impl Abort, program: &Program) {
     assert!(rt;
         matches!(program.at(3), Some(Instr::Receive { register, .. }) if register.index() == 7)
     );
@@ -176,22 +189,30 @@ fn jumps_and_registers(rt: HostRuntime) -> Result<(), Fail> {
     assert!(rt;
         matches!(program.at(13), Some(Instr::Alert { register, .. }) if register.index() == 6)
     );
-    assert!(rt; matches!(program.at(14), Some(Instr::End)));
-    assert!(rt; matches!(program.at(15), Some(Instr::Fail)));
-    assert!(rt; program.at(16).is_none());
-    Ok(())
 }
 
 #[test]
-fn plain_lines(rt: HostRuntime) -> Result<(), Fail> {
-    let alloc = rt.alloc();
-    let board = read_board(alloc, TWO)?;
-    let program = read_program(
-        alloc,
-        &board,
-        "x:\nifalert x\nset r0 0xFfFf\nadd r1 65535\nif r2 0x0840 0 x\nabove r3 4441 x\ncount c2 1000\nagain c3 x\nwait 10000000\ngoto x\nfail",
-    )?;
-    assert!(rt; matches!(program.at(0), Some(Instr::IfAlert { jump: 0 })));
+fn jumps_and_registers(rt: HostRuntime) -> Result<(), Fail> {
+    let program = program_of(rt.alloc(), MESSAGES)?;
+    compare_jumps(&rt, &program);
+    compare_registers(&rt, &program);
+    Ok(())
+}
+
+/// Each line that sends no message.
+const PLAIN: &str = "x:
+ifalert x
+set r0 0xFfFf
+add r1 65535
+if r2 0x0840 0 x
+above r3 4441 x
+count c2 1000
+again c3 x
+wait 10000000
+goto x
+fail";
+
+fn compare_numbers(rt: &impl Abort, program: &Program) {
     assert!(rt;
         matches!(program.at(1), Some(Instr::Set { register, value: 65535 }) if register.index() == 0)
     );
@@ -199,29 +220,42 @@ fn plain_lines(rt: HostRuntime) -> Result<(), Fail> {
         matches!(program.at(2), Some(Instr::Add { register, value: 65535 }) if register.index() == 1)
     );
     assert!(rt;
+        matches!(program.at(5), Some(Instr::Count { counter, value: 1000 }) if counter.index() == 2)
+    );
+    assert!(rt; matches!(program.at(7), Some(Instr::Wait { ticks: 10_000_000 })));
+    assert!(rt; matches!(program.at(9), Some(Instr::Fail)));
+}
+
+fn compare_branches(rt: &impl Abort, program: &Program) {
+    assert!(rt; matches!(program.at(0), Some(Instr::IfAlert { jump: 0 })));
+    assert!(rt;
         matches!(program.at(3), Some(Instr::If { register, mask: 0x840, value: 0, jump: 0 }) if register.index() == 2)
     );
     assert!(rt;
         matches!(program.at(4), Some(Instr::Above { register, value: 4441, jump: 0 }) if register.index() == 3)
     );
     assert!(rt;
-        matches!(program.at(5), Some(Instr::Count { counter, value: 1000 }) if counter.index() == 2)
-    );
-    assert!(rt;
         matches!(program.at(6), Some(Instr::Again { counter, jump: 0 }) if counter.index() == 3)
     );
-    assert!(rt; matches!(program.at(7), Some(Instr::Wait { ticks: 10_000_000 })));
     assert!(rt; matches!(program.at(8), Some(Instr::Goto { jump: 0 })));
-    assert!(rt; matches!(program.at(9), Some(Instr::Fail)));
-    Ok(())
 }
 
 #[test]
-fn names_of_faults(rt: HostRuntime) -> Result<(), Fail> {
-    let alloc = rt.alloc();
-    let board = read_board(alloc, TWO)?;
-    let fault = read_program(alloc, &board, "end\nx: end").err();
-    assert_eq!(rt; fault, Some(ProgramFault::UnknownWord(2)));
-    assert_eq!(rt; fault.map(|fault| fault.name()), Some("UnknownWord"));
+fn plain_lines(rt: HostRuntime) -> Result<(), Fail> {
+    let program = program_of(rt.alloc(), PLAIN)?;
+    compare_numbers(&rt, &program);
+    compare_branches(&rt, &program);
     Ok(())
+}
+
+fn fault_of(alloc: Global, text: &str) -> Result<Option<ProgramFault>, BoardFault> {
+    let board = read_board(alloc, TWO)?;
+    Ok(read_program(alloc, &board, text).err())
+}
+
+#[test]
+fn names_of_faults(rt: HostRuntime) {
+    let fault = ProgramFault::UnknownWord(2);
+    assert_eq!(rt; fault_of(rt.alloc(), "end\nx: end"), Ok(Some(fault)));
+    assert_eq!(rt; fault.name(), "UnknownWord");
 }

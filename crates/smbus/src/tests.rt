@@ -1,11 +1,15 @@
 use super::*;
-use bit_bus::{Plan, drive};
-use std::alloc::Global;
+use bit_bus::{Driven, Plan, Slot, drive};
+use std::alloc::{AllocError, Global};
 use std::process::Abort;
 use std::test::Fail;
 use wires::{Event, Sample, events};
 
-fn message_of(alloc: Global, form: Form, code: u8, out: &[u8]) -> Result<Message, Fail> {
+/// The form, the code and the bytes of a message.
+type Asked = (Form, u8, &'static [u8]);
+
+fn message_of(alloc: Global, asked: Asked) -> Result<Message, SmbusFault> {
+    let (form, code, out) = asked;
     let address = match form {
         Form::Alert => 0x0C,
         _ => 0x40,
@@ -18,184 +22,234 @@ fn message_of(alloc: Global, form: Form, code: u8, out: &[u8]) -> Result<Message
     })
 }
 
-fn answer_of(alloc: Global, value: u16, bytes: &[u8]) -> Result<Answer, Fail> {
+fn answer_of(
+    alloc: Global,
+    refuse: Option<u16>,
+    value: u16,
+    bytes: &[u8],
+) -> Result<Answer, SmbusFault> {
+    let bytes = bytes.to_vec(alloc)?;
     Ok(Answer {
         holds: Vec::new(alloc),
-        refuse: None,
+        refuse,
         value,
-        bytes: bytes.to_vec(alloc)?,
+        bytes,
         took: false,
         alerts: 0,
     })
 }
 
-/// The text of the frame that is read back, and the number of samples.
-fn on_the_wire(
-    alloc: Global,
-    message: &Message,
-    answer: &Answer,
-) -> Result<(String, usize, Option<usize>), Fail> {
+fn driven(alloc: Global, message: &Message, answer: &Answer) -> Result<Driven, Fail> {
     let slots = frame_slots(alloc, message, answer)?;
     let plan = Plan::new(slots, answer.holds.clone()?).ok_or("no plan")?;
-    let driven = drive(alloc, &plan, true)?;
-    let mut samples = Vec::new(alloc);
-    samples.push(Sample {
+    Ok(drive(alloc, &plan, true)?)
+}
+
+fn events_of(alloc: Global, samples: &[Sample]) -> Result<Vec<Event>, AllocError> {
+    let idle = Sample {
         scl: true,
         sda: true,
         alert: true,
-    })?;
-    samples.extend_from_slice(&driven.samples)?;
-    let frames = observe(alloc, &events(alloc, &samples)?)?;
-    let frame = frames.first().ok_or("no frame")?;
-    Ok((frame_text(alloc, frame)?, driven.samples.len(), driven.cut))
+    };
+    let mut levels = vec![in alloc; idle]?;
+    levels.extend_from_slice(samples)?;
+    events(alloc, &levels)
 }
 
-/// Asks for a frame and tries its text and its number of samples.
-fn shows(
-    rt: &impl Abort,
-    alloc: Global,
-    asked: (Form, u8, &[u8]),
-    returned: (u16, &[u8]),
-    wanted: (&str, usize),
-) -> Result<(), Fail> {
-    let (form, code, out) = asked;
-    let (value, bytes) = returned;
-    let (text, count) = wanted;
-    let message = message_of(alloc, form, code, out)?;
-    let answer = answer_of(alloc, value, bytes)?;
-    let (seen, samples, cut) = on_the_wire(alloc, &message, &answer)?;
-    assert_eq!(rt; seen.as_str(), text);
-    assert_eq!(rt; samples, count);
-    assert_eq!(rt; cut, None);
+/// The text of the first frame of which these are the events.
+fn first_text(alloc: Global, events: &[Event]) -> Result<String, Fail> {
+    let frames = observe(alloc, events)?;
+    let frame = frames.first().ok_or("no frame")?;
+    Ok(frame_text(alloc, frame)?)
+}
+
+/// Tries the text of the first frame.
+fn reads(rt: &impl Abort, alloc: Global, events: &[Event], want: &str) -> Result<(), Fail> {
+    let text = first_text(alloc, events)?;
+    assert_eq!(rt; text.as_str(), want);
     Ok(())
 }
 
-#[test]
-fn forms_without_a_block(rt: HostRuntime) -> Result<(), Fail> {
-    let alloc = rt.alloc();
-    let run = |asked, value, wanted| shows(&rt, alloc, asked, (value, &[]), wanted);
-    run((Form::Quick(false), 0, &[]), 0, ("S 80A P", 22))?;
-    run((Form::SendByte, 0x03, &[]), 0, ("S 80A 03A P", 40))?;
-    run((Form::ReceiveByte, 0, &[]), 0x5A, ("S 81A 5AN P", 40))?;
-    run((Form::WriteByte, 0, &[1]), 0, ("S 80A 00A 01A P", 58))?;
-    run(
+/// The text of a frame that is read back, its number of samples, and the slot in which it is cut.
+type Shown = (&'static str, usize, Option<usize>);
+
+fn compare(rt: &impl Abort, alloc: Global, driven: &Driven, want: Shown) -> Result<(), Fail> {
+    let (text, samples, cut) = want;
+    assert_eq!(rt; (driven.samples.len(), driven.cut), (samples, cut));
+    let events = events_of(alloc, &driven.samples)?;
+    reads(rt, alloc, &events, text)
+}
+
+/// Asks for a frame and tries what is read back.
+fn shows(
+    rt: &impl Abort,
+    alloc: Global,
+    asked: Asked,
+    answer: &Answer,
+    want: Shown,
+) -> Result<(), Fail> {
+    let message = message_of(alloc, asked)?;
+    let driven = driven(alloc, &message, answer)?;
+    compare(rt, alloc, &driven, want)
+}
+
+/// The same, where nothing is refused and the clock isn't held.
+fn shows_done(
+    rt: &impl Abort,
+    alloc: Global,
+    asked: Asked,
+    returned: (u16, &[u8]),
+    want: (&'static str, usize),
+) -> Result<(), Fail> {
+    let answer = answer_of(alloc, None, returned.0, returned.1)?;
+    shows(rt, alloc, asked, &answer, (want.0, want.1, None))
+}
+
+/// What is asked, the number that is read, and the text and the number of samples of the frame.
+const PLAIN: [(Asked, u16, &str, usize); 8] = [
+    ((Form::Quick(false), 0, &[]), 0, "S 80A P", 22),
+    ((Form::SendByte, 0x03, &[]), 0, "S 80A 03A P", 40),
+    ((Form::ReceiveByte, 0, &[]), 0x5A, "S 81A 5AN P", 40),
+    ((Form::WriteByte, 0, &[1]), 0, "S 80A 00A 01A P", 58),
+    (
         (Form::WriteWord, 0x21, &[0x99, 0x11]),
         0,
-        ("S 80A 21A 99A 11A P", 76),
-    )?;
-    run(
+        "S 80A 21A 99A 11A P",
+        76,
+    ),
+    (
         (Form::ReadWord, 0x79, &[]),
         0x0840,
-        ("S 80A 79A Sr 81A 40A 08N P", 97),
-    )?;
-    run(
+        "S 80A 79A Sr 81A 40A 08N P",
+        97,
+    ),
+    (
         (Form::ProcessCall, 0xD0, &[0x34, 0x12]),
         0x0840,
-        ("S 80A D0A 34A 12A Sr 81A 40A 08N P", 133),
-    )?;
-    run((Form::Alert, 0, &[]), 0x42, ("S 19A 42N P", 40))?;
+        "S 80A D0A 34A 12A Sr 81A 40A 08N P",
+        133,
+    ),
+    ((Form::Alert, 0, &[]), 0x42, "S 19A 42N P", 40),
+];
+
+#[test]
+fn forms_without_a_block(rt: HostRuntime) -> Result<(), Fail> {
+    for (asked, value, text, samples) in PLAIN {
+        shows_done(&rt, rt.alloc(), asked, (value, &[]), (text, samples))?;
+    }
     Ok(())
 }
 
 #[test]
 fn block_process_call(rt: HostRuntime) -> Result<(), Fail> {
     let asked = (Form::BlockProcessCall, 0x1A, [0x21].as_slice());
-    let wanted = ("S 80A 1AA 01A 21A Sr 81A 01A B0N P", 133);
-    shows(&rt, rt.alloc(), asked, (0, &[0xB0]), wanted)
+    let want = ("S 80A 1AA 01A 21A Sr 81A 01A B0N P", 133);
+    shows_done(&rt, rt.alloc(), asked, (0, &[0xB0]), want)
 }
 
-/// Write Byte with a byte refused or a slot held, and its frame, samples and cut.
-fn breaks(
-    rt: &impl Abort,
-    alloc: Global,
-    refuse: Option<u16>,
-    held: (u8, u16),
-    wanted: (&str, usize, Option<usize>),
-) -> Result<(), Fail> {
-    let message = message_of(alloc, Form::WriteByte, 0, &[1])?;
-    let mut answer = answer_of(alloc, 0, &[])?;
-    let (slot, hold) = held;
-    let (text, count, cut_slot) = wanted;
-    answer.refuse = refuse;
-    for _ in 0..slot {
-        answer.holds.push(0)?;
-    }
+/// The byte of a Write Byte that is refused, the slot that is held and for how many ticks.
+type Broken = (Option<u16>, usize, u16);
+
+fn broken(alloc: Global, how: Broken) -> Result<Answer, SmbusFault> {
+    let (refuse, slot, hold) = how;
+    let mut answer = answer_of(alloc, refuse, 0, &[])?;
+    answer.holds.resize(slot, 0)?;
     answer.holds.push(hold)?;
-    let (seen, samples, cut) = on_the_wire(alloc, &message, &answer)?;
-    assert_eq!(rt; seen.as_str(), text);
-    assert_eq!(rt; samples, count);
-    assert_eq!(rt; cut, cut_slot);
-    Ok(())
+    Ok(answer)
 }
+
+fn breaks(rt: &impl Abort, alloc: Global, how: Broken, want: Shown) -> Result<(), Fail> {
+    let answer = broken(alloc, how)?;
+    shows(rt, alloc, (Form::WriteByte, 0, &[1]), &answer, want)
+}
+
+const BROKEN: [(Broken, Shown); 5] = [
+    ((Some(1), 0, 0), ("S 80A 00N P", 40, None)),
+    ((None, 0, 4999), ("S 80A 00A 01A P", 5057, None)),
+    ((None, 0, 5000), ("S P", 5004, Some(0))),
+    ((None, 26, 5000), ("S 80A 00A /00000001 P", 5056, Some(26))),
+    ((None, 27, 5000), ("S 80A 00A 01A P", 5058, Some(27))),
+];
 
 #[test]
 fn refused_and_cut(rt: HostRuntime) -> Result<(), Fail> {
-    let alloc = rt.alloc();
-    let run = |refuse, held, wanted| breaks(&rt, alloc, refuse, held, wanted);
-    run(Some(1), (0, 0), ("S 80A 00N P", 40, None))?;
-    run(None, (0, 4999), ("S 80A 00A 01A P", 5057, None))?;
-    run(None, (0, 5000), ("S P", 5004, Some(0)))?;
-    run(None, (26, 5000), ("S 80A 00A /00000001 P", 5056, Some(26)))?;
-    run(None, (27, 5000), ("S 80A 00A 01A P", 5058, Some(27)))?;
+    for (how, want) in BROKEN {
+        breaks(&rt, rt.alloc(), how, want)?;
+    }
     Ok(())
 }
 
+fn slots_of(alloc: Global, asked: Asked, refuse: Option<u16>) -> Result<Vec<Slot>, SmbusFault> {
+    let message = message_of(alloc, asked)?;
+    let answer = answer_of(alloc, refuse, 0, &[])?;
+    frame_slots(alloc, &message, &answer)
+}
+
+const EMPTY: Asked = (Form::BlockWrite, 0xD0, &[]);
+
+const SHORT: Asked = (Form::WriteWord, 0x21, &[0x99]);
+
 #[test]
-fn no_slots(rt: HostRuntime) -> Result<(), Fail> {
-    let alloc = rt.alloc();
-    let mut answer = answer_of(alloc, 0, &[])?;
-    let empty = message_of(alloc, Form::BlockWrite, 0xD0, &[])?;
-    assert_eq!(rt;
-        frame_slots(alloc, &empty, &answer).err(),
-        Some(SmbusFault::BadBlock)
-    );
-    let short = message_of(alloc, Form::WriteWord, 0x21, &[0x99])?;
-    assert_eq!(rt;
-        frame_slots(alloc, &short, &answer).err(),
-        Some(SmbusFault::BadData)
-    );
-    answer.refuse = Some(3);
-    let fault = frame_slots(alloc, &empty, &answer).err();
-    assert_eq!(rt; fault, Some(SmbusFault::BadData));
+fn no_slots(rt: HostRuntime) {
+    for (asked, refuse, want) in [
+        (EMPTY, None, SmbusFault::BadBlock),
+        (SHORT, None, SmbusFault::BadData),
+        (EMPTY, Some(3), SmbusFault::BadData),
+    ] {
+        let fault = slots_of(rt.alloc(), asked, refuse).err();
+        assert_eq!(rt; fault, Some(want), "{refuse:?}");
+    }
     assert_eq!(rt; SmbusFault::BadData.number(), 3);
     assert_eq!(rt; SmbusFault::BadData.name(), "BadData");
-    Ok(())
+}
+
+const HIGH: Event = Event::Rise(true);
+
+const LOW: Event = Event::Rise(false);
+
+/// Events, and why they have no frames.
+const STRAYS: [(&[Event], Option<ObserveFault>); 6] = [
+    (&[Event::Stop], Some(ObserveFault::NotFrames(0))),
+    (&[Event::Start], Some(ObserveFault::NotFrames(1))),
+    (
+        &[Event::Start, HIGH, Event::Stop],
+        Some(ObserveFault::NotFrames(2)),
+    ),
+    (
+        &[Event::Start, LOW, Event::Start],
+        Some(ObserveFault::NotFrames(2)),
+    ),
+    (
+        &[Event::Start, HIGH, HIGH, Event::Start],
+        Some(ObserveFault::NotFrames(3)),
+    ),
+    (&[], None),
+];
+
+#[test]
+fn places_of_stray_events(rt: HostRuntime) {
+    for (events, want) in STRAYS {
+        let fault = observe(rt.alloc(), events).err();
+        assert_eq!(rt; fault, want, "{events:?}");
+    }
+    assert_eq!(rt; ObserveFault::NotFrames(3).number(), 2);
+    assert_eq!(rt; ObserveFault::NotFrames(3).name(), "NotFrames");
+}
+
+/// A frame of two segments with no byte.
+const BARE: [Event; 5] = [Event::Start, HIGH, Event::Start, LOW, Event::Stop];
+
+/// The address and the direction of the first segment.
+fn first_address(alloc: Global) -> Result<Option<(Option<u8>, Option<bool>)>, ObserveFault> {
+    let frames = observe(alloc, &BARE)?;
+    let segment = frames.first().and_then(|frame| frame.segments.first());
+    Ok(segment.map(|segment| (segment.address(), segment.read())))
 }
 
 #[test]
-fn places_of_stray_events(rt: HostRuntime) -> Result<(), Fail> {
-    let alloc = rt.alloc();
-    let (start, stop, high, low) = (
-        Event::Start,
-        Event::Stop,
-        Event::Rise(true),
-        Event::Rise(false),
-    );
-    let place = |events: &[Event]| observe(alloc, events).err();
-    assert_eq!(rt; place(&[stop]), Some(ObserveFault::NotFrames(0)));
-    assert_eq!(rt; place(&[start]), Some(ObserveFault::NotFrames(1)));
-    assert_eq!(rt;
-        place(&[start, high, stop]),
-        Some(ObserveFault::NotFrames(2))
-    );
-    assert_eq!(rt;
-        place(&[start, low, start]),
-        Some(ObserveFault::NotFrames(2))
-    );
-    assert_eq!(rt;
-        place(&[start, high, high, start]),
-        Some(ObserveFault::NotFrames(3))
-    );
-    assert_eq!(rt; place(&[]), None);
-    assert_eq!(rt; ObserveFault::NotFrames(3).number(), 2);
-    assert_eq!(rt; ObserveFault::NotFrames(3).name(), "NotFrames");
-    let frames = observe(alloc, &[start, high, start, low, stop])?;
-    let frame = frames.first().ok_or("no frame")?;
-    assert_eq!(rt; frame_text(alloc, frame)?.as_str(), "S Sr P");
-    let empty = frame.segments.first().ok_or("no segment")?;
-    assert_eq!(rt; empty.address(), None);
-    assert_eq!(rt; empty.read(), None);
-    Ok(())
+fn empty_segments(rt: HostRuntime) -> Result<(), Fail> {
+    assert_eq!(rt; first_address(rt.alloc()), Ok(Some((None, None))));
+    reads(&rt, rt.alloc(), &BARE, "S Sr P")
 }
 
 #[test]

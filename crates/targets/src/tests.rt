@@ -2,6 +2,7 @@ use super::*;
 use board::{Board, BoardFault, read_board};
 use smbus::{Answer, Form, Message};
 use std::alloc::Global;
+use std::process::Abort;
 
 const TARGET_A: &str = "[[target]]\nname = \"a\"\naddress = 0x40\n";
 
@@ -78,21 +79,15 @@ fn message_of(alloc: Global, form: Form, code: u8, out: &[u8]) -> Result<Message
     })
 }
 
-fn answer_of(
-    alloc: Global,
-    refuse: Option<u16>,
-    value: u16,
-    bytes: &[u8],
-) -> Result<Answer, BoardFault> {
-    let bytes = bytes.to_vec(alloc)?;
-    Ok(Answer {
+fn answer_of(alloc: Global, refuse: Option<u16>, value: u16) -> Answer {
+    Answer {
         holds: Vec::new(alloc),
         refuse,
         value,
-        bytes,
+        bytes: Vec::new(alloc),
         took: false,
         alerts: 0,
-    })
+    }
 }
 
 /// What an answer to a write says: the byte of the controller that it refuses, the slot in which it
@@ -101,7 +96,7 @@ type Said = (Option<u16>, Option<usize>, bool);
 
 fn write_answer(alloc: Global, said: Said) -> Result<Answer, BoardFault> {
     let (refuse, slot, took) = said;
-    let mut answer = answer_of(alloc, refuse, 0, &[])?;
+    let mut answer = answer_of(alloc, refuse, 0);
     if let Some(slot) = slot {
         answer.holds.resize(slot, 0)?;
         answer.holds.push(5000)?;
@@ -178,7 +173,7 @@ fn respond_on(
 ) -> Result<Responded, BoardFault> {
     let state = state_of(alloc, &[0, 0], &[0, 0], alerting)?;
     let message = message_of(alloc, Form::Alert, 0, &[])?;
-    let answer = answer_of(alloc, refuse, value, &[])?;
+    let answer = answer_of(alloc, refuse, value);
     let is_fitting = fits(board, &state, Some(&message), &answer);
     let (new, outcome) = after(alloc, board, &state, Some(&message), &answer)?;
     Ok((is_fitting, new.alerting, outcome))
@@ -208,7 +203,8 @@ fn may_return_on(
     let (form, code, out) = asked;
     let state = state_of(alloc, &[1, 0], &[0, 0], 0)?;
     let message = message_of(alloc, form, code, out)?;
-    let answer = answer_of(alloc, None, value, bytes)?;
+    let mut answer = answer_of(alloc, None, value);
+    answer.bytes.extend_from_slice(bytes)?;
     Ok(fits(board, &state, Some(&message), &answer))
 }
 
@@ -248,7 +244,18 @@ const RESPONSES: [(u16, Option<u16>, u16, Responded); 5] = [
 fn lowest_address_answers_the_alert(rt: HostRuntime) {
     for (alerting, refuse, value, want) in RESPONSES {
         let responded = respond(rt.alloc(), alerting, refuse, value);
-        assert_eq!(rt; responded, Ok(want), "{alerting} {value}");
+        assert_eq!(rt; responded, Ok(want), "{alerting} {refuse:?} {value}");
+    }
+}
+
+/// The stored protection, the value that is written, what the answer says, and the page then.
+type Write = (u8, u8, Said, u8);
+
+/// Every answer fits, and every write ends so.
+fn assert_writes(rt: &impl Abort, alloc: Global, writes: &[Write], outcome: Outcome) {
+    for &(protect, value, said, page) in writes {
+        let written = page_write(alloc, protect, value, said);
+        assert_eq!(rt; written, Ok((true, Some(page), outcome)), "{said:?}");
     }
 }
 
@@ -257,35 +264,36 @@ const DONE: Said = (None, None, false);
 
 #[test]
 fn acknowledged_writes_take_effect(rt: HostRuntime) {
-    for (protect, value, page) in [(0x00, 1, 1), (0x80, 1, 0), (0x00, 5, 0), (0x00, 0xFF, 0xFF)] {
-        let written = page_write(rt.alloc(), protect, value, DONE);
-        let want = (true, Some(page), Outcome::Done(0));
-        assert_eq!(rt; written, Ok(want), "{protect} {value}");
-    }
+    let writes = [
+        (0x00, 1, DONE, 1),
+        (0x80, 1, DONE, 0),
+        (0x00, 5, DONE, 0),
+        (0x00, 0xFF, DONE, 0xFF),
+    ];
+    assert_writes(&rt, rt.alloc(), &writes, Outcome::Done(0));
 }
 
 #[test]
 fn refused_values_may_be_taken(rt: HostRuntime) {
-    for (number, took, page) in [(2, true, 1), (2, false, 0), (1, true, 0), (1, false, 0)] {
-        let written = page_write(rt.alloc(), 0, 1, (Some(number), None, took));
-        let want = (true, Some(page), Outcome::NotAcknowledged);
-        assert_eq!(rt; written, Ok(want), "{number} {took}");
-    }
+    let writes = [
+        (0, 1, (Some(2), None, true), 1),
+        (0, 1, (Some(2), None, false), 0),
+        (0, 1, (Some(1), None, true), 0),
+        (0, 1, (Some(1), None, false), 0),
+    ];
+    assert_writes(&rt, rt.alloc(), &writes, Outcome::NotAcknowledged);
 }
 
 #[test]
 fn cut_values_may_be_taken(rt: HostRuntime) {
-    for (slot, took, page) in [
-        (27, true, 1),
-        (26, true, 1),
-        (26, false, 0),
-        (25, true, 0),
-        (25, false, 0),
-    ] {
-        let written = page_write(rt.alloc(), 0, 1, (None, Some(slot), took));
-        let want = (true, Some(page), Outcome::TimedOut);
-        assert_eq!(rt; written, Ok(want));
-    }
+    let writes = [
+        (0, 1, (None, Some(27), true), 1),
+        (0, 1, (None, Some(26), true), 1),
+        (0, 1, (None, Some(26), false), 0),
+        (0, 1, (None, Some(25), true), 0),
+        (0, 1, (None, Some(25), false), 0),
+    ];
+    assert_writes(&rt, rt.alloc(), &writes, Outcome::TimedOut);
 }
 
 const PAGE: Asked = (Form::ReadByte, 0x00, &[]);
@@ -308,6 +316,6 @@ const READS: [(Asked, u16, &[u8], bool); 6] = [
 fn reads_lie_in_their_ranges(rt: HostRuntime) {
     for (asked, value, bytes, want) in READS {
         let is_allowed = may_return(rt.alloc(), asked, value, bytes);
-        assert_eq!(rt; is_allowed, Ok(want));
+        assert_eq!(rt; is_allowed, Ok(want), "{asked:?} {value} {bytes:?}");
     }
 }
