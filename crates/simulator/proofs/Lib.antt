@@ -21,3 +21,5 @@ pub mod FrontBytes
 pub mod StepDoing
 pub mod TakenStep
 pub mod WorkedDefinitions
+pub mod EndingProgram
+pub mod EnablingProgram

@@ -1,5 +1,5 @@
--- A step that sends a message: OPERATION is written to the first target of a board.
-use Rattle.std.proofs.Common.{◌≡◌, ◌≤◌, ◌<◌, inl, inr, ℕ, Bool, false, Some, None, List, [], ◌∷◌, length, slice_get, IfSome, IsTrue, refl, sym, ap, ◌∙◌, arith, lit≤, lit<}
+-- A step that sends a message: a value is written to OPERATION of a target.
+use Rattle.std.proofs.Common.{◌≡◌, ◌≤◌, ◌<◌, inl, inr, ℕ, Bool, false, Some, None, List, [], ◌∷◌, slice_get, IfSome, IsTrue, refl, sym, ap, ◌∙◌, arith, lit≤, lit<}
 use Rattle.std.proofs.lemmas.List.Elements.{All-nil, All-from_recursion}
 use Rattle.smbus.specs.declared.message.Form.TheVariants.{WriteByte}
 use Rattle.smbus.specs.Asked.{Asked}
@@ -20,45 +20,45 @@ use Rattle.seq_program.specs.declared.instr.Instr.TheVariants as instr
 use Rattle.seq_program.specs.declared.instr.Written.TheVariants as written
 use Rattle.seq_program.specs.Messages.{message_of}
 use Rattle.seq_program.specs.Valid.{IsInstr, IsProgram, jump_in}
-use Rattle.simulator.specs.Machines.{start_at}
+use Rattle.simulator.specs.Machines.{Machine, Entry, start_at}
 use Rattle.simulator.specs.Moves.{moved}
-use Rattle.simulator.specs.Steps.{entry_of}
+use Rattle.simulator.specs.Steps.{entry_of, IsStep}
 use Rattle.simulator.specs.StepLaws.{SomeStepIsTaken}
 use Rattle.simulator.proofs.SeenSteps.{starts_are_ready}
 use Rattle.simulator.proofs.WireAnswers.{target_there}
 
--- the program turns off by OPERATION, and ends
-abbrev off : Instr ℕ
-off = instr.Write 0 operation_code (written.Byte 0) 1
+-- the program writes a value to OPERATION of a target, and ends
+abbrev pub writing : ℕ → ℕ → Instr ℕ
+writing i value = instr.Write i operation_code (written.Byte value) 1
 
-abbrev program : List (Instr ℕ)
-program = off ∷ instr.End ∷ []
+abbrev pub writing_program : ℕ → ℕ → List (Instr ℕ)
+writing_program i value = writing i value ∷ instr.End ∷ []
 
-is_off : IsTrue (takes_form operation_code WriteByte)
+takes_byte : IsTrue (takes_form operation_code WriteByte)
 unfolding table
-is_off = refl
+takes_byte = refl
 
-is_program : IsProgram program
-is_program = record {
+pub is_program : (i value : ℕ) → value ≤ 255 → IsProgram (writing_program i value)
+is_program i value small = record {
   some = lit≤ tt;
   few = lit≤ tt;
-  each = All-from_recursion (λ (i : Instr ℕ). IsInstr i) program ((is_off, omega arith), (tt, tt));
-  jumps = All-from_recursion (λ (i : Instr ℕ). IfSome (jump_in i) (λ place. place < length program)) program (lit< tt, (tt, tt));
+  each = All-from_recursion (λ (x : Instr ℕ). IsInstr x) (writing_program i value) ((takes_byte, small), (tt, tt));
+  jumps = All-from_recursion (λ (x : Instr ℕ). IfSome (jump_in x) (λ place. place < 2)) (writing_program i value) (lit< tt, (tt, tt));
   last = refl;
 }
 
 -- its message, and an answer that acknowledges each byte
-abbrev message : Target → Asked
-message t = record { address = t.address; form = WriteByte; code = operation_code; out = 0 ∷ [] }
+abbrev pub message : Target → ℕ → Asked
+message t value = record { address = t.address; form = WriteByte; code = operation_code; out = value ∷ [] }
 
-abbrev answer : Answered
+abbrev pub answer : Answered
 answer = record { holds = []; refuse = None; value = 0; bytes = []; took = false; alerts = 0 }
 
-sent : (b : Board) (t : Target) (regs : List ℕ) → slice_get b.targets 0 ≡ Some t → message_of b off regs ≡ Some (message t)
-sent b t regs at = rw at refl
+pub sent : (b : Board) (i value : ℕ) (t : Target) (regs : List ℕ) → slice_get b.targets i ≡ Some t → message_of b (writing i value) regs ≡ Some (message t value)
+sent b i value t regs at = rw at refl
 
-fits : (b : Board) (s : BusState) (t : Target) → Fits b s (message t) answer
-fits b s t = record {
+fits : (b : Board) (s : BusState) (t : Target) (value : ℕ) → Fits b s (message t value) answer
+fits b s t value = record {
   alerts = λ i on. absurd (no_bit i on);
   few_holds = omega arith;
   holds = All-nil (λ hold. hold ≤ largest_stretch b.targets);
@@ -67,50 +67,59 @@ fits b s t = record {
 }
 
 -- the targets' state stays as it was
-no_write : (code : ℕ) (is_value : Target → ℕ → Bool) (b : Board) (s : BusState) (t : Target) (i value : ℕ) → (code ≡ operation_code → ⊥) → Writes code is_value b s (Some (message t)) answer i value → ⊥
-no_write code is_value b s t i value other w =
-    let same : message t ≡ w.asked = cc in
+no_write : (code : ℕ) (is_value : Target → ℕ → Bool) (b : Board) (s : BusState) (t : Target) (value i v : ℕ) → (code ≡ operation_code → ⊥) → Writes code is_value b s (Some (message t value)) answer i v → ⊥
+no_write code is_value b s t value i v other w =
+    let same : message t value ≡ w.asked = cc in
     other (sym w.is_write.command ∙ sym (ap (λ (m : Asked). m.code) same))
 
-no_stop : (b : Board) (s : BusState) (t : Target) (i : ℕ) → StopsAlerting b s (Some (message t)) answer i → ⊥
-no_stop b s t i stop = let same : message t ≡ stop.asked = cc in let form = ap (λ (m : Asked). m.form) same in let is = stop.is_response in cc
+no_stop : (b : Board) (s : BusState) (t : Target) (value i : ℕ) → StopsAlerting b s (Some (message t value)) answer i → ⊥
+no_stop b s t value i stop = let same : message t value ≡ stop.asked = cc in let form = ap (λ (m : Asked). m.form) same in let is = stop.is_response in cc
 
-unchanged : (b : Board) (s : BusState) (t : Target) → IsAfter b s (Some (message t)) answer s
-unchanged b s t = record {
+unchanged : (b : Board) (s : BusState) (t : Target) (value : ℕ) → IsAfter b s (Some (message t value)) answer s
+unchanged b s t value = record {
   pages = refl;
   protects = refl;
-  page = λ i lt. inr (λ v w. no_write _ _ b s t i v (λ e. cc) w, refl);
-  protect = λ i lt. inr (λ v w. no_write _ _ b s t i v (λ e. cc) w, refl);
-  alerting = λ i. (λ on. inr (on, no_stop b s t i), alerts i);
+  page = λ i lt. inr (λ v w. no_write _ _ b s t value i v (λ e. cc) w, refl);
+  protect = λ i lt. inr (λ v w. no_write _ _ b s t value i v (λ e. cc) w, refl);
+  alerting = λ i. (λ on. inr (on, no_stop b s t value i), alerts i);
 }
   where
-    alerts : (i : ℕ) → AlertsAfter b s (Some (message t)) answer i → Alerts s i
+    alerts : (i : ℕ) → AlertsAfter b s (Some (message t value)) answer i → Alerts s i
     alerts i (inl on) = absurd (no_bit i on)
     alerts i (inr stays) = stays.0
 
+-- its first step
+abbrev pub first_entry : BusState → ℕ → ℕ → Target → Entry
+first_entry s i value t = entry_of (writing i value) (Some (message t value)) answer (start_at s)
+
+abbrev pub second : BusState → ℕ → ℕ → Target → Machine
+second s i value t = moved (writing i value) (Some (message t value)) (outcome_of (Some (message t value)) answer) s (start_at s)
+
+pub first_step : (b : Board) (s : BusState) (i value : ℕ) (t : Target) → slice_get b.targets i ≡ Some t
+    → IsStep b (writing_program i value) (start_at s) answer (first_entry s i value t) (second s i value t)
+first_step b s i value t at = record {
+  running = refl;
+  instr = writing i value;
+  here = refl;
+  step = rw (sent b i value t (start_at s).regs at) (record { fits = fits b s t value; bus = unchanged b s t value; next_is = refl; entry_is = refl });
+}
+
 taken : StartsBelong → (c : SomeCase) (t : Target) → slice_get c.board.targets 0 ≡ Some t → SomeStepIsTaken
-taken starts c t at =
-    let m = start_at c.state in
-    let asked = sent c.board t m.regs at in
-    record {
-      board = c.board;
-      program = program;
-      machine = m;
-      answer = answer;
-      entry = entry_of off (Some (message t)) answer m;
-      next = moved off (Some (message t)) (outcome_of (Some (message t)) answer) c.state m;
-      is_board = c.is_board;
-      is_program = is_program;
-      ready = starts_are_ready starts c.board program c.state c.is_board is_program c.is_start;
-      step = record {
-        running = refl;
-        instr = off;
-        here = refl;
-        step = rw asked (record { fits = fits c.board c.state t; bus = unchanged c.board c.state t; next_is = refl; entry_is = refl });
-      };
-      message = message t;
-      sends = asked;
-    }
+unfolding first_step
+taken starts c t at = record {
+  board = c.board;
+  program = writing_program 0 0;
+  machine = start_at c.state;
+  answer = answer;
+  entry = first_entry c.state 0 0 t;
+  next = second c.state 0 0 t;
+  is_board = c.is_board;
+  is_program = is_program 0 0 (omega arith);
+  ready = starts_are_ready starts c.board (writing_program 0 0) c.state c.is_board (is_program 0 0 (omega arith)) c.is_start;
+  step = first_step c.board c.state 0 0 t at;
+  message = message t 0;
+  sends = sent c.board 0 0 t (start_at c.state).regs at;
+}
 
 pub some_step_is_taken : StartsBelong → SomeCase → SomeStepIsTaken
 some_step_is_taken starts c = let first = target_there c.board.targets 0 (omega (arith, c.is_board.one_target)) in taken starts c first.0 first.1

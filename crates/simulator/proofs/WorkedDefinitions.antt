@@ -64,7 +64,7 @@ done_out m a done =
     ∙ ap (λ (refuse : Option ℕ). bytes_to refuse (message_bytes m a)) done.accepted
 
 -- so a Write Byte to OPERATION that is done is seen to write its value
-writes_operation : (b : Board) (s : BusState) (m : Asked) (a : Answered) (e : Entry) (i value : ℕ) (t : Target) → StepDoes b s (Some m) a e
+pub writes_operation : (b : Board) (s : BusState) (m : Asked) (a : Answered) (e : Entry) (i value : ℕ) (t : Target) → StepDoes b s (Some m) a e
     → IsTargetAt b i t → IsByteWrite t.address operation_code value m → IsDone m a → BeginsWith e.samples (write_to t ∷ operation_code ∷ value ∷ [])
 writes_operation b s m a e i value t does at is done =
     let one : length m.out ≡ 1 = ap length is.content in

@@ -11,6 +11,7 @@ pub mod Allowed
 pub mod Reports
 pub mod Safe
 pub mod Headline
+pub mod SmallPrograms
 pub mod StepDoes
 pub mod StepLaws
 pub mod RunLaws

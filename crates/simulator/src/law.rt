@@ -1,6 +1,7 @@
 ghost use Rattle.simulator.specs.Does.{EntriesDoAsAsked};
 ghost use Rattle.simulator.specs.EntryLaws.{EntriesReadBack, IdleReadsBack, JoinedReadBack};
 ghost use Rattle.simulator.specs.RunLaws.{RunsAreSeen};
+ghost use Rattle.simulator.specs.SmallPrograms.{EndingIsSafe, EnablingAtOnceIsUnsafe};
 ghost use Rattle.simulator.specs.StepLaws.{StepsAreSeen, StartsAreReady, SomeStepIsTaken};
 
 use targets::{some_answer_fits, states_belong};
@@ -37,4 +38,15 @@ pub fn runs_are_seen()
 {
     entries_read_back();
     steps_are_seen();
+}
+
+/// What the checker is to promise of every run is told from two small programs: it holds of one that only
+/// ends, and not of one that turns on a rail whose needs were never reported good.
+pub fn small_programs_are_judged()
+    ensures ends { EndingIsSafe }
+    ensures enables { EnablingAtOnceIsUnsafe }
+{
+    entries_read_back();
+    steps_are_seen();
+    some_answer_fits();
 }

@@ -14,7 +14,7 @@ mod trace;
 mod trace_text;
 
 pub use fault::RunFault;
-pub use law::{entries_read_back, runs_are_seen, steps_are_seen};
+pub use law::{entries_read_back, runs_are_seen, small_programs_are_judged, steps_are_seen};
 pub use machine::{Ending, Entry, Machine};
 pub use running::{Trace, run};
 pub use starting::start;
