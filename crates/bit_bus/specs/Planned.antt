@@ -1,5 +1,6 @@
 -- The slots of a frame with their holds.
-use Rattle.std.specs.Prelude.{ℕ, nat_le, Bool, true, false, not, ◌≡◌, ◌≢◌, ◌≤◌, List, [], ◌∷◌, length, map, All}
+use Rattle.std.specs.Prelude.{ℕ, nat_le, Bool, true, false, not, ◌≡◌, ◌≢◌, ◌≤◌, List, [], ◌∷◌}
+use Rattle.std.specs.Prelude.{length, map, All}
 use Rattle.std.specs.List.{list_all}
 use Rattle.bit_bus.specs.declared.plan.Slot.{Slot}
 use Rattle.bit_bus.specs.declared.plan.Slot.TheVariants.{Bit, Again, End}

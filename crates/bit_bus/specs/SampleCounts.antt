@@ -5,4 +5,6 @@ use Rattle.bit_bus.specs.Levels.{levels}
 
 -- one for the START, and for each slot at most three and its hold
 abbrev pub LevelsAreFew : Type 0
-LevelsAreFew = (alert : Bool) (longest : ℕ) (plan : List (Slot × ℕ)) → All (λ (s : Slot × ℕ). s.1 ≤ longest) plan → length (levels alert plan) ≤ 1 + length plan * (3 + longest)
+LevelsAreFew = (alert : Bool) (longest : ℕ) (plan : List (Slot × ℕ))
+    → All (λ (s : Slot × ℕ). s.1 ≤ longest) plan
+    → length (levels alert plan) ≤ 1 + length plan * (3 + longest)

@@ -1,7 +1,8 @@
 ghost use Rattle.std.specs.Prelude.{◌≡◌, ◌≤◌, ◌<◌, ◌∷◌, ◌++◌, [], Bool, true, IfOk, OnOk};
 ghost use Rattle.wires.specs.Events.{events_of};
 ghost use Rattle.bit_bus.specs.Planned.{IsPlan};
-ghost use Rattle.bit_bus.specs.Levels.{idle, low_run, whole_levels, cut_levels, levels, first_cut, EndsHigh};
+ghost use Rattle.bit_bus.specs.Levels.{idle, low_run, whole_levels, cut_levels, levels, first_cut};
+ghost use Rattle.bit_bus.specs.Levels.{EndsHigh};
 ghost use Rattle.bit_bus.specs.Word.{event_word};
 
 use crate::plan::{Plan, Slot};
@@ -15,7 +16,8 @@ pub struct Driven {
     pub cut: Option<usize>,
 }
 
-/// The longest low period of the clock, in ticks, that isn't a timeout: 25 ms (SMBus 3.2, t_TIMEOUT).
+/// The longest low period of the clock, in ticks, that isn't a timeout: 25 ms (SMBus 3.2,
+/// t_TIMEOUT).
 const LONGEST_LOW: u16 = 5000;
 
 fn push_low(samples: &mut Vec<Sample>, sda: bool, alert: bool, ticks: u16) -> Result<(), AllocError>
@@ -32,7 +34,8 @@ fn push_low(samples: &mut Vec<Sample>, sda: bool, alert: bool, ticks: u16) -> Re
 }
 
 fn push_high(samples: &mut Vec<Sample>, sda: bool, alert: bool) -> Result<(), AllocError>
-    ensures { OnOk result (samples.new.items ≡ samples.old.items ++ record { scl = true; sda = sda; alert = alert } ∷ []) }
+    ensures { OnOk result (samples.new.items
+        ≡ samples.old.items ++ record { scl = true; sda = sda; alert = alert } ∷ []) }
 {
     samples.push(Sample {
         scl: true,
@@ -108,14 +111,15 @@ fn drive_slots(alloc: Global, plan: &Plan, alert: bool) -> Result<Driven, AllocE
     Ok(Driven { samples, cut: None })
 }
 
-/// Drives SCL and SDA through a plan, with this level of the alert line throughout: a START, and then
-/// the slots in order. Where a slot's low period is over 5000 ticks it is cut by a STOP, and nothing
-/// follows. Fails only for want of memory.
+/// Drives SCL and SDA through a plan, with this level of the alert line throughout: a START, and
+/// then the slots in order. Where a slot's low period is over 5000 ticks it is cut by a STOP, and
+/// nothing follows. Fails only for want of memory.
 pub fn drive(alloc: Global, plan: &Plan, alert: bool) -> Result<Driven, AllocError>
     ensures samples { IfOk result (λ driven. driven.samples.items ≡ levels alert plan.now) }
     ensures cut { IfOk result (λ driven. driven.cut ≡ first_cut plan.now) }
     // After an idle sample they are read as the event word of the slots.
-    ensures word { IfOk result (λ driven. (before : Bool) → events_of (idle before ∷ driven.samples.items) ≡ event_word plan.now) }
+    ensures word { IfOk result (λ driven. (before : Bool)
+        → events_of (idle before ∷ driven.samples.items) ≡ event_word plan.now) }
     ensures free { IfOk result (λ driven. EndsHigh driven.samples.items) }
 {
     drive_slots(alloc, plan, alert)

@@ -1,5 +1,7 @@
-ghost use Rattle.std.specs.Prelude.{◌≡◌, ◌<◌, ◌↔◌, IsTrue, IsSome, IfSome, Some, length, slice_get, slice_index};
-ghost use Rattle.bit_bus.specs.Planned.{planned, IsPlan, EndsOnce, ends_frame, are_inside, are_short};
+ghost use Rattle.std.specs.Prelude.{◌≡◌, ◌<◌, ◌↔◌, IsTrue, IsSome, IfSome, Some, length, slice_get};
+ghost use Rattle.std.specs.Prelude.{slice_index};
+ghost use Rattle.bit_bus.specs.Planned.{planned, IsPlan, EndsOnce, ends_frame, are_inside};
+ghost use Rattle.bit_bus.specs.Planned.{are_short};
 
 use std::marker::Model;
 
@@ -14,9 +16,9 @@ pub enum Slot {
     End,
 }
 
-/// The slots of a frame, each with its hold: the number of ticks for which the clock is held low longer
-/// (UM10204, 3.1.9). There are 1 to 4096 slots, the last is the only `End`, and each hold is at most
-/// 6999.
+/// The slots of a frame, each with its hold: the number of ticks for which the clock is held low
+/// longer (UM10204, 3.1.9). There are 1 to 4096 slots, the last is the only `End`, and each hold is
+/// at most 6999.
 #[derive(Debug, Drop)]
 pub struct Plan {
     slots: Vec<Slot>,
@@ -87,8 +89,8 @@ fn hold_at(holds: &[u16], place: usize) -> u16
 }
 
 impl Plan {
-    /// The plan of these slots, or None where they can't be driven so. A missing hold is 0, and holds
-    /// past the last slot aren't looked at. Takes no memory.
+    /// The plan of these slots, or None where they can't be driven so. A missing hold is 0, and
+    /// holds past the last slot aren't looked at. Takes no memory.
     pub fn new(slots: Vec<Slot>, holds: Vec<u16>) -> Option<Plan>
         ensures valid { IsSome result ↔ IsPlan (planned slots.items holds.items) }
         ensures plan { IfSome result (λ plan. plan ≡ planned slots.items holds.items) }

@@ -1,5 +1,6 @@
 -- Each list of a board file is read in order.
-use Rattle.std.proofs.Common.{◌≡◌, ◌↔◌, ◌∙◌, ℕ, pos, List, [], ◌∷◌, ◌++◌, length, Result, Ok, Err, refl, sym, ap, subst}
+use Rattle.std.proofs.Common.{◌≡◌, ◌↔◌, ◌∙◌, ℕ, pos, List, [], ◌∷◌, ◌++◌, length, Result, Ok, Err}
+use Rattle.std.proofs.Common.{refl, sym, ap, subst}
 use Rattle.toml.specs.Data.{integer, Items, no_items, item, as_table}
 use Rattle.smbus.specs.FormWords.{form_named}
 use Rattle.texts.specs.Reading.{◌>>=◌, some_or}
@@ -11,20 +12,29 @@ use Rattle.board.specs.InOrder.{InOrder, NamedInOrder}
 use Rattle.board.specs.Entries.{allow_of, entry_from, entries_of}
 use Rattle.board.specs.Targets.{bytes_of, target_from, targets_of}
 use Rattle.board.specs.Rails.{Seat, seat_from, seats_of, need_of, needs_of, rail_with, rails_of}
-use Rattle.board.specs.OrderLaws.{list_of, byte_after, entry_after, target_after, seat_after, need_after, rail_after, receive_table, SomeListsInOrder, TargetsInOrder, EntriesInOrder, BytesInOrder, SeatsInOrder, NeedsInOrder, RailsInOrder}
+use Rattle.board.specs.OrderLaws.{list_of, byte_after, entry_after, target_after, seat_after}
+use Rattle.board.specs.OrderLaws.{need_after, rail_after, receive_table, SomeListsInOrder}
+use Rattle.board.specs.OrderLaws.{TargetsInOrder, EntriesInOrder, BytesInOrder, SeatsInOrder}
+use Rattle.board.specs.OrderLaws.{NeedsInOrder, RailsInOrder}
 use Rattle.board.proofs.Lists.{map-push}
 use Rattle.board.proofs.OrderedReading.{reads, reads_in_order}
 
 -- what reads on after one step, and after two, seen through what keeps faults
-bind_once : {B C Y F : Type 0} (seen : Result C F → Result Y F) (r : Result B F) (g : B → Result Y F) (h : B → Result C F) → ((fault : F) → seen (Err fault) ≡ Err fault) → ((b : B) → g b ≡ seen (h b)) → (r >>= g) ≡ seen (r >>= h)
+bind_once : {B C Y F : Type 0} (seen : Result C F → Result Y F) (r : Result B F)
+    (g : B → Result Y F) (h : B → Result C F) → ((fault : F) → seen (Err fault) ≡ Err fault)
+    → ((b : B) → g b ≡ seen (h b)) → (r >>= g) ≡ seen (r >>= h)
 bind_once seen (Ok b) g h keeps e = e b
 bind_once seen (Err fault) g h keeps e = sym (keeps fault)
 
-bind_twice : {M B C Y F : Type 0} (seen : Result C F → Result Y F) (o : Result M F) (f : M → Result B F) (g : B → Result Y F) (h : B → Result C F) → ((fault : F) → seen (Err fault) ≡ Err fault) → ((b : B) → g b ≡ seen (h b)) → (o >>= λ m. f m >>= g) ≡ seen ((o >>= f) >>= h)
+bind_twice : {M B C Y F : Type 0} (seen : Result C F → Result Y F) (o : Result M F)
+    (f : M → Result B F) (g : B → Result Y F) (h : B → Result C F)
+    → ((fault : F) → seen (Err fault) ≡ Err fault) → ((b : B) → g b ≡ seen (h b))
+    → (o >>= λ m. f m >>= g) ≡ seen ((o >>= f) >>= h)
 bind_twice seen (Ok m) f g h keeps e = bind_once seen (f m) g h keeps e
 bind_twice seen (Err fault) f g h keeps e = sym (keeps fault)
 
-entries_read : (done : List Allow) (items : Items) → entries_of done items ≡ reads entry_after done (list_of items)
+entries_read : (done : List Allow) (items : Items)
+    → entries_of done items ≡ reads entry_after done (list_of items)
 entries_read done no_items = refl
 entries_read done (item d ds) =
     bind_twice (λ r. r) (some_or BadKey (as_table d)) (entry_from done) _ _ (λ fault. refl)
@@ -33,25 +43,32 @@ entries_read done (item d ds) =
 pub entries_in_order : EntriesInOrder
 entries_in_order items r = rw (entries_read []) (reads_in_order entry_after (list_of items) r)
 
-bytes_read : (done : List ℕ) (items : Items) → bytes_of done items ≡ reads byte_after done (list_of items)
+bytes_read : (done : List ℕ) (items : Items)
+    → bytes_of done items ≡ reads byte_after done (list_of items)
 bytes_read done no_items = refl
-bytes_read done (item d ds) = bind_once (λ r. r) (byte_after done d) _ _ (λ fault. refl) (λ n. bytes_read (done ++ n ∷ []) ds)
+bytes_read done (item d ds) =
+    bind_once (λ r. r) (byte_after done d) _ _ (λ fault. refl) (λ n. bytes_read (done ++ n ∷ []) ds)
 
 pub bytes_in_order : BytesInOrder
 bytes_in_order items r = rw (bytes_read []) (reads_in_order byte_after (list_of items) r)
 
-needs_read : (names : List (List ℕ)) (rail : ℕ) (done : List ℕ) (items : Items) → needs_of names rail done items ≡ reads (need_after names rail) done (list_of items)
+needs_read : (names : List (List ℕ)) (rail : ℕ) (done : List ℕ) (items : Items)
+    → needs_of names rail done items ≡ reads (need_after names rail) done (list_of items)
 needs_read names rail done no_items = refl
 needs_read names rail done (item d ds) =
-    bind_once (λ r. r) (need_of names rail d) _ _ (λ fault. refl) (λ n. needs_read names rail (done ++ n ∷ []) ds)
+    bind_once (λ r. r) (need_of names rail d) _ _ (λ fault. refl)
+    (λ n. needs_read names rail (done ++ n ∷ []) ds)
 
 pub needs_in_order : NeedsInOrder
-needs_in_order names rail items r = rw (needs_read names rail []) (reads_in_order (need_after names rail) (list_of items) r)
+needs_in_order names rail items r =
+    rw (needs_read names rail []) (reads_in_order (need_after names rail) (list_of items) r)
 
-rails_read : (names : List (List ℕ)) (done : List Rail) (seats : List Seat) → rails_of names done seats ≡ reads (rail_after names) done seats
+rails_read : (names : List (List ℕ)) (done : List Rail) (seats : List Seat)
+    → rails_of names done seats ≡ reads (rail_after names) done seats
 rails_read names done [] = refl
 rails_read names done (s ∷ seats) =
-    bind_twice (λ r. r) (needs_of names (length done) [] s.needs) (λ needs. Ok (rail_with s needs)) _ _ (λ fault. refl)
+    bind_twice (λ r. r) (needs_of names (length done) [] s.needs)
+    (λ needs. Ok (rail_with s needs)) _ _ (λ fault. refl)
     (λ rail. rails_read names (done ++ rail ∷ []) seats)
 
 pub rails_in_order : RailsInOrder
@@ -62,40 +79,53 @@ abbrev in_names : {A F : Type 0} → Result (List (List ℕ × A)) F → Result 
 in_names (Ok pairs) = Ok (named_of pairs)
 in_names (Err fault) = Err fault
 
-named_of-push : {A : Type 0} (pairs : List (List ℕ × A)) (p : List ℕ × A) → with_item p.0 p.1 (named_of pairs) ≡ named_of (pairs ++ p ∷ [])
-named_of-push {A = A} pairs p = rw (map-push (λ (q : List ℕ × A). q.0) pairs p, map-push (λ (q : List ℕ × A). q.1) pairs p) refl
+named_of-push : {A : Type 0} (pairs : List (List ℕ × A)) (p : List ℕ × A)
+    → with_item p.0 p.1 (named_of pairs) ≡ named_of (pairs ++ p ∷ [])
+named_of-push {A = A} pairs p =
+    rw (map-push (λ (q : List ℕ × A). q.0) pairs p, map-push (λ (q : List ℕ × A). q.1) pairs p) refl
 
-named_in_order : {D A F : Type 0} (read : List (List ℕ × A) → D → Result (List ℕ × A) F) (ds : List D) (r : Result (Named A) F) → (in_names (reads read [] ds) ≡ r) ↔ NamedInOrder read ds r
+named_in_order : {D A F : Type 0} (read : List (List ℕ × A) → D → Result (List ℕ × A) F)
+    (ds : List D) (r : Result (Named A) F)
+    → (in_names (reads read [] ds) ≡ r) ↔ NamedInOrder read ds r
 named_in_order {D = D} {A = A} {F = F} read ds r = (
-  λ e. subst (NamedInOrder read ds) e (seen (reads read [] ds) ((reads_in_order read ds (reads read [] ds)).0 refl)),
+  λ e. subst (NamedInOrder read ds) e
+      (seen (reads read [] ds) ((reads_in_order read ds (reads read [] ds)).0 refl)),
   unseen r,
 )
   where
-    seen : (x : Result (List (List ℕ × A)) F) → InOrder read ds x → NamedInOrder read ds (in_names x)
+    seen : (x : Result (List (List ℕ × A)) F) → InOrder read ds x
+        → NamedInOrder read ds (in_names x)
     seen (Ok pairs) a = record { pairs = pairs; is = refl; values = a }
     seen (Err fault) f = f
 
     unseen : (r : Result (Named A) F) → NamedInOrder read ds r → in_names (reads read [] ds) ≡ r
-    unseen (Ok named) a = ap in_names ((reads_in_order read ds (Ok a.pairs)).1 a.values) ∙ ap Ok (sym a.is)
+    unseen (Ok named) a =
+        ap in_names ((reads_in_order read ds (Ok a.pairs)).1 a.values) ∙ ap Ok (sym a.is)
     unseen (Err fault) f = ap in_names ((reads_in_order read ds (Err fault)).1 f)
 
-targets_read : (done : List (List ℕ × Target)) (items : Items) → targets_of (named_of done) items ≡ in_names (reads target_after done (list_of items))
+targets_read : (done : List (List ℕ × Target)) (items : Items)
+    → targets_of (named_of done) items ≡ in_names (reads target_after done (list_of items))
 targets_read done no_items = refl
 targets_read done (item d ds) =
-    bind_twice in_names (some_or BadKey (as_table d)) (target_from (named_of done)) _ _ (λ fault. refl)
+    bind_twice in_names (some_or BadKey (as_table d)) (target_from (named_of done)) _ _
+    (λ fault. refl)
     (λ t. rw (named_of-push done t) (targets_read (done ++ t ∷ []) ds))
 
 pub targets_in_order : TargetsInOrder
 targets_in_order items r = rw (targets_read []) (named_in_order target_after (list_of items) r)
 
-seats_read : (targets : Named Target) (done : List (List ℕ × Seat)) (items : Items) → seats_of targets (named_of done) items ≡ in_names (reads (seat_after targets) done (list_of items))
+seats_read : (targets : Named Target) (done : List (List ℕ × Seat)) (items : Items)
+    → seats_of targets (named_of done) items
+    ≡ in_names (reads (seat_after targets) done (list_of items))
 seats_read targets done no_items = refl
 seats_read targets done (item d ds) =
-    bind_twice in_names (some_or BadKey (as_table d)) (seat_from targets (named_of done)) _ _ (λ fault. refl)
+    bind_twice in_names (some_or BadKey (as_table d)) (seat_from targets (named_of done)) _ _
+    (λ fault. refl)
     (λ s. rw (named_of-push done s) (seats_read targets (done ++ s ∷ []) ds))
 
 pub seats_in_order : SeatsInOrder
-seats_in_order targets items r = rw (seats_read targets []) (named_in_order (seat_after targets) (list_of items) r)
+seats_in_order targets items r =
+    rw (seats_read targets []) (named_in_order (seat_after targets) (list_of items) r)
 
 -- the second of two equal entries has a name that was there
 same_entry_twice : entries_of [] (item receive_table (item receive_table no_items)) ≡ Err SameName
@@ -104,6 +134,10 @@ same_entry_twice = refl
 
 pub some_lists_in_order : SomeListsInOrder
 some_lists_in_order = record {
-  bytes = (bytes_in_order (item (integer (pos 7)) (item (integer (pos 9)) no_items)) (Ok (7 ∷ 9 ∷ []))).0 refl;
-  entries = (entries_in_order (item receive_table (item receive_table no_items)) (Err SameName)).0 same_entry_twice;
+  bytes =
+      (bytes_in_order (item (integer (pos 7)) (item (integer (pos 9)) no_items))
+      (Ok (7 ∷ 9 ∷ []))).0 refl;
+  entries =
+      (entries_in_order (item receive_table (item receive_table no_items)) (Err SameName)).0
+      same_entry_twice;
 }

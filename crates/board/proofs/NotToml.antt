@@ -1,25 +1,32 @@
 -- The fault Toml comes from the text alone, and never from the tree of a text that was read.
-use Rattle.std.proofs.Common.{◌≡◌, ◌≢◌, ℕ, List, [], ◌∷◌, ◌++◌, Bool, true, false, cond, rules, Option, Some, None, option_map, Result, Ok, Err}
+use Rattle.std.proofs.Common.{◌≡◌, ◌≢◌, ℕ, List, [], ◌∷◌, ◌++◌, Bool, true, false, cond, rules}
+use Rattle.std.proofs.Common.{Option, Some, None, option_map, Result, Ok, Err}
 use Rattle.toml.specs.Data.{Data, Items, no_items, item, Members}
 use Rattle.texts.specs.Reading.{◌>>=◌, some_or, value_if}
 use Rattle.smbus.specs.declared.message.Form.{Form}
 use Rattle.smbus.specs.FormWords.{carries_code}
 use Rattle.board.specs.declared.fault.BoardFault.{BoardFault}
-use Rattle.board.specs.declared.fault.BoardFault.TheVariants.{Memory, Toml, MissingKey, BadAddress, SameAddress, SameName, TooMany, BadExponent, BadRange, UnknownCommand, UnknownNeed, BadStart, BadStretch, SelfNeed, BadRail, BadKey}
+use Rattle.board.specs.declared.fault.BoardFault.TheVariants.{Memory, Toml, MissingKey, BadAddress}
+use Rattle.board.specs.declared.fault.BoardFault.TheVariants.{SameAddress, SameName, TooMany}
+use Rattle.board.specs.declared.fault.BoardFault.TheVariants.{BadExponent, BadRange, UnknownCommand}
+use Rattle.board.specs.declared.fault.BoardFault.TheVariants.{UnknownNeed, BadStart, BadStretch}
+use Rattle.board.specs.declared.fault.BoardFault.TheVariants.{SelfNeed, BadRail, BadKey}
 use Rattle.board.specs.declared.targets.Numbers.{Numbers}
 use Rattle.board.specs.Boards.{Allow, Target, Rail, Board}
 use Rattle.std.specs.Result.{IsErrAnd}
 use Rattle.board.specs.Keys.{Key, keyed}
 use Rattle.board.specs.Named.{Named, with_item}
 use Rattle.board.specs.Entries.{command_at, command_for, allow_of, entry_from, entries_of}
-use Rattle.board.specs.Targets.{new_name, new_address, numbers_of, bytes_of, start_pages_of, start_protects_of, target_with, target_from, targets_of}
+use Rattle.board.specs.Targets.{new_name, new_address, numbers_of, bytes_of, start_pages_of}
+use Rattle.board.specs.Targets.{start_protects_of, target_with, target_from, targets_of}
 use Rattle.board.specs.Rails.{Seat, seat_from, seats_of, need_of, needs_of, rails_of, rail_with}
 use Rattle.board.specs.Files.{counted, board_of}
 
 pub record NotToml {A : Type 0} (r : Result A BoardFault) : Type 0 where
   pub differs : r ≢ Err Toml
 
-then : {A B : Type 0} (r : Result A BoardFault) (f : A → Result B BoardFault) → NotToml r → ((x : A) → NotToml (f x)) → NotToml (r >>= f)
+then : {A B : Type 0} (r : Result A BoardFault) (f : A → Result B BoardFault) → NotToml r
+    → ((x : A) → NotToml (f x)) → NotToml (r >>= f)
 then (Ok x) f n k = k x
 then (Err d) f n k = record { differs = λ e. n.differs cc }
 
@@ -83,7 +90,8 @@ keyed_not needed optional ms = search (rules, then, if, bad_key, missing_key)
 command_not : (f : Form) (ms : Members) → NotToml (command_for f ms)
 command_not f ms = by (carries_code f)
   where
-    by : (b : Bool) → NotToml (cond b (some_or UnknownCommand (option_map Some (command_at f ms))) (Ok None))
+    by : (b : Bool)
+        → NotToml (cond b (some_or UnknownCommand (option_map Some (command_at f ms))) (Ok None))
     by true = or UnknownCommand _ unknown_command
     by false = ok None
 
@@ -93,12 +101,14 @@ allow_not f command ms = search (rules, then, ok, or, bad_range)
 
 entry_not : (done : List Allow) (ms : Members) → NotToml (entry_from done ms)
 unfolding entry_from
-entry_not done ms = search (rules, then, ok, or, if, keyed_not, command_not, allow_not, unknown_command, same_name)
+entry_not done ms =
+    search (rules, then, ok, or, if, keyed_not, command_not, allow_not, unknown_command, same_name)
 
 entries_not : (done : List Allow) (ds : Items) → NotToml (entries_of done ds)
 entries_not done no_items = ok done
 entries_not done (item d ds) =
-    let more : (x : Allow) → NotToml (entries_of (done ++ x ∷ []) ds) = λ x. entries_not (done ++ x ∷ []) ds in
+    let more : (x : Allow) → NotToml (entries_of (done ++ x ∷ []) ds) = λ x.
+    entries_not (done ++ x ∷ []) ds in
     search (rules, then, or, bad_key, entry_not, more)
 
 name_not : (names : List (List ℕ)) (ms : Members) → NotToml (new_name names ms)
@@ -116,7 +126,8 @@ numbers_not ms = search (rules, then, ok, or, too_many, bad_exponent, bad_stretc
 bytes_not : (done : List ℕ) (ds : Items) → NotToml (bytes_of done ds)
 bytes_not done no_items = ok done
 bytes_not done (item d ds) =
-    let more : (x : ℕ) → NotToml (bytes_of (done ++ x ∷ []) ds) = λ x. bytes_not (done ++ x ∷ []) ds in
+    let more : (x : ℕ) → NotToml (bytes_of (done ++ x ∷ []) ds) = λ x.
+    bytes_not (done ++ x ∷ []) ds in
     search (rules, then, or, bad_start, more)
 
 start_pages_not : (pages : ℕ) (ms : Members) → NotToml (start_pages_of pages ms)
@@ -127,44 +138,56 @@ start_protects_not : (ms : Members) → NotToml (start_protects_of ms)
 unfolding start_protects_of
 start_protects_not ms = search (rules, then, if, bytes_not, bad_start)
 
-rest_not : (address : ℕ) (numbers : Numbers) (ms : Members) → NotToml (target_with address numbers ms)
+rest_not : (address : ℕ) (numbers : Numbers) (ms : Members)
+    → NotToml (target_with address numbers ms)
 unfolding target_with
-rest_not address numbers ms = search (rules, then, ok, start_pages_not, start_protects_not, entries_not)
+rest_not address numbers ms =
+    search (rules, then, ok, start_pages_not, start_protects_not, entries_not)
 
 target_not : (done : Named Target) (ms : Members) → NotToml (target_from done ms)
 unfolding target_from
-target_not done ms = search (rules, then, ok, or, if, keyed_not, name_not, address_not, numbers_not, rest_not)
+target_not done ms =
+    search (rules, then, ok, or, if, keyed_not, name_not, address_not, numbers_not, rest_not)
 
 targets_not : (done : Named Target) (ds : Items) → NotToml (targets_of done ds)
 targets_not done no_items = ok done
 targets_not done (item d ds) =
-    let more : (x : List ℕ × Target) → NotToml (targets_of (with_item x.0 x.1 done) ds) = λ x. targets_not (with_item x.0 x.1 done) ds in
+    let more : (x : List ℕ × Target) → NotToml (targets_of (with_item x.0 x.1 done) ds) = λ x.
+    targets_not (with_item x.0 x.1 done) ds in
     search (rules, then, or, bad_key, target_not, more)
 
-seat_not : (targets : Named Target) (done : Named Seat) (ms : Members) → NotToml (seat_from targets done ms)
+seat_not : (targets : Named Target) (done : Named Seat) (ms : Members)
+    → NotToml (seat_from targets done ms)
 unfolding seat_from
-seat_not targets done ms = search (rules, then, ok, or, if, keyed_not, name_not, bad_rail, bad_range)
+seat_not targets done ms =
+    search (rules, then, ok, or, if, keyed_not, name_not, bad_rail, bad_range)
 
-seats_not : (targets : Named Target) (done : Named Seat) (ds : Items) → NotToml (seats_of targets done ds)
+seats_not : (targets : Named Target) (done : Named Seat) (ds : Items)
+    → NotToml (seats_of targets done ds)
 seats_not targets done no_items = ok done
 seats_not targets done (item d ds) =
-    let more : (x : List ℕ × Seat) → NotToml (seats_of targets (with_item x.0 x.1 done) ds) = λ x. seats_not targets (with_item x.0 x.1 done) ds in
+    let more : (x : List ℕ × Seat) → NotToml (seats_of targets (with_item x.0 x.1 done) ds) = λ x.
+    seats_not targets (with_item x.0 x.1 done) ds in
     search (rules, then, or, bad_key, seat_not, more)
 
 need_not : (names : List (List ℕ)) (rail : ℕ) (d : Data) → NotToml (need_of names rail d)
 unfolding need_of
 need_not names rail d = search (rules, then, or, if, unknown_need, self_need)
 
-needs_not : (names : List (List ℕ)) (rail : ℕ) (done : List ℕ) (ds : Items) → NotToml (needs_of names rail done ds)
+needs_not : (names : List (List ℕ)) (rail : ℕ) (done : List ℕ) (ds : Items)
+    → NotToml (needs_of names rail done ds)
 needs_not names rail done no_items = ok done
 needs_not names rail done (item d ds) =
-    let more : (x : ℕ) → NotToml (needs_of names rail (done ++ x ∷ []) ds) = λ x. needs_not names rail (done ++ x ∷ []) ds in
+    let more : (x : ℕ) → NotToml (needs_of names rail (done ++ x ∷ []) ds) = λ x.
+    needs_not names rail (done ++ x ∷ []) ds in
     search (rules, then, need_not, more)
 
-rails_not : (names : List (List ℕ)) (done : List Rail) (seats : List Seat) → NotToml (rails_of names done seats)
+rails_not : (names : List (List ℕ)) (done : List Rail) (seats : List Seat)
+    → NotToml (rails_of names done seats)
 rails_not names done [] = ok done
 rails_not names done (s ∷ seats) =
-    let more : (x : List ℕ) → NotToml (rails_of names (done ++ rail_with s x ∷ []) seats) = λ x. rails_not names (done ++ rail_with s x ∷ []) seats in
+    let more : (x : List ℕ) → NotToml (rails_of names (done ++ rail_with s x ∷ []) seats) = λ x.
+    rails_not names (done ++ rail_with s x ∷ []) seats in
     search (rules, then, needs_not, more)
 
 counted_not : (ms : Members) → NotToml (counted ms)
@@ -176,7 +199,8 @@ unfolding board_of
 board_not ms = search (rules, then, ok, counted_not, targets_not, seats_not, rails_not)
 
 -- an error that was passed on, of what was read of a tree, isn't Toml
-pub passed_on : (result : Result Board BoardFault) (d : BoardFault) (ms : Members) → IsErrAnd result (λ e. e ≡ d) → (d ≢ Memory → board_of ms ≡ Err d) → result ≢ Err Toml
+pub passed_on : (result : Result Board BoardFault) (d : BoardFault) (ms : Members)
+    → IsErrAnd result (λ e. e ≡ d) → (d ≢ Memory → board_of ms ≡ Err d) → result ≢ Err Toml
 passed_on (Ok b) d ms p g e = cc
 passed_on (Err f) d ms p g e =
     let toml : d ≡ Toml = cc in

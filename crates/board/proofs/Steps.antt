@@ -1,9 +1,11 @@
 -- The steps of a reading that gave a value.
-use Rattle.std.proofs.Common.{◌≡◌, Bool, true, false, not, cond, Option, Some, None, Result, Ok, Err, refl}
+use Rattle.std.proofs.Common.{◌≡◌, Bool, true, false, not, cond, Option, Some, None, Result, Ok}
+use Rattle.std.proofs.Common.{Err, refl}
 use Rattle.texts.specs.Reading.{◌>>=◌, some_or, value_if}
 use Rattle.board.specs.declared.fault.BoardFault.{BoardFault}
 
-pub bind_ok : {A B : Type 0} (r : Result A BoardFault) (f : A → Result B BoardFault) (y : B) → (r >>= f) ≡ Ok y → (x : A) × (r ≡ Ok x) × (f x ≡ Ok y)
+pub bind_ok : {A B : Type 0} (r : Result A BoardFault) (f : A → Result B BoardFault) (y : B)
+    → (r >>= f) ≡ Ok y → (x : A) × (r ≡ Ok x) × (f x ≡ Ok y)
 bind_ok (Ok x) f y e = (x, refl, e)
 bind_ok (Err d) f y e = absurd cc
 
@@ -11,11 +13,13 @@ pub some_ok : {A : Type 0} (d : BoardFault) (o : Option A) (x : A) → some_or d
 some_ok d None x e = absurd cc
 some_ok d (Some y) x e = cc
 
-pub if_ok : {A : Type 0} (d : BoardFault) (b : Bool) (x y : A) → value_if d b x ≡ Ok y → (b ≡ true) × (x ≡ y)
+pub if_ok : {A : Type 0} (d : BoardFault) (b : Bool) (x y : A) → value_if d b x ≡ Ok y
+    → (b ≡ true) × (x ≡ y)
 if_ok d true x y e = (refl, cc)
 if_ok d false x y e = absurd cc
 
-pub chosen_some : {A : Type 0} (b : Bool) (x y : A) → cond b (Some x) None ≡ Some y → (b ≡ true) × (x ≡ y)
+pub chosen_some : {A : Type 0} (b : Bool) (x y : A) → cond b (Some x) None ≡ Some y
+    → (b ≡ true) × (x ≡ y)
 chosen_some true x y e = (refl, cc)
 chosen_some false x y e = absurd cc
 

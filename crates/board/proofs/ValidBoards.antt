@@ -1,5 +1,6 @@
 -- What a file is read as is a board.
-use Rattle.std.proofs.Common.{◌≡◌, ℕ, ◌<◌, ◌≤◌, List, [], length, get_or, map, slice_get, Some, codes, Ok, sym, subst, arith}
+use Rattle.std.proofs.Common.{◌≡◌, ℕ, ◌<◌, ◌≤◌, List, [], length, get_or, map, slice_get, Some}
+use Rattle.std.proofs.Common.{codes, Ok, sym, subst, arith}
 use Rattle.std.specs.Prelude.{nat_le, nat_lt}
 use Rattle.std.specs.List.{All, AllPairs}
 use Rattle.std.proofs.lemmas.Bool.{ltb-true, leb-true}
@@ -17,7 +18,8 @@ use Rattle.board.specs.Valid.{IsBoard, IsRail, DifferInPage}
 use Rattle.board.proofs.Steps.{bind_ok, if_ok, ok_is}
 use Rattle.board.proofs.Apart.{All-unmap, AllPairs-unmap}
 use Rattle.board.proofs.ValidTargetLists.{AreTargets, no_targets, targets_valid, targets_count}
-use Rattle.board.proofs.ValidRails.{IsPlaced, AreSeats, no_seats, without_needs, seats_valid, seats_count}
+use Rattle.board.proofs.ValidRails.{IsPlaced, AreSeats, no_seats, without_needs, seats_valid}
+use Rattle.board.proofs.ValidRails.{seats_count}
 use Rattle.board.proofs.ValidNeeds.{HaveNeeds, no_rails, bare, rails_ok, rails_bare, rails_count}
 
 record AreFew (k : Members) : Type 0 where
@@ -29,17 +31,23 @@ counted_ok : (ms k : Members) → counted ms ≡ Ok k → AreFew k
 unfolding counted
 counted_ok ms k e =
     let a = bind_ok (top_keyed ms) _ k e in
-    let b = bind_ok (value_if MissingKey (nat_lt 0 (item_count (items_at (codes "target") a.0))) a.0) _ k a.2 in
-    let c = bind_ok (value_if TooMany (nat_le (item_count (items_at (codes "target") b.0)) 16) b.0) _ k b.2 in
+    let b =
+    bind_ok (value_if MissingKey (nat_lt 0 (item_count (items_at (codes "target") a.0))) a.0) _ k
+    a.2 in
+    let c = bind_ok (value_if TooMany (nat_le (item_count (items_at (codes "target") b.0)) 16) b.0)
+    _ k b.2 in
     let some = if_ok MissingKey _ a.0 b.0 b.1 in
     let few = if_ok TooMany _ b.0 c.0 c.1 in
     let rails = if_ok TooMany _ c.0 k c.2 in
     let first : a.0 ≡ k = cc in
     let second : b.0 ≡ k = cc in
     record {
-      one_target = subst (λ m. 1 ≤ item_count (items_at (codes "target") m)) first (ltb-true 0 _ some.0);
-      few_targets = subst (λ m. item_count (items_at (codes "target") m) ≤ 16) second (leb-true _ 16 few.0);
-      few_rails = subst (λ m. item_count (items_at (codes "rail") m) ≤ 64) rails.1 (leb-true _ 64 rails.0);
+      one_target =
+          subst (λ m. 1 ≤ item_count (items_at (codes "target") m)) first (ltb-true 0 _ some.0);
+      few_targets =
+          subst (λ m. item_count (items_at (codes "target") m) ≤ 16) second (leb-true _ 16 few.0);
+      few_rails =
+          subst (λ m. item_count (items_at (codes "rail") m) ≤ 64) rails.1 (leb-true _ 64 rails.0);
     }
 
 -- a board of valid targets and rails
@@ -53,15 +61,20 @@ record AreParts (targets : Named Target) (seats : Named Seat) (rails : List Rail
   pub same : map bare rails ≡ map without_needs seats.items
   pub needs : HaveNeeds (length seats.names) rails
 
-module _ (targets : Named Target) (seats : Named Seat) (rails : List Rail) (p : AreParts targets seats rails) where
+module _ (targets : Named Target) (seats : Named Seat) (rails : List Rail)
+    (p : AreParts targets seats rails) where
   abbrev whole : Board
   whole = board_from targets (record { names = seats.names; items = rails })
 
   placed : All (λ r. IsPlaced targets.items (bare r)) rails
-  placed = All-unmap (IsPlaced targets.items) bare rails (subst (All (IsPlaced targets.items)) (sym p.same) p.good_seats.placed)
+  placed =
+      All-unmap (IsPlaced targets.items) bare rails
+      (subst (All (IsPlaced targets.items)) (sym p.same) p.good_seats.placed)
 
   apart : AllPairs (λ r s. DifferInPage (bare r) (bare s)) rails
-  apart = AllPairs-unmap DifferInPage bare rails (subst (AllPairs DifferInPage) (sym p.same) p.good_seats.apart)
+  apart =
+      AllPairs-unmap DifferInPage bare rails
+      (subst (AllPairs DifferInPage) (sym p.same) p.good_seats.apart)
 
   needed : (d : ℕ) (r : Rail) → slice_get rails d ≡ Some r → All (λ n. n < length rails) r.needs
   needed d r e i x h =

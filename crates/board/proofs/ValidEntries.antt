@@ -1,5 +1,7 @@
 -- The entries of an allow list that are read.
-use Rattle.std.proofs.Common.{◌≡◌, ℕ, ◌<◌, ◌≤◌, Bool, true, false, cond, not, ◌&&◌, eqb, List, [], ◌∷◌, ◌++◌, length, get_or, unwrap_or, codes, Ok, refl, sym, ap, ◌∙◌, subst, arith}
+use Rattle.std.proofs.Common.{◌≡◌, ℕ, ◌<◌, ◌≤◌, Bool, true, false, cond, not, ◌&&◌, eqb, List, []}
+use Rattle.std.proofs.Common.{◌∷◌, ◌++◌, length, get_or, unwrap_or, codes, Ok, refl, sym, ap, ◌∙◌}
+use Rattle.std.proofs.Common.{subst, arith}
 use Rattle.std.proofs.lemmas.Bool.{eq-eqb}
 use Rattle.std.specs.List.{All, AllPairs}
 use Rattle.std.proofs.lemmas.List.Elements.{All-push}
@@ -9,10 +11,12 @@ use Rattle.smbus.specs.declared.message.Form.{Form}
 use Rattle.smbus.specs.FormWords.{carries_code}
 use Rattle.texts.specs.Reading.{some_or, value_if}
 use Rattle.pmbus_table.specs.Forms.{form_number}
-use Rattle.board.specs.declared.fault.BoardFault.TheVariants.{SameName, BadRange, UnknownCommand, BadKey}
+use Rattle.board.specs.declared.fault.BoardFault.TheVariants.{SameName, BadRange, UnknownCommand}
+use Rattle.board.specs.declared.fault.BoardFault.TheVariants.{BadKey}
 use Rattle.board.specs.Boards.{Allow, code_in, is_for, has_entry}
 use Rattle.board.specs.Keys.{keyed}
-use Rattle.board.specs.Entries.{entry_keyed, needed_by, optional_for, form_at, command_for, range_at, allow_of, entry_from, entries_of}
+use Rattle.board.specs.Entries.{entry_keyed, needed_by, optional_for, form_at, command_for}
+use Rattle.board.specs.Entries.{range_at, allow_of, entry_from, entries_of}
 use Rattle.board.specs.Valid.{full_values, full_length, has_words, IsEntry, DifferInUse}
 use Rattle.board.proofs.Steps.{bind_ok, some_ok, if_ok, ok_is, not_false}
 use Rattle.board.proofs.ValidRanges.{range_at_within}
@@ -28,7 +32,8 @@ low_high : (b : Bool) → 0 ≤ cond b 65535 255
 low_high true = omega arith
 low_high false = omega arith
 
-entry_valid : (done : List Allow) (ms : Members) (a : Allow) → entry_from done ms ≡ Ok a → IsNext done a
+entry_valid : (done : List Allow) (ms : Members) (a : Allow) → entry_from done ms ≡ Ok a
+    → IsNext done a
 unfolding entry_from allow_of
 entry_valid done ms a e =
     let k = bind_ok (entry_keyed ms) _ a e in
@@ -47,8 +52,12 @@ entry_valid done ms a e =
         to_target = form_to_target k.0 f.0 (some_ok UnknownCommand _ f.0 f.1);
         takes = fits.takes;
         bare = fits.bare;
-        in_values = range_at_within (full_values f.0) (codes "values") m.0 v.0 (low_high (has_words f.0)) (some_ok BadRange _ v.0 v.1);
-        in_length = range_at_within full_length (codes "length") m.0 l.0 (omega arith) (some_ok BadRange _ l.0 l.1);
+        in_values =
+            range_at_within (full_values f.0) (codes "values") m.0 v.0 (low_high (has_words f.0))
+            (some_ok BadRange _ v.0 v.1);
+        in_length =
+            range_at_within full_length (codes "length") m.0 l.0 (omega arith)
+            (some_ok BadRange _ l.0 l.1);
       };
       new = rw (← same.1) new;
     })
@@ -63,19 +72,22 @@ own_code a v = by (carries_code a.form) refl
     by true e = refl
     by false e = v.bare e
 
-used_before : (x : Allow) (f : Form) (c : ℕ) → x.form ≡ f → x.code ≡ code_in f c → is_for f c x ≡ true
+used_before : (x : Allow) (f : Form) (c : ℕ) → x.form ≡ f → x.code ≡ code_in f c
+    → is_for f c x ≡ true
 used_before x f c e g =
     both_true (eqb (form_number f) (form_number x.form)) (eqb (code_in f c) x.code)
     (eq-eqb (form_number f) (form_number x.form) (ap form_number (sym e)))
     (eq-eqb (code_in f c) x.code (sym g))
 
-differs : (done : List Allow) (a : Allow) → IsEntry a → has_entry a.form a.code done ≡ false → (k : ℕ) (d : Allow) → k < length done → DifferInUse (get_or done k d) a
+differs : (done : List Allow) (a : Allow) → IsEntry a → has_entry a.form a.code done ≡ false
+    → (k : ℕ) (d : Allow) → k < length done → DifferInUse (get_or done k d) a
 differs done a v e k d h f c =
     let no = fails_at (is_for a.form a.code) done k d e h in
     let used = used_before (get_or done k d) a.form a.code f (c ∙ own_code a v) in
     cc
 
-pub entries_valid : (done : List Allow) (ds : Items) (xs : List Allow) → entries_of done ds ≡ Ok xs → All IsEntry done → AllPairs DifferInUse done → All IsEntry xs × AllPairs DifferInUse xs
+pub entries_valid : (done : List Allow) (ds : Items) (xs : List Allow) → entries_of done ds ≡ Ok xs
+    → All IsEntry done → AllPairs DifferInUse done → All IsEntry xs × AllPairs DifferInUse xs
 entries_valid done no_items xs e a p =
     let same = ok_is done xs e in
     (subst (All IsEntry) same a, subst (AllPairs DifferInUse) same p)
@@ -83,4 +95,5 @@ entries_valid done (item d ds) xs e a p =
     let m = bind_ok (some_or BadKey (as_table d)) _ xs e in
     let n = bind_ok (entry_from done m.0) _ xs m.2 in
     let v = entry_valid done m.0 n.0 n.1 in
-    entries_valid (done ++ n.0 ∷ []) ds xs n.2 (All-push IsEntry done n.0 a v.entry) (all_pairs_push DifferInUse done n.0 p (differs done n.0 v.entry v.new))
+    entries_valid (done ++ n.0 ∷ []) ds xs n.2 (All-push IsEntry done n.0 a v.entry)
+    (all_pairs_push DifferInUse done n.0 p (differs done n.0 v.entry v.new))

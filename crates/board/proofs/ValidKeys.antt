@@ -1,5 +1,6 @@
 -- The name of a table whose keys are good.
-use Rattle.std.proofs.Common.{◌≡◌, ℕ, List, ◌∷◌, true, false, Option, Some, None, option_and_then, codes, Ok, subst}
+use Rattle.std.proofs.Common.{◌≡◌, ℕ, List, ◌∷◌, true, false, Option, Some, None, option_and_then}
+use Rattle.std.proofs.Common.{codes, Ok, subst}
 use Rattle.std.proofs.lemmas.Bool.{and_parts}
 use Rattle.std.specs.List.{list_all}
 use Rattle.std.specs.Option.{option_map_or}
@@ -19,7 +20,8 @@ pub record IsKeyed (needed : List Key) (ms k : Members) : Type 0 where
   pub same : ms ≡ k
   pub good : list_all (is_good_at k) needed ≡ true
 
-pub keyed_ok : (needed optional : List Key) (ms k : Members) → keyed needed optional ms ≡ Ok k → IsKeyed needed ms k
+pub keyed_ok : (needed optional : List Key) (ms k : Members) → keyed needed optional ms ≡ Ok k
+    → IsKeyed needed ms k
 unfolding keyed
 keyed_ok needed optional ms k e =
     let a = bind_ok (value_if BadKey (all_known needed optional ms) ms) _ k e in
@@ -35,28 +37,34 @@ keyed_ok needed optional ms k e =
       good = subst (λ m. list_all (is_good_at m) needed ≡ true) last good.0;
     }
 
-name_of_text : (o : Option (List ℕ)) (n : List ℕ) → option_map_or is_name o false ≡ true → o ≡ Some n → is_name n ≡ true
+name_of_text : (o : Option (List ℕ)) (n : List ℕ) → option_map_or is_name o false ≡ true
+    → o ≡ Some n → is_name n ≡ true
 name_of_text None n g e = absurd cc
 name_of_text (Some s) n g e =
     let same : s ≡ n = cc in
     rw (← same) g
 
-name_of_data : (o : Option Data) (n : List ℕ) → option_map_or (is_of kind.Name) o true ≡ true → option_and_then as_str o ≡ Some n → is_name n ≡ true
+name_of_data : (o : Option Data) (n : List ℕ) → option_map_or (is_of kind.Name) o true ≡ true
+    → option_and_then as_str o ≡ Some n → is_name n ≡ true
 name_of_data None n g e = absurd cc
 name_of_data (Some d) n g e = name_of_text (as_str d) n g e
 
 -- where a name is needed, what stands there is a good one
-pub good_name : (rest optional : List Key) (ms k : Members) (n : List ℕ) → keyed ((codes "name", kind.Name) ∷ rest) optional ms ≡ Ok k → text_at (codes "name") k ≡ Some n → is_name n ≡ true
+pub good_name : (rest optional : List Key) (ms k : Members) (n : List ℕ)
+    → keyed ((codes "name", kind.Name) ∷ rest) optional ms ≡ Ok k
+    → text_at (codes "name") k ≡ Some n → is_name n ≡ true
 good_name rest optional ms k n e t =
     let ok = keyed_ok ((codes "name", kind.Name) ∷ rest) optional ms k e in
-    let first = and_parts (is_good_at k (codes "name", kind.Name)) (list_all (is_good_at k) rest) ok.good in
+    let first =
+    and_parts (is_good_at k (codes "name", kind.Name)) (list_all (is_good_at k) rest) ok.good in
     name_of_data (get_member (codes "name") k) n first.0 t
 
 pub record IsNew (names : List (List ℕ)) (k : Members) (n : List ℕ) : Type 0 where
   pub text : text_at (codes "name") k ≡ Some n
   pub new : is_named n names ≡ false
 
-pub new_name_ok : (names : List (List ℕ)) (k : Members) (n : List ℕ) → new_name names k ≡ Ok n → IsNew names k n
+pub new_name_ok : (names : List (List ℕ)) (k : Members) (n : List ℕ) → new_name names k ≡ Ok n
+    → IsNew names k n
 unfolding new_name
 new_name_ok names k n e =
     let a = bind_ok (some_or MissingKey (text_at (codes "name") k)) _ n e in

@@ -1,5 +1,7 @@
 -- The rails with their needs.
-use Rattle.std.proofs.Common.{◌≡◌, ◌≢◌, ℕ, ◌+◌, ◌<◌, Bool, true, false, not, eqb, List, [], ◌∷◌, ◌++◌, length, map, slice_get, Option, Some, None, option_and_then, Ok, ap, subst, ◌∙◌, append_assoc, arith, inl, inr}
+use Rattle.std.proofs.Common.{◌≡◌, ◌≢◌, ℕ, ◌+◌, ◌<◌, Bool, true, false, not, eqb, List, [], ◌∷◌}
+use Rattle.std.proofs.Common.{◌++◌, length, map, slice_get, Option, Some, None, option_and_then, Ok}
+use Rattle.std.proofs.Common.{ap, subst, ◌∙◌, append_assoc, arith, inl, inr}
 use Rattle.std.specs.Str.{bytes_eq}
 use Rattle.std.specs.List.{All}
 use Rattle.std.proofs.lemmas.Bool.{eq-eqb}
@@ -22,14 +24,18 @@ pub record IsNeed (rails rail n : ℕ) : Type 0 where
   pub there : n < rails
   pub other : n ≢ rail
 
-place_there : (names : List (List ℕ)) (o : Option (List ℕ)) (n : ℕ) → option_and_then (λ name. place_of_name name names) o ≡ Some n → n < length names
+place_there : (names : List (List ℕ)) (o : Option (List ℕ)) (n : ℕ)
+    → option_and_then (λ name. place_of_name name names) o ≡ Some n → n < length names
 place_there names None n e = absurd cc
 place_there names (Some name) n e = (position-Some (bytes_eq name) names n [] e).0
 
-need_ok : (names : List (List ℕ)) (rail : ℕ) (d : Data) (n : ℕ) → need_of names rail d ≡ Ok n → IsNeed (length names) rail n
+need_ok : (names : List (List ℕ)) (rail : ℕ) (d : Data) (n : ℕ) → need_of names rail d ≡ Ok n
+    → IsNeed (length names) rail n
 unfolding need_of
 need_ok names rail d n e =
-    let a = bind_ok (some_or UnknownNeed (option_and_then (λ name. place_of_name name names) (as_str d))) _ n e in
+    let a =
+    bind_ok (some_or UnknownNeed (option_and_then (λ name. place_of_name name names) (as_str d))) _
+    n e in
     let b = if_ok SelfNeed (not (eqb a.0 rail)) a.0 n a.2 in
     let there = place_there names (as_str d) a.0 (some_ok UnknownNeed _ a.0 a.1) in
     rw (← b.1) (record {
@@ -40,11 +46,15 @@ need_ok names rail d n e =
     differs : (b : Bool) → b ≡ false → b ≡ true → ⊥
     differs b f t = cc
 
-needs_ok : (names : List (List ℕ)) (rail : ℕ) (done : List ℕ) (ds : Items) (ns : List ℕ) → needs_of names rail done ds ≡ Ok ns → All (IsNeed (length names) rail) done → All (IsNeed (length names) rail) ns
-needs_ok names rail done no_items ns e a = subst (All (IsNeed (length names) rail)) (ok_is done ns e) a
+needs_ok : (names : List (List ℕ)) (rail : ℕ) (done : List ℕ) (ds : Items) (ns : List ℕ)
+    → needs_of names rail done ds ≡ Ok ns → All (IsNeed (length names) rail) done
+    → All (IsNeed (length names) rail) ns
+needs_ok names rail done no_items ns e a =
+    subst (All (IsNeed (length names) rail)) (ok_is done ns e) a
 needs_ok names rail done (item d ds) ns e a =
     let n = bind_ok (need_of names rail d) _ ns e in
-    needs_ok names rail (done ++ n.0 ∷ []) ds ns n.2 (All-push (IsNeed (length names) rail) done n.0 a (need_ok names rail d n.0 n.1))
+    needs_ok names rail (done ++ n.0 ∷ []) ds ns n.2
+    (All-push (IsNeed (length names) rail) done n.0 a (need_ok names rail d n.0 n.1))
 
 -- each rail's needs
 pub record HaveNeeds (count : ℕ) (rails : List Rail) : Type 0 where
@@ -53,7 +63,8 @@ pub record HaveNeeds (count : ℕ) (rails : List Rail) : Type 0 where
 pub no_rails : (count : ℕ) → HaveNeeds count []
 no_rails count = record { at = λ d r e. absurd cc }
 
-more_rails : (count : ℕ) (rails : List Rail) (r : Rail) → HaveNeeds count rails → All (IsNeed count (length rails)) r.needs → HaveNeeds count (rails ++ r ∷ [])
+more_rails : (count : ℕ) (rails : List Rail) (r : Rail) → HaveNeeds count rails
+    → All (IsNeed count (length rails)) r.needs → HaveNeeds count (rails ++ r ∷ [])
 more_rails count rails r a n = record {
   at = λ d x e. elim (push_cases rails r x d e) [
     | inl s ↦ a.at d x s
@@ -61,18 +72,24 @@ more_rails count rails r a n = record {
   ];
 }
 
-pub rails_ok : (names : List (List ℕ)) (done : List Rail) (seats : List Seat) (rails : List Rail) → rails_of names done seats ≡ Ok rails → HaveNeeds (length names) done → HaveNeeds (length names) rails
+pub rails_ok : (names : List (List ℕ)) (done : List Rail) (seats : List Seat) (rails : List Rail)
+    → rails_of names done seats ≡ Ok rails → HaveNeeds (length names) done
+    → HaveNeeds (length names) rails
 rails_ok names done [] rails e a = subst (HaveNeeds (length names)) (ok_is done rails e) a
 rails_ok names done (s ∷ seats) rails e a =
     let n = bind_ok (needs_of names (length done) [] s.needs) _ rails e in
-    let needs = needs_ok names (length done) [] s.needs n.0 n.1 (all_none (IsNeed (length names) (length done))) in
-    rails_ok names (done ++ rail_with s n.0 ∷ []) seats rails n.2 (more_rails (length names) done (rail_with s n.0) a needs)
+    let needs = needs_ok names (length done) [] s.needs n.0 n.1
+    (all_none (IsNeed (length names) (length done))) in
+    rails_ok names (done ++ rail_with s n.0 ∷ []) seats rails n.2
+    (more_rails (length names) done (rail_with s n.0) a needs)
 
 -- all else of a rail is as it was read before
 abbrev pub bare : Rail → Rail
 bare r = record { target = r.target; page = r.page; limit_uv = r.limit_uv; needs = [] }
 
-pub rails_bare : (names : List (List ℕ)) (done : List Rail) (seats : List Seat) (rails : List Rail) → rails_of names done seats ≡ Ok rails → map bare rails ≡ map bare done ++ map without_needs seats
+pub rails_bare : (names : List (List ℕ)) (done : List Rail) (seats : List Seat) (rails : List Rail)
+    → rails_of names done seats ≡ Ok rails
+    → map bare rails ≡ map bare done ++ map without_needs seats
 rails_bare names done [] rails e = rw (append-nil, ok_is done rails e)
 rails_bare names done (s ∷ seats) rails e =
     let n = bind_ok (needs_of names (length done) [] s.needs) _ rails e in
@@ -80,7 +97,8 @@ rails_bare names done (s ∷ seats) rails e =
     ∙ ap (λ (xs : List Rail). xs ++ map without_needs seats) (map-push bare done (rail_with s n.0))
     ∙ append_assoc (map bare done) (without_needs s ∷ []) (map without_needs seats)
 
-pub rails_count : (names : List (List ℕ)) (done : List Rail) (seats : List Seat) (rails : List Rail) → rails_of names done seats ≡ Ok rails → length rails ≡ length done + length seats
+pub rails_count : (names : List (List ℕ)) (done : List Rail) (seats : List Seat) (rails : List Rail)
+    → rails_of names done seats ≡ Ok rails → length rails ≡ length done + length seats
 rails_count names done [] rails e =
     let same = ap (λ (x : List Rail). length x) (ok_is done rails e) in
     omega (arith, same)

@@ -1,5 +1,7 @@
 -- The rails that are read, before their needs are.
-use Rattle.std.proofs.Common.{◌≡◌, ℕ, ◌+◌, ◌<◌, ◌≤◌, Bool, true, false, cond, not, ◌&&◌, eqb, ltb, List, [], length, get_or, map, slice_get, Option, Some, None, option_and_then, codes, Ok, refl, ap, subst, ◌∙◌, arith}
+use Rattle.std.proofs.Common.{◌≡◌, ℕ, ◌+◌, ◌<◌, ◌≤◌, Bool, true, false, cond, not, ◌&&◌, eqb, ltb}
+use Rattle.std.proofs.Common.{List, [], length, get_or, map, slice_get, Option, Some, None}
+use Rattle.std.proofs.Common.{option_and_then, codes, Ok, refl, ap, subst, ◌∙◌, arith}
 use Rattle.std.specs.List.{list_any, All, AllPairs}
 use Rattle.std.proofs.lemmas.Bool.{ltb-true, eq-eqb}
 use Rattle.std.proofs.lemmas.List.Elements.{All-push}
@@ -13,7 +15,8 @@ use Rattle.board.specs.Boards.{Target, Rail}
 use Rattle.board.specs.Fields.{number_at, items_at}
 use Rattle.board.specs.Named.{Named, is_named, none, with_item}
 use Rattle.board.specs.Targets.{new_name}
-use Rattle.board.specs.Rails.{Seat, rail_keyed, target_at, page_of, page_at, has_page, seat_from, seats_of, rail_with}
+use Rattle.board.specs.Rails.{Seat, rail_keyed, target_at, page_of, page_at, has_page, seat_from}
+use Rattle.board.specs.Rails.{seats_of, rail_with}
 use Rattle.board.specs.Files.{item_count}
 use Rattle.board.specs.Valid.{DifferInPage}
 use Rattle.board.proofs.Steps.{bind_ok, some_ok, if_ok, ok_is, not_false, chosen_some}
@@ -36,27 +39,33 @@ without_needs s = rail_with s []
 page_below : (ms : Members) (t : Target) (p : ℕ) → page_of ms t ≡ Some p → p < t.pages
 page_below ms t p e = by (number_at 0 255 (codes "page") ms) e
   where
-    by : (o : Option ℕ) → option_and_then (λ q. cond (ltb q t.pages) (Some q) None) o ≡ Some p → p < t.pages
+    by : (o : Option ℕ) → option_and_then (λ q. cond (ltb q t.pages) (Some q) None) o ≡ Some p
+        → p < t.pages
     by None e = absurd cc
     by (Some q) e =
         let c = chosen_some (ltb q t.pages) q p e in
         rw (← c.1) (ltb-true q t.pages c.0)
 
-page_there : (targets : List Target) (place : ℕ) (ms : Members) (p : ℕ) → page_at targets place ms ≡ Some p → (t : Target) × (slice_get targets place ≡ Some t) × (p < t.pages)
+page_there : (targets : List Target) (place : ℕ) (ms : Members) (p : ℕ)
+    → page_at targets place ms ≡ Some p
+    → (t : Target) × (slice_get targets place ≡ Some t) × (p < t.pages)
 page_there targets place ms p e = by (slice_get targets place) refl e
   where
-    by : (o : Option Target) → slice_get targets place ≡ o → option_and_then (page_of ms) o ≡ Some p → (t : Target) × (slice_get targets place ≡ Some t) × (p < t.pages)
+    by : (o : Option Target) → slice_get targets place ≡ o → option_and_then (page_of ms) o ≡ Some p
+        → (t : Target) × (slice_get targets place ≡ Some t) × (p < t.pages)
     by None s e = absurd cc
     by (Some t) s e = (t, s, page_below ms t p e)
 
 -- a rail after those before it
-record IsNextSeat (targets : List Target) (done : Named Seat) (name : List ℕ) (s : Seat) : Type 0 where
+record IsNextSeat (targets : List Target) (done : Named Seat) (name : List ℕ)
+    (s : Seat) : Type 0 where
   pub placed : IsPlaced targets (without_needs s)
   pub good : is_name name ≡ true
   pub new : is_named name done.names ≡ false
   pub free : has_page s.target s.page done.items ≡ false
 
-seat_ok : (targets : Named Target) (done : Named Seat) (ms : Members) (x : List ℕ × Seat) → seat_from targets done ms ≡ Ok x → IsNextSeat targets.items done x.0 x.1
+seat_ok : (targets : Named Target) (done : Named Seat) (ms : Members) (x : List ℕ × Seat)
+    → seat_from targets done ms ≡ Ok x → IsNextSeat targets.items done x.0 x.1
 unfolding seat_from
 seat_ok targets done ms x e =
     let k = bind_ok (rail_keyed ms) _ x e in
@@ -69,7 +78,12 @@ seat_ok targets done ms x e =
     let page = page_there targets.items t.0 k.0 p.0 (some_ok BadRail _ p.0 p.1) in
     let free = if_ok BadRail _ p.0 f.0 f.1 in
     let limit = at_bounds 1 4294967295 (codes "limit_uv") k.0 l.0 (some_ok BadRange _ l.0 l.1) in
-    let made : Seat = record { target = t.0; page = f.0; limit_uv = l.0; needs = items_at (codes "needs") k.0 } in
+    let made : Seat = record {
+      target = t.0;
+      page = f.0;
+      limit_uv = l.0;
+      needs = items_at (codes "needs") k.0;
+    } in
     subst (λ y. IsNextSeat targets.items done y.0 y.1) (ok_is (n.0, made) x l.2) (record {
       placed = record {
         on_page = (page.0, page.1, rw (← free.1) page.2);
@@ -87,35 +101,51 @@ pub record AreSeats (targets : List Target) (n : Named Seat) : Type 0 where
   pub apart : AllPairs DifferInPage (map without_needs n.items)
 
 pub no_seats : (targets : List Target) → AreSeats targets none
-no_seats targets = record { named = none_named; placed = all_none (IsPlaced targets); apart = no_pairs DifferInPage }
+no_seats targets = record {
+  named = none_named;
+  placed = all_none (IsPlaced targets);
+  apart = no_pairs DifferInPage;
+}
 
 both_true : (b c : Bool) → b ≡ true → c ≡ true → (b && c) ≡ true
 both_true b c e f = cc
 
-pages_differ : (seats : List Seat) (s : Seat) → has_page s.target s.page seats ≡ false → (k : ℕ) (d : Rail) → k < length (map without_needs seats) → DifferInPage (get_or (map without_needs seats) k d) (without_needs s)
+pages_differ : (seats : List Seat) (s : Seat) → has_page s.target s.page seats ≡ false
+    → (k : ℕ) (d : Rail) → k < length (map without_needs seats)
+    → DifferInPage (get_or (map without_needs seats) k d) (without_needs s)
 pages_differ seats s e k d h t p =
     let test : Rail → Bool = λ r. eqb r.target s.target && eqb r.page s.page in
-    let none : list_any test (map without_needs seats) ≡ false = list_any-map test without_needs seats ∙ e in
+    let none : list_any test (map without_needs seats) ≡ false =
+    list_any-map test without_needs seats ∙ e in
     let no = fails_at test (map without_needs seats) k d none h in
     let r : Rail = get_or (map without_needs seats) k d in
-    let taken = both_true (eqb r.target s.target) (eqb r.page s.page) (eq-eqb r.target s.target t) (eq-eqb r.page s.page p) in
+    let taken = both_true (eqb r.target s.target) (eqb r.page s.page) (eq-eqb r.target s.target t)
+    (eq-eqb r.page s.page p) in
     cc
 
-more_seats : (targets : List Target) (n : Named Seat) (name : List ℕ) (s : Seat) → AreSeats targets n → IsNextSeat targets n name s → AreSeats targets (with_item name s n)
+more_seats : (targets : List Target) (n : Named Seat) (name : List ℕ) (s : Seat)
+    → AreSeats targets n → IsNextSeat targets n name s → AreSeats targets (with_item name s n)
 more_seats targets n name s a x = record {
   named = more_named n name s a.named x.good x.new;
-  placed = rw (map-push without_needs n.items s) (All-push (IsPlaced targets) (map without_needs n.items) (without_needs s) a.placed x.placed);
-  apart = rw (map-push without_needs n.items s) (all_pairs_push DifferInPage (map without_needs n.items) (without_needs s) a.apart (pages_differ n.items s x.free));
+  placed =
+      rw (map-push without_needs n.items s)
+      (All-push (IsPlaced targets) (map without_needs n.items) (without_needs s) a.placed x.placed);
+  apart =
+      rw (map-push without_needs n.items s) (all_pairs_push DifferInPage (map without_needs n.items)
+      (without_needs s) a.apart (pages_differ n.items s x.free));
 }
 
-pub seats_valid : (targets : Named Target) (done : Named Seat) (ds : Items) (n : Named Seat) → seats_of targets done ds ≡ Ok n → AreSeats targets.items done → AreSeats targets.items n
+pub seats_valid : (targets : Named Target) (done : Named Seat) (ds : Items) (n : Named Seat)
+    → seats_of targets done ds ≡ Ok n → AreSeats targets.items done → AreSeats targets.items n
 seats_valid targets done no_items n e a = subst (AreSeats targets.items) (ok_is done n e) a
 seats_valid targets done (item d ds) n e a =
     let m = bind_ok (some_or BadKey (as_table d)) _ n e in
     let s = bind_ok (seat_from targets done m.0) _ n m.2 in
-    seats_valid targets (with_item s.0.0 s.0.1 done) ds n s.2 (more_seats targets.items done s.0.0 s.0.1 a (seat_ok targets done m.0 s.0 s.1))
+    seats_valid targets (with_item s.0.0 s.0.1 done) ds n s.2
+    (more_seats targets.items done s.0.0 s.0.1 a (seat_ok targets done m.0 s.0 s.1))
 
-pub seats_count : (targets : Named Target) (done : Named Seat) (ds : Items) (n : Named Seat) → seats_of targets done ds ≡ Ok n → length n.items ≡ length done.items + item_count ds
+pub seats_count : (targets : Named Target) (done : Named Seat) (ds : Items) (n : Named Seat)
+    → seats_of targets done ds ≡ Ok n → length n.items ≡ length done.items + item_count ds
 seats_count targets done no_items n e =
     let same = ap (λ (x : Named Seat). length x.items) (ok_is done n e) in
     omega (arith, same)

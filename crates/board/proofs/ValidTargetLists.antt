@@ -1,5 +1,6 @@
 -- The lists of targets that are read.
-use Rattle.std.proofs.Common.{◌≡◌, ◌≢◌, ℕ, ◌+◌, ◌<◌, true, false, eqb, List, [], length, get_or, Ok, refl, ap, subst, arith}
+use Rattle.std.proofs.Common.{◌≡◌, ◌≢◌, ℕ, ◌+◌, ◌<◌, true, false, eqb, List, [], length, get_or, Ok}
+use Rattle.std.proofs.Common.{refl, ap, subst, arith}
 use Rattle.std.specs.List.{All, AllPairs, AllPass}
 use Rattle.std.proofs.lemmas.Bool.{eq-eqb}
 use Rattle.std.proofs.lemmas.List.{length_push}
@@ -28,9 +29,14 @@ pub no_pairs : {X : Type 0} (R : X → X → Type 0) → AllPairs R []
 no_pairs R i j d a b = absurd (omega arith)
 
 pub none_named : {A : Type 0} → AreNamed {A = A} none
-none_named = record { lengths = refl; good = all_none (λ x. is_name x ≡ true); names = no_pairs (λ a b. a ≢ b) }
+none_named = record {
+  lengths = refl;
+  good = all_none (λ x. is_name x ≡ true);
+  names = no_pairs (λ a b. a ≢ b);
+}
 
-pub more_named : {A : Type 0} (n : Named A) (name : List ℕ) (x : A) → AreNamed n → is_name name ≡ true → is_named name n.names ≡ false → AreNamed (with_item name x n)
+pub more_named : {A : Type 0} (n : Named A) (name : List ℕ) (x : A) → AreNamed n
+    → is_name name ≡ true → is_named name n.names ≡ false → AreNamed (with_item name x n)
 more_named n name x a good new = record {
   lengths = omega (arith, a.lengths, length_push n.names name, length_push n.items x);
   good = All-push (λ y. is_name y ≡ true) n.names name a.good good;
@@ -43,29 +49,40 @@ pub record AreTargets (n : Named Target) : Type 0 where
   pub addresses : AllPairs (λ t u. t.address ≢ u.address) n.items
 
 pub no_targets : AreTargets none
-no_targets = record { named = none_named; targets = all_none IsTarget; addresses = no_pairs (λ t u. t.address ≢ u.address) }
+no_targets = record {
+  named = none_named;
+  targets = all_none IsTarget;
+  addresses = no_pairs (λ t u. t.address ≢ u.address);
+}
 
-addresses_differ : (ts : List Target) (t : Target) → has_address t.address ts ≡ false → (k : ℕ) (d : Target) → k < length ts → (get_or ts k d).address ≢ t.address
+addresses_differ : (ts : List Target) (t : Target) → has_address t.address ts ≡ false
+    → (k : ℕ) (d : Target) → k < length ts → (get_or ts k d).address ≢ t.address
 addresses_differ ts t e k d h s =
     let no = fails_at (λ (u : Target). eqb u.address t.address) ts k d e h in
     let same = eq-eqb (get_or ts k d).address t.address s in
     cc
 
-more_targets : (n : Named Target) (name : List ℕ) (t : Target) → AreTargets n → IsNextTarget n name t → AreTargets (with_item name t n)
+more_targets : (n : Named Target) (name : List ℕ) (t : Target) → AreTargets n
+    → IsNextTarget n name t → AreTargets (with_item name t n)
 more_targets n name t a x = record {
   named = more_named n name t a.named x.good x.new;
   targets = All-push IsTarget n.items t a.targets x.target;
-  addresses = all_pairs_push (λ t u. t.address ≢ u.address) n.items t a.addresses (addresses_differ n.items t x.free);
+  addresses =
+      all_pairs_push (λ t u. t.address ≢ u.address) n.items t a.addresses
+      (addresses_differ n.items t x.free);
 }
 
-pub targets_valid : (done : Named Target) (ds : Items) (n : Named Target) → targets_of done ds ≡ Ok n → AreTargets done → AreTargets n
+pub targets_valid : (done : Named Target) (ds : Items) (n : Named Target)
+    → targets_of done ds ≡ Ok n → AreTargets done → AreTargets n
 targets_valid done no_items n e a = subst AreTargets (ok_is done n e) a
 targets_valid done (item d ds) n e a =
     let m = bind_ok (some_or BadKey (as_table d)) _ n e in
     let t = bind_ok (target_from done m.0) _ n m.2 in
-    targets_valid (with_item t.0.0 t.0.1 done) ds n t.2 (more_targets done t.0.0 t.0.1 a (target_ok done m.0 t.0 t.1))
+    targets_valid (with_item t.0.0 t.0.1 done) ds n t.2
+    (more_targets done t.0.0 t.0.1 a (target_ok done m.0 t.0 t.1))
 
-pub targets_count : (done : Named Target) (ds : Items) (n : Named Target) → targets_of done ds ≡ Ok n → length n.items ≡ length done.items + item_count ds
+pub targets_count : (done : Named Target) (ds : Items) (n : Named Target)
+    → targets_of done ds ≡ Ok n → length n.items ≡ length done.items + item_count ds
 targets_count done no_items n e =
     let same = ap (λ (x : Named Target). length x.items) (ok_is done n e) in
     omega (arith, same)

@@ -1,5 +1,7 @@
 -- The targets that are read.
-use Rattle.std.proofs.Common.{◌≡◌, ℕ, ℤ, pos, negsuc, ◌<◌, ◌≤◌, Bool, true, false, cond, ◌&&◌, List, [], length, Option, Some, None, option_and_then, codes, Ok, refl, sym, subst, T, arith}
+use Rattle.std.proofs.Common.{◌≡◌, ℕ, ℤ, pos, negsuc, ◌<◌, ◌≤◌, Bool, true, false, cond, ◌&&◌, List}
+use Rattle.std.proofs.Common.{[], length, Option, Some, None, option_and_then, codes, Ok, refl, sym}
+use Rattle.std.proofs.Common.{subst, T, arith}
 use Rattle.std.specs.Prelude.{◌≤ℤ◌, int_le, nat_lt}
 use Rattle.std.specs.Int.Signed.{le_z_yes}
 use Rattle.std.specs.List.{list_all, All, AllPairs, AllPass}
@@ -9,13 +11,16 @@ use Rattle.toml.specs.Data.{Members, as_integer, get_member}
 use Rattle.texts.specs.Names.{is_name}
 use Rattle.texts.specs.Reading.{some_or, value_if}
 use Rattle.pmbus_table.specs.Protect.{is_protection}
-use Rattle.board.specs.declared.fault.BoardFault.TheVariants.{BadAddress, SameAddress, TooMany, BadExponent, BadStretch, BadStart}
+use Rattle.board.specs.declared.fault.BoardFault.TheVariants.{BadAddress, SameAddress, TooMany}
+use Rattle.board.specs.declared.fault.BoardFault.TheVariants.{BadExponent, BadStretch, BadStart}
 use Rattle.board.specs.declared.targets.Numbers.{Numbers}
 use Rattle.board.specs.Boards.{Target}
 use Rattle.board.specs.Fields.{number_at, items_at}
 use Rattle.board.specs.Named.{Named, is_named}
 use Rattle.board.specs.Entries.{entries_of}
-use Rattle.board.specs.Targets.{target_keyed, new_name, address_at, has_address, new_address, exponent_of, exponent_at, numbers_of, bytes_of, start_pages_of, start_protects_of, target_with, target_from}
+use Rattle.board.specs.Targets.{target_keyed, new_name, address_at, has_address, new_address}
+use Rattle.board.specs.Targets.{exponent_of, exponent_at, numbers_of, bytes_of, start_pages_of}
+use Rattle.board.specs.Targets.{start_protects_of, target_with, target_from}
 use Rattle.board.specs.Valid.{is_target_address, is_page_value, IsTarget, IsEntry, DifferInUse}
 use Rattle.board.proofs.Steps.{bind_ok, some_ok, if_ok, ok_is, not_false, chosen_some}
 use Rattle.board.proofs.ValidRanges.{at_bounds}
@@ -26,7 +31,8 @@ use Rattle.board.proofs.ValidKeys.{good_name, new_name_ok}
 address_fits : (ms : Members) (a : ℕ) → address_at ms ≡ Some a → is_target_address a ≡ true
 address_fits ms a e = by (number_at 0 127 (codes "address") ms) e
   where
-    by : (o : Option ℕ) → option_and_then (λ n. cond (is_target_address n) (Some n) None) o ≡ Some a → is_target_address a ≡ true
+    by : (o : Option ℕ) → option_and_then (λ n. cond (is_target_address n) (Some n) None) o ≡ Some a
+        → is_target_address a ≡ true
     by None e = absurd cc
     by (Some n) e =
         let c = chosen_some (is_target_address n) n a e in
@@ -36,7 +42,8 @@ record IsNewAddress (done : List Target) (a : ℕ) : Type 0 where
   pub fits : is_target_address a ≡ true
   pub new : has_address a done ≡ false
 
-new_address_ok : (done : List Target) (ms : Members) (a : ℕ) → new_address done ms ≡ Ok a → IsNewAddress done a
+new_address_ok : (done : List Target) (ms : Members) (a : ℕ) → new_address done ms ≡ Ok a
+    → IsNewAddress done a
 unfolding new_address
 new_address_ok done ms a e =
     let b = bind_ok (some_or BadAddress (address_at ms)) _ a e in
@@ -94,7 +101,8 @@ record AreStarts (test : ℕ → Bool) (values : List ℕ) : Type 0 where
   pub some : 0 < length values
   pub all : AllPass test values
 
-starts_ok : (test : ℕ → Bool) (v s r : List ℕ) → value_if BadStart (nat_lt 0 (length v)) v ≡ Ok s → value_if BadStart (list_all test s) s ≡ Ok r → AreStarts test r
+starts_ok : (test : ℕ → Bool) (v s r : List ℕ) → value_if BadStart (nat_lt 0 (length v)) v ≡ Ok s
+    → value_if BadStart (list_all test s) s ≡ Ok r → AreStarts test r
 starts_ok test v s r e f =
     let a = if_ok BadStart (nat_lt 0 (length v)) v s e in
     let b = if_ok BadStart (list_all test s) s r f in
@@ -104,14 +112,16 @@ starts_ok test v s r e f =
       all = rw (← b.1) (AllPass-from_list_all test s b.0);
     }
 
-start_pages_ok : (pages : ℕ) (ms : Members) (r : List ℕ) → start_pages_of pages ms ≡ Ok r → AreStarts (is_page_value pages) r
+start_pages_ok : (pages : ℕ) (ms : Members) (r : List ℕ) → start_pages_of pages ms ≡ Ok r
+    → AreStarts (is_page_value pages) r
 unfolding start_pages_of
 start_pages_ok pages ms r e =
     let v = bind_ok (bytes_of [] (items_at (codes "start_pages") ms)) _ r e in
     let s = bind_ok (value_if BadStart (nat_lt 0 (length v.0)) v.0) _ r v.2 in
     starts_ok (is_page_value pages) v.0 s.0 r s.1 s.2
 
-start_protects_ok : (ms : Members) (r : List ℕ) → start_protects_of ms ≡ Ok r → AreStarts is_protection r
+start_protects_ok : (ms : Members) (r : List ℕ) → start_protects_of ms ≡ Ok r
+    → AreStarts is_protection r
 unfolding start_protects_of
 start_protects_ok ms r e =
     let v = bind_ok (bytes_of [] (items_at (codes "start_protects") ms)) _ r e in
@@ -128,7 +138,8 @@ record IsMade (address : ℕ) (t : Target) : Type 0 where
   pub target : IsTarget t
   pub same : address ≡ t.address
 
-rest_ok : (address : ℕ) (n : Numbers) (ms : Members) (t : Target) → is_target_address address ≡ true → AreNumbers n → target_with address n ms ≡ Ok t → IsMade address t
+rest_ok : (address : ℕ) (n : Numbers) (ms : Members) (t : Target) → is_target_address address ≡ true
+    → AreNumbers n → target_with address n ms ≡ Ok t → IsMade address t
 unfolding target_with
 rest_ok address n ms t a m e =
     let p = bind_ok (start_pages_of n.pages ms) _ t e in
@@ -136,8 +147,18 @@ rest_ok address n ms t a m e =
     let l = bind_ok (entries_of [] (items_at (codes "allow") ms)) _ t w.2 in
     let pages = start_pages_ok n.pages ms p.0 p.1 in
     let protects = start_protects_ok ms w.0 w.1 in
-    let allow = entries_valid [] (items_at (codes "allow") ms) l.0 l.1 (all_none IsEntry) no_entries in
-    let made : Target = record { address = address; pages = n.pages; exponent = n.exponent; stretch = n.stretch; alerts = Rattle.board.specs.Fields.flag_at (codes "alerts") ms; start_pages = p.0; start_protects = w.0; allow = l.0 } in
+    let allow =
+    entries_valid [] (items_at (codes "allow") ms) l.0 l.1 (all_none IsEntry) no_entries in
+    let made : Target = record {
+      address = address;
+      pages = n.pages;
+      exponent = n.exponent;
+      stretch = n.stretch;
+      alerts = Rattle.board.specs.Fields.flag_at (codes "alerts") ms;
+      start_pages = p.0;
+      start_protects = w.0;
+      allow = l.0;
+    } in
     subst (IsMade address) (ok_is made t l.2) (record {
       target = record {
         address = a;
@@ -163,7 +184,8 @@ pub record IsNextTarget (done : Named Target) (name : List ℕ) (t : Target) : T
   pub new : is_named name done.names ≡ false
   pub free : has_address t.address done.items ≡ false
 
-pub target_ok : (done : Named Target) (ms : Members) (x : List ℕ × Target) → target_from done ms ≡ Ok x → IsNextTarget done x.0 x.1
+pub target_ok : (done : Named Target) (ms : Members) (x : List ℕ × Target)
+    → target_from done ms ≡ Ok x → IsNextTarget done x.0 x.1
 unfolding target_from
 target_ok done ms x e =
     let k = bind_ok (target_keyed ms) _ x e in

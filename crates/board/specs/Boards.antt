@@ -1,5 +1,6 @@
 -- What a board is: targets with what they may be sent, and the rails that they drive.
-use Rattle.std.specs.Prelude.{◌≡◌, unwrap_or, ℕ, ℤ, List, [], ◌∷◌, Bool, ◌==◌, ◌&&◌, Option, Some, None, max, map, find, position, if◌then◌else◌}
+use Rattle.std.specs.Prelude.{◌≡◌, unwrap_or, ℕ, ℤ, List, [], ◌∷◌, Bool, ◌==◌, ◌&&◌, Option, Some}
+use Rattle.std.specs.Prelude.{None, max, map, find, position, if◌then◌else◌}
 use Rattle.std.specs.List.{list_any}
 use Rattle.std.specs.Str.{bytes_eq}
 use Rattle.smbus.specs.declared.message.Form.{Form}
@@ -24,7 +25,8 @@ pub record Target : Type 0 where
   pub start_protects : List ℕ
   pub allow : List Allow
 
--- the target, its page, and the rails that have to be good before this one is turned on, by their indices
+-- the target, its page, and the rails that have to be good before this one is turned on, by their
+-- indices
 pub record Rail : Type 0 where
   pub target : ℕ
   pub page : ℕ
@@ -40,7 +42,8 @@ pub record Board : Type 0 where
 
 -- there is a command exactly where the form carries one
 abbrev pub IsCommandFor : Form → Option ℕ → Type 0
-IsCommandFor form command = command ≡ (if carries_code form then Some (unwrap_or command 0) else None)
+IsCommandFor form command =
+    command ≡ (if carries_code form then Some (unwrap_or command 0) else None)
 
 -- the command of an entry
 abbrev pub command_of : Allow → Option ℕ

@@ -1,5 +1,6 @@
 -- An entry of an allow list, as its table says: the entry, or its first fault.
-use Rattle.std.specs.Prelude.{ℕ, List, [], ◌∷◌, ◌++◌, not, codes, Option, Some, None, option_map, option_and_then, unwrap_or, Result, Ok, if◌then◌else◌}
+use Rattle.std.specs.Prelude.{ℕ, List, [], ◌∷◌, ◌++◌, not, codes, Option, Some, None, option_map}
+use Rattle.std.specs.Prelude.{option_and_then, unwrap_or, Result, Ok, if◌then◌else◌}
 use Rattle.std.specs.Option.{option_map_or}
 use Rattle.toml.specs.Data.{Items, no_items, item, Members, get_member, as_array, as_table}
 use Rattle.smbus.specs.declared.message.Form.{Form}
@@ -8,7 +9,8 @@ use Rattle.smbus.specs.FormWords.{form_named, carries_code}
 use Rattle.texts.specs.Reading.{◌>>=◌, some_or, value_if}
 use Rattle.pmbus_table.specs.Commands.{command_named, takes_form}
 use Rattle.board.specs.declared.fault.BoardFault.{BoardFault}
-use Rattle.board.specs.declared.fault.BoardFault.TheVariants.{SameName, BadRange, UnknownCommand, BadKey}
+use Rattle.board.specs.declared.fault.BoardFault.TheVariants.{SameName, BadRange, UnknownCommand}
+use Rattle.board.specs.declared.fault.BoardFault.TheVariants.{BadKey}
 use Rattle.board.specs.declared.entry.Range.{Range}
 use Rattle.board.specs.declared.keys.Sort.TheVariants as sort
 use Rattle.board.specs.declared.keys.Kind.TheVariants as kind
@@ -62,13 +64,15 @@ command_for f ms =
 -- two integers in order, within the full range
 abbrev pub range_in : Range → Items → Option Range
 range_in full (item low (item high no_items)) =
-    option_and_then (λ l. option_map (λ h. record { low = l; high = h }) (number_in l full.high high))
+    option_and_then
+    (λ l. option_map (λ h. record { low = l; high = h }) (number_in l full.high high))
     (number_in full.low full.high low)
 range_in full other = None
 
 -- the full range where the key is missing
 abbrev pub range_at : Range → List ℕ → Members → Option Range
-range_at full key ms = option_map_or (range_in full) (option_and_then as_array (get_member key ms)) (Some full)
+range_at full key ms =
+    option_map_or (range_in full) (option_and_then as_array (get_member key ms)) (Some full)
 
 -- its ranges
 unfoldable pub allow_of : Form → Option ℕ → Members → Result Allow BoardFault

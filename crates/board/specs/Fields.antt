@@ -1,6 +1,8 @@
 -- What the keys of a table say.
-use Rattle.std.specs.Prelude.{ℕ, ℤ, pos, negsuc, List, Bool, false, ◌&&◌, nat_le, Option, Some, None, option_and_then, unwrap_or, if◌then◌else◌}
-use Rattle.toml.specs.Data.{Data, Items, no_items, Members, get_member, as_str, as_integer, as_bool, as_array}
+use Rattle.std.specs.Prelude.{ℕ, ℤ, pos, negsuc, List, Bool, false, ◌&&◌, nat_le, Option, Some}
+use Rattle.std.specs.Prelude.{None, option_and_then, unwrap_or, if◌then◌else◌}
+use Rattle.toml.specs.Data.{Data, Items, no_items, Members, get_member, as_str, as_integer, as_bool}
+use Rattle.toml.specs.Data.{as_array}
 
 -- an integer of a range
 abbrev pub number_within : ℕ → ℕ → ℤ → Option ℕ

@@ -33,7 +33,12 @@ counted ms = do
   value_if TooMany (nat_le (item_count (items_at (codes "rail") few)) 64) few
 
 abbrev pub board_from : Named Target → Named Rail → Board
-board_from targets rails = record { targets = targets.items; target_names = targets.names; rails = rails.items; rail_names = rails.names }
+board_from targets rails = record {
+  targets = targets.items;
+  target_names = targets.names;
+  rails = rails.items;
+  rail_names = rails.names;
+}
 
 -- the top of the file, then each target, then each rail, then what each rail needs
 unfoldable pub board_of : Members → Result Board BoardFault

@@ -3,7 +3,8 @@ use Rattle.std.specs.Prelude.{ℕ, List, Bool, true, false, ◌&&◌, ◌||◌, 
 use Rattle.std.specs.List.{list_any, list_all}
 use Rattle.std.specs.Str.{bytes_eq}
 use Rattle.std.specs.Option.{option_map_or}
-use Rattle.toml.specs.Data.{Data, Items, no_items, item, Members, no_members, member, get_member, as_str, as_integer, as_bool, as_array, as_table}
+use Rattle.toml.specs.Data.{Data, Items, no_items, item, Members, no_members, member, get_member}
+use Rattle.toml.specs.Data.{as_str, as_integer, as_bool, as_array, as_table}
 use Rattle.texts.specs.Names.{is_name}
 use Rattle.texts.specs.Reading.{◌>>=◌, value_if}
 use Rattle.std.specs.Prelude.{Result}

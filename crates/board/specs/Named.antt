@@ -17,7 +17,8 @@ abbrev pub is_named : List ℕ → List (List ℕ) → Bool
 is_named name names = list_any (bytes_eq name) names
 
 abbrev pub with_item : {A : Type 0} → List ℕ → A → Named A → Named A
-with_item name item done = record { names = done.names ++ name ∷ []; items = done.items ++ item ∷ [] }
+with_item name item done =
+    record { names = done.names ++ name ∷ []; items = done.items ++ item ∷ [] }
 
 -- items with the names that stand beside them
 abbrev pub named_of : {A : Type 0} → List (List ℕ × A) → Named A

@@ -1,6 +1,7 @@
 -- Each list of a board file is read in order.
 use Rattle.std.specs.Prelude.{◌≡◌, ◌↔◌, ℕ, pos, List, [], ◌∷◌, length, codes, Result, Ok, Err}
-use Rattle.toml.specs.Data.{Data, string, integer, table, Items, no_items, item, no_members, member, as_table}
+use Rattle.toml.specs.Data.{Data, string, integer, table, Items, no_items, item, no_members, member}
+use Rattle.toml.specs.Data.{as_table}
 use Rattle.texts.specs.Reading.{◌>>=◌, some_or}
 use Rattle.board.specs.declared.fault.BoardFault.{BoardFault}
 use Rattle.board.specs.declared.fault.BoardFault.TheVariants.{SameName, BadStart, BadKey}
@@ -22,42 +23,50 @@ abbrev pub entry_after : List Allow → Data → Result Allow BoardFault
 entry_after before d = some_or BadKey (as_table d) >>= entry_from before
 
 abbrev pub EntriesInOrder : Type 0
-EntriesInOrder = (items : Items) (r : Result (List Allow) BoardFault) → (entries_of [] items ≡ r) ↔ InOrder entry_after (list_of items) r
+EntriesInOrder = (items : Items) (r : Result (List Allow) BoardFault)
+    → (entries_of [] items ≡ r) ↔ InOrder entry_after (list_of items) r
 
 -- a byte, whatever stands before it
 abbrev pub byte_after : List ℕ → Data → Result ℕ BoardFault
 byte_after before d = some_or BadStart (number_in 0 255 d)
 
 abbrev pub BytesInOrder : Type 0
-BytesInOrder = (items : Items) (r : Result (List ℕ) BoardFault) → (bytes_of [] items ≡ r) ↔ InOrder byte_after (list_of items) r
+BytesInOrder = (items : Items) (r : Result (List ℕ) BoardFault)
+    → (bytes_of [] items ≡ r) ↔ InOrder byte_after (list_of items) r
 
 -- a table's target with its name, after those before it
 abbrev pub target_after : List (List ℕ × Target) → Data → Result (List ℕ × Target) BoardFault
 target_after before d = some_or BadKey (as_table d) >>= target_from (named_of before)
 
 abbrev pub TargetsInOrder : Type 0
-TargetsInOrder = (items : Items) (r : Result (Named Target) BoardFault) → (targets_of none items ≡ r) ↔ NamedInOrder target_after (list_of items) r
+TargetsInOrder = (items : Items) (r : Result (Named Target) BoardFault)
+    → (targets_of none items ≡ r) ↔ NamedInOrder target_after (list_of items) r
 
 -- a table's rail with its name, after those before it; its needs aren't judged yet
-abbrev pub seat_after : Named Target → List (List ℕ × Seat) → Data → Result (List ℕ × Seat) BoardFault
+abbrev pub seat_after : Named Target → List (List ℕ × Seat) → Data
+    → Result (List ℕ × Seat) BoardFault
 seat_after targets before d = some_or BadKey (as_table d) >>= seat_from targets (named_of before)
 
 abbrev pub SeatsInOrder : Type 0
-SeatsInOrder = (targets : Named Target) (items : Items) (r : Result (Named Seat) BoardFault) → (seats_of targets none items ≡ r) ↔ NamedInOrder (seat_after targets) (list_of items) r
+SeatsInOrder = (targets : Named Target) (items : Items) (r : Result (Named Seat) BoardFault)
+    → (seats_of targets none items ≡ r) ↔ NamedInOrder (seat_after targets) (list_of items) r
 
 -- a need of the rail at a place, whatever stands before it
 abbrev pub need_after : List (List ℕ) → ℕ → List ℕ → Data → Result ℕ BoardFault
 need_after names rail before d = need_of names rail d
 
 abbrev pub NeedsInOrder : Type 0
-NeedsInOrder = (names : List (List ℕ)) (rail : ℕ) (items : Items) (r : Result (List ℕ) BoardFault) → (needs_of names rail [] items ≡ r) ↔ InOrder (need_after names rail) (list_of items) r
+NeedsInOrder = (names : List (List ℕ)) (rail : ℕ) (items : Items) (r : Result (List ℕ) BoardFault)
+    → (needs_of names rail [] items ≡ r) ↔ InOrder (need_after names rail) (list_of items) r
 
 -- a rail with its needs; its place is the count of those before it
 abbrev pub rail_after : List (List ℕ) → List Rail → Seat → Result Rail BoardFault
-rail_after names before s = needs_of names (length before) [] s.needs >>= λ needs. Ok (rail_with s needs)
+rail_after names before s = needs_of names (length before) [] s.needs >>= λ needs.
+    Ok (rail_with s needs)
 
 abbrev pub RailsInOrder : Type 0
-RailsInOrder = (names : List (List ℕ)) (seats : List Seat) (r : Result (List Rail) BoardFault) → (rails_of names [] seats ≡ r) ↔ InOrder (rail_after names) seats r
+RailsInOrder = (names : List (List ℕ)) (seats : List Seat) (r : Result (List Rail) BoardFault)
+    → (rails_of names [] seats ≡ r) ↔ InOrder (rail_after names) seats r
 
 -- a table that allows the form `receive`
 abbrev pub receive_table : Data

@@ -1,11 +1,14 @@
--- A rail, as its table says: its name and the rail, or its first fault. What the rails need is judged
--- after all of them, since a rail may need a later one.
-use Rattle.std.specs.Prelude.{ℕ, List, [], ◌∷◌, ◌++◌, length, slice_get, Bool, ◌&&◌, ◌==◌, not, nat_lt, codes, Option, Some, None, option_and_then, Result, Ok, if◌then◌else◌}
+-- A rail, as its table says: its name and the rail, or its first fault. What the rails need is
+-- judged after all of them, since a rail may need a later one.
+use Rattle.std.specs.Prelude.{ℕ, List, [], ◌∷◌, ◌++◌, length, slice_get, Bool, ◌&&◌, ◌==◌, not}
+use Rattle.std.specs.Prelude.{nat_lt, codes, Option, Some, None, option_and_then, Result, Ok}
+use Rattle.std.specs.Prelude.{if◌then◌else◌}
 use Rattle.std.specs.List.{list_any}
 use Rattle.toml.specs.Data.{Data, Items, no_items, item, Members, as_str, as_table}
 use Rattle.texts.specs.Reading.{◌>>=◌, some_or, value_if}
 use Rattle.board.specs.declared.fault.BoardFault.{BoardFault}
-use Rattle.board.specs.declared.fault.BoardFault.TheVariants.{BadRail, BadRange, UnknownNeed, SelfNeed, BadKey}
+use Rattle.board.specs.declared.fault.BoardFault.TheVariants.{BadRail, BadRange, UnknownNeed}
+use Rattle.board.specs.declared.fault.BoardFault.TheVariants.{SelfNeed, BadKey}
 use Rattle.board.specs.declared.keys.Sort.TheVariants as sort
 use Rattle.board.specs.declared.keys.Kind.TheVariants as kind
 use Rattle.board.specs.Keys.{keyed}
@@ -30,11 +33,14 @@ rail_keyed ms =
 
 -- the place of the target that a rail names
 abbrev pub target_at : List (List ℕ) → Members → Option ℕ
-target_at names ms = option_and_then (λ name. place_of_name name names) (text_at (codes "target") ms)
+target_at names ms =
+    option_and_then (λ name. place_of_name name names) (text_at (codes "target") ms)
 
 -- the page, if the target at the place has it
 abbrev pub page_of : Members → Target → Option ℕ
-page_of ms t = option_and_then (λ p. if nat_lt p t.pages then Some p else None) (number_at 0 255 (codes "page") ms)
+page_of ms t =
+    option_and_then (λ p. if nat_lt p t.pages then Some p else None)
+    (number_at 0 255 (codes "page") ms)
 
 abbrev pub page_at : List Target → ℕ → Members → Option ℕ
 page_at targets place ms = option_and_then (page_of ms) (slice_get targets place)
@@ -51,13 +57,23 @@ seat_from targets done ms = do
   page ← some_or BadRail (page_at targets.items target keys)
   free ← value_if BadRail (not (has_page target page done.items)) page
   limit ← some_or BadRange (number_at 1 4294967295 (codes "limit_uv") keys)
-  Ok (name, record { target = target; page = free; limit_uv = limit; needs = items_at (codes "needs") keys })
+  Ok (
+    name,
+    record {
+      target = target;
+      page = free;
+      limit_uv = limit;
+      needs = items_at (codes "needs") keys;
+    },
+  )
 
 -- the rails in order, after those that are done
 abbrev pub seats_of : Named Target → Named Seat → Items → Result (Named Seat) BoardFault
 seats_of targets done no_items = Ok done
 seats_of targets done (item d ds) =
-    some_or BadKey (as_table d) >>= λ ms. seat_from targets done ms >>= λ s. seats_of targets (with_item s.0 s.1 done) ds
+    some_or BadKey (as_table d) >>= λ ms.
+    seat_from targets done ms >>= λ s.
+    seats_of targets (with_item s.0 s.1 done) ds
 
 -- the rail that is needed, which isn't the one that needs it
 unfoldable pub need_of : List (List ℕ) → ℕ → Data → Result ℕ BoardFault
@@ -68,13 +84,16 @@ need_of names rail d = do
 -- a rail's needs in order, after those that are done
 abbrev pub needs_of : List (List ℕ) → ℕ → List ℕ → Items → Result (List ℕ) BoardFault
 needs_of names rail done no_items = Ok done
-needs_of names rail done (item d ds) = need_of names rail d >>= λ n. needs_of names rail (done ++ n ∷ []) ds
+needs_of names rail done (item d ds) = need_of names rail d >>= λ n.
+    needs_of names rail (done ++ n ∷ []) ds
 
 abbrev pub rail_with : Seat → List ℕ → Rail
-rail_with s needs = record { target = s.target; page = s.page; limit_uv = s.limit_uv; needs = needs }
+rail_with s needs =
+    record { target = s.target; page = s.page; limit_uv = s.limit_uv; needs = needs }
 
 -- the rails with their needs, after those that are done
 abbrev pub rails_of : List (List ℕ) → List Rail → List Seat → Result (List Rail) BoardFault
 rails_of names done [] = Ok done
 rails_of names done (s ∷ seats) =
-    needs_of names (length done) [] s.needs >>= λ needs. rails_of names (done ++ rail_with s needs ∷ []) seats
+    needs_of names (length done) [] s.needs >>= λ needs.
+    rails_of names (done ++ rail_with s needs ∷ []) seats

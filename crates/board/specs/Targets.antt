@@ -1,11 +1,15 @@
 -- A target, as its table says: its name and the target, or its first fault.
-use Rattle.std.specs.Prelude.{ℕ, ℤ, pos, negsuc, int_le, List, [], ◌∷◌, ◌++◌, length, Bool, ◌&&◌, ◌==◌, not, nat_lt, codes, Option, Some, None, option_and_then, Result, Ok, if◌then◌else◌}
+use Rattle.std.specs.Prelude.{ℕ, ℤ, pos, negsuc, int_le, List, [], ◌∷◌, ◌++◌, length, Bool, ◌&&◌}
+use Rattle.std.specs.Prelude.{◌==◌, not, nat_lt, codes, Option, Some, None, option_and_then, Result}
+use Rattle.std.specs.Prelude.{Ok, if◌then◌else◌}
 use Rattle.std.specs.List.{list_any, list_all}
 use Rattle.toml.specs.Data.{Items, no_items, item, Members, get_member, as_integer, as_table}
 use Rattle.texts.specs.Reading.{◌>>=◌, some_or, value_if}
 use Rattle.pmbus_table.specs.Protect.{is_protection}
 use Rattle.board.specs.declared.fault.BoardFault.{BoardFault}
-use Rattle.board.specs.declared.fault.BoardFault.TheVariants.{MissingKey, SameName, BadAddress, SameAddress, TooMany, BadExponent, BadStretch, BadStart, BadKey}
+use Rattle.board.specs.declared.fault.BoardFault.TheVariants.{MissingKey, SameName, BadAddress}
+use Rattle.board.specs.declared.fault.BoardFault.TheVariants.{SameAddress, TooMany, BadExponent}
+use Rattle.board.specs.declared.fault.BoardFault.TheVariants.{BadStretch, BadStart, BadKey}
 use Rattle.board.specs.declared.keys.Sort.TheVariants as sort
 use Rattle.board.specs.declared.keys.Kind.TheVariants as kind
 use Rattle.board.specs.declared.targets.Numbers.{Numbers}
@@ -38,7 +42,8 @@ new_name names ms = do
 
 abbrev pub address_at : Members → Option ℕ
 address_at ms =
-    option_and_then (λ a. if is_target_address a then Some a else None) (number_at 0 127 (codes "address") ms)
+    option_and_then (λ a. if is_target_address a then Some a else None)
+    (number_at 0 127 (codes "address") ms)
 
 abbrev pub has_address : ℕ → List Target → Bool
 has_address address targets = list_any (λ t. t.address == address) targets
@@ -53,7 +58,8 @@ abbrev pub exponent_of : ℤ → Option ℤ
 exponent_of z = if int_le (negsuc 15) z && int_le z (pos 0) then Some z else None
 
 abbrev pub exponent_at : Members → Option ℤ
-exponent_at ms = option_and_then exponent_of (option_and_then as_integer (get_member (codes "exponent") ms))
+exponent_at ms =
+    option_and_then exponent_of (option_and_then as_integer (get_member (codes "exponent") ms))
 
 unfoldable pub numbers_of : Members → Result Numbers BoardFault
 numbers_of ms = do
@@ -65,7 +71,8 @@ numbers_of ms = do
 -- the elements as bytes, after those that are done
 abbrev pub bytes_of : List ℕ → Items → Result (List ℕ) BoardFault
 bytes_of done no_items = Ok done
-bytes_of done (item d ds) = some_or BadStart (number_in 0 255 d) >>= λ n. bytes_of (done ++ n ∷ []) ds
+bytes_of done (item d ds) = some_or BadStart (number_in 0 255 d) >>= λ n.
+    bytes_of (done ++ n ∷ []) ds
 
 -- start values: at least one, and each as it has to be
 unfoldable pub start_pages_of : ℕ → Members → Result (List ℕ) BoardFault
@@ -86,7 +93,16 @@ target_with address numbers ms = do
   start_pages ← start_pages_of numbers.pages ms
   start_protects ← start_protects_of ms
   allow ← entries_of [] (items_at (codes "allow") ms)
-  Ok (record { address = address; pages = numbers.pages; exponent = numbers.exponent; stretch = numbers.stretch; alerts = flag_at (codes "alerts") ms; start_pages = start_pages; start_protects = start_protects; allow = allow })
+  Ok (record {
+    address = address;
+    pages = numbers.pages;
+    exponent = numbers.exponent;
+    stretch = numbers.stretch;
+    alerts = flag_at (codes "alerts") ms;
+    start_pages = start_pages;
+    start_protects = start_protects;
+    allow = allow;
+  })
 
 -- the target of a table, after the targets before it
 unfoldable pub target_from : Named Target → Members → Result (List ℕ × Target) BoardFault
@@ -102,4 +118,6 @@ target_from done ms = do
 abbrev pub targets_of : Named Target → Items → Result (Named Target) BoardFault
 targets_of done no_items = Ok done
 targets_of done (item d ds) =
-    some_or BadKey (as_table d) >>= λ ms. target_from done ms >>= λ t. targets_of (with_item t.0 t.1 done) ds
+    some_or BadKey (as_table d) >>= λ ms.
+    target_from done ms >>= λ t.
+    targets_of (with_item t.0 t.1 done) ds

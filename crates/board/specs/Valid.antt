@@ -1,5 +1,7 @@
 -- What every board keeps to, whatever file it was read from.
-use Rattle.std.specs.Prelude.{◌≡◌, ◌≢◌, ◌≤◌, ◌<◌, ◌≤ℤ◌, ℕ, pos, negsuc, length, slice_get, Bool, true, false, ◌&&◌, ◌||◌, ◌==◌, not, nat_le, nat_lt, Some, IsTrue, All, if◌then◌else◌}
+use Rattle.std.specs.Prelude.{◌≡◌, ◌≢◌, ◌≤◌, ◌<◌, ◌≤ℤ◌, ℕ, pos, negsuc, length, slice_get, Bool}
+use Rattle.std.specs.Prelude.{true, false, ◌&&◌, ◌||◌, ◌==◌, not, nat_le, nat_lt, Some, IsTrue, All}
+use Rattle.std.specs.Prelude.{if◌then◌else◌}
 use Rattle.std.specs.List.{AllPairs, AllPass}
 use Rattle.smbus.specs.declared.message.Form.{Form}
 use Rattle.smbus.specs.declared.message.Form.TheVariants as form

@@ -1,6 +1,7 @@
 //! The entries of a target, each found by its form and command.
 
-ghost use Rattle.std.specs.Prelude.{◌≡◌, ◌==◌, ◌++◌, ◌∷◌, [], false, option_map, slice_get, IfOk, IfErr};
+ghost use Rattle.std.specs.Prelude.{◌≡◌, ◌==◌, ◌++◌, ◌∷◌, [], false, option_map, slice_get, IfOk};
+ghost use Rattle.std.specs.Prelude.{IfErr};
 ghost use Rattle.pmbus_table.specs.Forms.{form_number};
 ghost use Rattle.board.specs.declared.fault.BoardFault.TheVariants.{Memory};
 ghost use Rattle.board.specs.Boards.{entry_of, has_entry};

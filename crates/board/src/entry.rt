@@ -36,7 +36,12 @@ impl Model for Allow {
 impl Allow {
     pub(crate) fn new(form: Form, command: Option<Command>, values: Range, length: Range) -> Allow
         requires { IsCommandFor form command }
-        ensures { result ≡ record { form = form; code = unwrap_or command 0; values = values; length = length } }
+        ensures { result ≡ record {
+          form = form;
+          code = unwrap_or command 0;
+          values = values;
+          length = length;
+        } }
     {
         Allow {
             form,

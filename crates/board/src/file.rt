@@ -42,7 +42,8 @@ fn counted(table: &Table) -> Result<(), BoardFault>
 
 #[tactic(auto, unfolding(crate::specs::Files::board_of))]
 fn parts_of(alloc: Global, table: &Table) -> Result<(Named<Target>, Named<Rail>), BoardFault>
-    ensures { Gives (λ p. board_from (named_view p.0) (named_view p.1)) result (board_of (table_view table.now)) }
+    ensures { Gives (λ p. board_from (named_view p.0) (named_view p.1)) result
+        (board_of (table_view table.now)) }
 {
     counted(table)?;
     let targets = targets_of(alloc, items_at("target", table))?;

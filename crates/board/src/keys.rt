@@ -7,7 +7,8 @@ ghost use Rattle.std.specs.BTreeMap.{keys};
 ghost use Rattle.toml.specs.Data.{get_member};
 ghost use Rattle.toml.specs.View.{view, table_view, items_view};
 ghost use Rattle.board.specs.Reading.{Gives};
-ghost use Rattle.board.specs.Keys.{all_items, is_one, is_of, is_known, all_known, is_good_at, is_there, keyed};
+ghost use Rattle.board.specs.Keys.{all_items, is_one, is_of, is_known, all_known, is_good_at};
+ghost use Rattle.board.specs.Keys.{is_there, keyed};
 ghost use Rattle.board.specs.KeyViews.{key_views};
 
 use crate::fault::BoardFault;
@@ -122,13 +123,15 @@ fn has_key(keys: &[Key], name: &str) -> bool
 }
 
 fn all_known(needed: &[Key], optional: &[Key], table: &Table) -> bool
-    ensures { result ≡ all_known (key_views needed.now) (key_views optional.now) (table_view table.now) }
+    ensures { result
+        ≡ all_known (key_views needed.now) (key_views optional.now) (table_view table.now) }
 {
     are_known(needed, optional, table)
 }
 
 fn are_known(needed: &[Key], optional: &[Key], table: &Table) -> bool
-    ensures { result ≡ list_all (λ k. is_known (key_views needed.now) (string_bytes k) || is_known (key_views optional.now) (string_bytes k)) (keys table.now) }
+    ensures { result ≡ list_all (λ k. is_known (key_views needed.now) (string_bytes k)
+        || is_known (key_views optional.now) (string_bytes k)) (keys table.now) }
 {
     table.keys().all(|name| is_known(needed, name.as_str()) || is_known(optional, name.as_str()))
 }
@@ -137,7 +140,8 @@ fn are_known(needed: &[Key], optional: &[Key], table: &Table) -> bool
 /// or without a key that is needed.
 #[tactic(auto, unfolding(crate::specs::Keys::keyed))]
 pub(crate) fn keyed(needed: &[Key], optional: &[Key], table: &Table) -> Result<(), BoardFault>
-    ensures { Gives (λ u. table_view table.now) result (keyed (key_views needed.now) (key_views optional.now) (table_view table.now)) }
+    ensures { Gives (λ u. table_view table.now) result
+        (keyed (key_views needed.now) (key_views optional.now) (table_view table.now)) }
 {
     if !all_known(needed, optional, table) {
         return Err(BoardFault::BadKey);

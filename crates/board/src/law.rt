@@ -1,7 +1,8 @@
-ghost use Rattle.board.specs.OrderLaws.{TargetsInOrder, EntriesInOrder, BytesInOrder, SeatsInOrder, NeedsInOrder, RailsInOrder, SomeListsInOrder};
+ghost use Rattle.board.specs.OrderLaws.{TargetsInOrder, EntriesInOrder, BytesInOrder, SeatsInOrder};
+ghost use Rattle.board.specs.OrderLaws.{NeedsInOrder, RailsInOrder, SomeListsInOrder};
 
-/// Each target, entry, start value, rail and need of a file is read after those before it: what is read
-/// is all of them in order, or the fault of the first that has one.
+/// Each target, entry, start value, rail and need of a file is read after those before it: what is
+/// read is all of them in order, or the fault of the first that has one.
 pub fn lists_are_read_in_order()
     ensures targets { TargetsInOrder }
     ensures entries { EntriesInOrder }

@@ -1,6 +1,7 @@
 //! Items in the order of the file, each with a name of its own.
 
-ghost use Rattle.std.specs.Prelude.{◌≡◌, ◌++◌, ◌∷◌, [], false, option_map, slice_get, OnOk, IfErr, string_bytes};
+ghost use Rattle.std.specs.Prelude.{◌≡◌, ◌++◌, ◌∷◌, [], false, option_map, slice_get, OnOk, IfErr};
+ghost use Rattle.std.specs.Prelude.{string_bytes};
 ghost use Rattle.board.specs.Boards.{place_of_name};
 ghost use Rattle.board.specs.Named.{named_view, names, is_named, with_item, none};
 ghost use Rattle.board.specs.declared.fault.BoardFault.TheVariants.{Memory};
@@ -32,7 +33,8 @@ impl<T> Named<T> {
     where
         T: Drop,
         requires { is_named name.now (names self.old.names) ≡ false }
-        ensures ok { OnOk result (named_view self.new ≡ with_item name.now item (named_view self.old)) }
+        ensures ok { OnOk result
+            (named_view self.new ≡ with_item name.now item (named_view self.old)) }
         ensures err { IfErr result (λ e. e ≡ Memory) }
     {
         add_name(alloc, &mut self.names, name)?;

@@ -6,7 +6,8 @@ ghost use Rattle.toml.specs.View.{view, table_view, items_view};
 ghost use Rattle.board.specs.declared.fault.BoardFault.TheVariants.{Memory};
 ghost use Rattle.board.specs.Reading.{Gives};
 ghost use Rattle.board.specs.Named.{named_view, names, is_named, with_item, none};
-ghost use Rattle.board.specs.Rails.{rail_keyed, target_at, page_of, page_at, has_page, seat_from, seats_of, need_of, needs_of, rails_of};
+ghost use Rattle.board.specs.Rails.{rail_keyed, target_at, page_of, page_at, has_page, seat_from};
+ghost use Rattle.board.specs.Rails.{seats_of, need_of, needs_of, rails_of};
 ghost use Rattle.board.specs.SeatViews.{seat_view, seats_view};
 
 use crate::fault::BoardFault;
@@ -92,7 +93,8 @@ fn seat_from<'a>(
     done: &Named<Seat<'_>>,
     table: &'a Table,
 ) -> Result<(&'a str, Seat<'a>), BoardFault>
-    ensures value { Gives (λ s. (s.0.now, seat_view s.1)) result (seat_from (named_view targets.now) (seats_view done.now) (table_view table.now)) }
+    ensures value { Gives (λ s. (s.0.now, seat_view s.1)) result
+        (seat_from (named_view targets.now) (seats_view done.now) (table_view table.now)) }
     ensures new { IfOk result (λ s. is_named s.0.now (names done.now.names) ≡ false) }
 {
     rail_keyed(table)?;
@@ -122,7 +124,8 @@ fn push_seat<'a>(
     seat: Seat<'a>,
 ) -> Result<(), BoardFault>
     requires { is_named name.now (names seats.old.names) ≡ false }
-    ensures ok { OnOk result (seats_view seats.new ≡ with_item name.now (seat_view seat.entry) (seats_view seats.old)) }
+    ensures ok { OnOk result
+        (seats_view seats.new ≡ with_item name.now (seat_view seat.entry) (seats_view seats.old)) }
     ensures err { IfErr result (λ e. e ≡ Memory) }
 {
     seats.push(alloc, name, seat)?;
@@ -135,7 +138,8 @@ pub(crate) fn seats_of<'a>(
     targets: &Named<Target>,
     values: &'a [Value],
 ) -> Result<Named<Seat<'a>>, BoardFault>
-    ensures { Gives seats_view result (seats_of (named_view targets.now) none (items_view values.now)) }
+    ensures { Gives seats_view result
+        (seats_of (named_view targets.now) none (items_view values.now)) }
 {
     let mut seats = Named::new(alloc);
     for value in values {
@@ -165,7 +169,8 @@ fn needs_of(
     rail: usize,
     values: &[Value],
 ) -> Result<Vec<usize>, BoardFault>
-    ensures { Gives (λ v. v.items) result (needs_of (names rails.now) rail [] (items_view values.now)) }
+    ensures { Gives (λ v. v.items) result
+        (needs_of (names rails.now) rail [] (items_view values.now)) }
 {
     let mut needs = Vec::new(alloc);
     for value in values {
@@ -176,7 +181,8 @@ fn needs_of(
 
 /// The rails with their needs.
 pub(crate) fn rails_of(alloc: Global, seats: &Named<Seat<'_>>) -> Result<Vec<Rail>, BoardFault>
-    ensures { Gives (λ v. v.items) result (rails_of (names seats.now.names) [] (map seat_view seats.now.items.items)) }
+    ensures { Gives (λ v. v.items) result
+        (rails_of (names seats.now.names) [] (map seat_view seats.now.items.items)) }
 {
     let mut rails = Vec::new(alloc);
     for seat in &seats.items {

@@ -86,7 +86,8 @@ impl Target {
         self.allow.entries()
     }
 
-    /// The entry of a form and a command code. The code isn't looked at for a form that carries none.
+    /// The entry of a form and a command code. The code isn't looked at for a form that carries
+    /// none.
     pub fn entry(&self, form: Form, code: u8) -> Option<&Allow>
         ensures { option_map (λ a. a.now) result ≡ entry_of form code self.now.allow }
     {

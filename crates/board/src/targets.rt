@@ -7,7 +7,9 @@ ghost use Rattle.toml.specs.View.{view, table_view, items_view};
 ghost use Rattle.board.specs.Reading.{Gives};
 ghost use Rattle.board.specs.Valid.{is_target_address, is_page_value};
 ghost use Rattle.board.specs.Named.{named_view, names, is_named, none};
-ghost use Rattle.board.specs.Targets.{target_keyed, new_name, address_at, has_address, new_address, exponent_at, numbers_of, bytes_of, start_pages_of, start_protects_of, target_with, target_from, targets_of};
+ghost use Rattle.board.specs.Targets.{target_keyed, new_name, address_at, has_address, new_address};
+ghost use Rattle.board.specs.Targets.{exponent_at, numbers_of, bytes_of, start_pages_of};
+ghost use Rattle.board.specs.Targets.{start_protects_of, target_with, target_from, targets_of};
 
 use crate::entries::entries_of;
 use crate::fault::BoardFault;
@@ -214,7 +216,8 @@ fn target_from<'a>(
     done: &Named<Target>,
     table: &'a Table,
 ) -> Result<(&'a str, Target), BoardFault>
-    ensures value { Gives (λ t. (t.0.now, t.1)) result (target_from (named_view done.now) (table_view table.now)) }
+    ensures value { Gives (λ t. (t.0.now, t.1)) result
+        (target_from (named_view done.now) (table_view table.now)) }
     ensures new { IfOk result (λ t. is_named t.0.now (names done.now.names) ≡ false) }
 {
     target_keyed(table)?;

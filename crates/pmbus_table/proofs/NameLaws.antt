@@ -1,5 +1,8 @@
 -- Names and codes of commands belong to each other, by tests over the whole table.
-use Rattle.std.proofs.Common.{◌≡◌, ℕ, ◌<◌, List, [], ◌∷◌, length, Bool, true, false, ◌&&◌, ◌||◌, not, ◌==◌, nat_lt, Option, Some, None, IfSome, IsTrue, is_some, option_map, option_and_then, if◌then◌else◌, find, unwrap_or, refl, sym, ap, ◌∙◌, inl, inr, rules, arith}
+use Rattle.std.proofs.Common.{◌≡◌, ℕ, ◌<◌, List, [], ◌∷◌, length, Bool, true, false, ◌&&◌, ◌||◌}
+use Rattle.std.proofs.Common.{not, ◌==◌, nat_lt, Option, Some, None, IfSome, IsTrue, is_some}
+use Rattle.std.proofs.Common.{option_map, option_and_then, if◌then◌else◌, find, unwrap_or, refl}
+use Rattle.std.proofs.Common.{sym, ap, ◌∙◌, inl, inr, rules, arith}
 use Rattle.std.specs.List.{list_all}
 use Rattle.std.specs.Str.{bytes_eq}
 use Rattle.std.proofs.lemmas.Bool.{cases_Bool}
@@ -8,7 +11,8 @@ use Rattle.std.proofs.lemmas.Slice.Eq.{bytes_eq-Decides}
 use Rattle.texts.specs.Hex.{pair_of, pair_text}
 use Rattle.texts.proofs.HexLaws.{pair_of-pair_text, pair_of_spelled}
 use Rattle.pmbus_table.specs.Table.{Row, table, row_of, row_named}
-use Rattle.pmbus_table.specs.Commands.{is_manufacturer, is_command, name_text, command_in, command_named, command_at}
+use Rattle.pmbus_table.specs.Commands.{is_manufacturer, is_command, name_text, command_in}
+use Rattle.pmbus_table.specs.Commands.{command_named, command_at}
 
 -- what a search finds passes its test, and each test that all rows pass
 record Found (p q : Row → Bool) (r : Row) : Type 0 where
@@ -20,14 +24,16 @@ both true true t = (refl, refl)
 both true false t = cc
 both false b t = cc
 
-found_in : (p q : Row → Bool) (rows : List Row) → list_all q rows ≡ true → IfSome (find p rows) (Found p q)
+found_in : (p q : Row → Bool) (rows : List Row) → list_all q rows ≡ true
+    → IfSome (find p rows) (Found p q)
 found_in p q [] t = tt
 found_in p q (r ∷ rows) t = elim (cases_Bool (p r)) [
   | inl h ↦ rw h (record { here = h; there = (both (q r) _ t).0 })
   | inr f ↦ rw f (found_in p q rows (both (q r) _ t).1)
 ]
 
-found_row : (p q : Row → Bool) (rows : List Row) (r : Row) → list_all q rows ≡ true → find p rows ≡ Some r → Found p q r
+found_row : (p q : Row → Bool) (rows : List Row) (r : Row) → list_all q rows ≡ true
+    → find p rows ≡ Some r → Found p q r
 found_row p q rows r t e = let h = found_in p q rows t in rw e at h
 
 -- the row that is found has this code
@@ -37,7 +43,9 @@ has_code (Some r) c = r.code == c
 
 -- what each row passes
 abbrev is_fit : Row → Bool
-is_fit r = (is_command r.code && not (is_manufacturer r.code)) && (bytes_eq (name_text r.code) r.name && (has_code (row_named r.name) r.code && nat_lt 2 (length r.name)))
+is_fit r =
+    (is_command r.code && not (is_manufacturer r.code)) && (bytes_eq (name_text r.code) r.name
+    && (has_code (row_named r.name) r.code && nat_lt 2 (length r.name)))
 
 all_fit : list_all is_fit table ≡ true
 unfolding table
@@ -63,7 +71,13 @@ fit r t =
     let kinds = both (is_command r.code) _ front.0 in
     let back = both (bytes_eq (name_text r.code) r.name) _ front.1 in
     let last = both (has_code (row_named r.name) r.code) _ back.1 in
-    record { command = kinds.0; named = not_true _ kinds.1; name = same_text _ _ back.0; code = last.0; long = grind (arith, nat_tests, last.1) }
+    record {
+      command = kinds.0;
+      named = not_true _ kinds.1;
+      name = same_text _ _ back.0;
+      code = last.0;
+      long = grind (arith, nat_tests, last.1);
+    }
 
 -- the row of a code
 row_at : (code : ℕ) (r : Row) → row_of code ≡ Some r → (r.code ≡ code) × Fit r
@@ -84,7 +98,9 @@ clash false t f = cc
 -- a manufacturer command has no row
 no_row : (code : ℕ) (o : Option Row) → row_of code ≡ o → is_manufacturer code ≡ true → o ≡ None
 no_row code None e m = refl
-no_row code (Some r) e m = let h = row_at code r e in absurd (clash (is_manufacturer r.code) (rw h.0 m) h.1.named)
+no_row code (Some r) e m =
+    let h = row_at code r e in
+    absurd (clash (is_manufacturer r.code) (rw h.0 m) h.1.named)
 
 -- two digits are no name
 no_name : (code : ℕ) (o : Option Row) → row_named (pair_text code) ≡ o → o ≡ None
@@ -96,17 +112,22 @@ no_name code (Some r) e =
     absurd (omega arith)
 
 pub text_of_digits : (code : ℕ) → is_manufacturer code ≡ true → name_text code ≡ pair_text code
-text_of_digits code m = ap (λ (o : Option Row). unwrap_or (option_map (λ r. r.name) o) (pair_text code)) (no_row code (row_of code) refl m)
+text_of_digits code m =
+    ap (λ (o : Option Row). unwrap_or (option_map (λ r. r.name) o) (pair_text code))
+    (no_row code (row_of code) refl m)
 
 -- the name of what a text names is the text
-digits_spelled : (name : List ℕ) (o : Option ℕ) → IfSome o (λ b. (b < 256) × (name ≡ pair_text b)) → IfSome (option_and_then (λ code. if is_manufacturer code then Some code else None) o) (λ c. name ≡ name_text c)
+digits_spelled : (name : List ℕ) (o : Option ℕ) → IfSome o (λ b. (b < 256) × (name ≡ pair_text b))
+    → IfSome (option_and_then (λ code. if is_manufacturer code then Some code else None) o)
+    (λ c. name ≡ name_text c)
 digits_spelled name None h = tt
 digits_spelled name (Some b) h = elim (cases_Bool (is_manufacturer b)) [
   | inl m ↦ rw m (h.1 ∙ sym (text_of_digits b m))
   | inr f ↦ rw f tt
 ]
 
-spelled_in : (name : List ℕ) (o : Option Row) → row_named name ≡ o → IfSome (command_in name o) (λ c. name ≡ name_text c)
+spelled_in : (name : List ℕ) (o : Option Row) → row_named name ≡ o
+    → IfSome (command_in name o) (λ c. name ≡ name_text c)
 spelled_in name (Some r) e = let h = row_by name r e in sym (h.1.name ∙ h.0)
 spelled_in name None e = digits_spelled name (pair_of name) (pair_of_spelled name)
 
@@ -114,22 +135,27 @@ pub command_named_spelled : (name : List ℕ) → IfSome (command_named name) (�
 command_named_spelled name = spelled_in name (row_named name) refl
 
 -- a row's name names its code
-code_in : (c : ℕ) (name : List ℕ) (o : Option Row) → has_code o c ≡ true → command_in name o ≡ Some c
+code_in : (c : ℕ) (name : List ℕ) (o : Option Row) → has_code o c ≡ true
+    → command_in name o ≡ Some c
 code_in c name None t = cc
 code_in c name (Some r) t = ap Some (grind (arith, nat_tests))
 
-row_back : (c : ℕ) (o : Option Row) → row_of c ≡ o → is_some o ≡ true → command_named (name_text c) ≡ Some c
+row_back : (c : ℕ) (o : Option Row) → row_of c ≡ o → is_some o ≡ true
+    → command_named (name_text c) ≡ Some c
 row_back c None e s = cc
 row_back c (Some r) e s =
     let h = row_at c r e in
-    let text : name_text c ≡ r.name = ap (λ (o : Option Row). unwrap_or (option_map (λ r. r.name) o) (pair_text c)) e in
+    let text : name_text c ≡ r.name =
+    ap (λ (o : Option Row). unwrap_or (option_map (λ r. r.name) o) (pair_text c)) e in
     ap command_named text ∙ code_in r.code r.name (row_named r.name) h.1.code ∙ ap Some h.0
 
 digits_back : (c : ℕ) → is_manufacturer c ≡ true → command_named (pair_text c) ≡ Some c
 digits_back c m =
     let small : c < 256 = grind (arith, nat_tests) in
-    let read = λ (o : Option ℕ). option_and_then (λ code. if is_manufacturer code then Some code else None) o in
-    ap (command_in (pair_text c)) (no_name c (row_named (pair_text c)) refl) ∙ ap read (pair_of-pair_text c small) ∙ rw m refl
+    let read = λ (o : Option ℕ).
+    option_and_then (λ code. if is_manufacturer code then Some code else None) o in
+    ap (command_in (pair_text c)) (no_name c (row_named (pair_text c)) refl)
+    ∙ ap read (pair_of-pair_text c small) ∙ rw m refl
 
 some_or_digits : (a b : Bool) → (a || b) ≡ true → a ≡ false → b ≡ true
 some_or_digits true b t f = cc
@@ -143,14 +169,17 @@ command_named-name_text c t = elim (cases_Bool (is_manufacturer c)) [
 ]
 
 -- the row of a name has a command's code
-pub row_command : (name : List ℕ) (r : Row) → Some r ≡ row_named name → command_at r.code ≡ command_named name
+pub row_command : (name : List ℕ) (r : Row) → Some r ≡ row_named name
+    → command_at r.code ≡ command_named name
 row_command name r e =
     let h = row_by name r (sym e) in
     (rw h.1.command refl) ∙ ap (command_in name) e
 
 -- the same of what a look-up returned
-pub name_spelled : (name : List ℕ) (o : Option ℕ) → o ≡ command_named name → IfSome o (λ c. name ≡ name_text c)
+pub name_spelled : (name : List ℕ) (o : Option ℕ) → o ≡ command_named name
+    → IfSome o (λ c. name ≡ name_text c)
 name_spelled name o e = rw e (command_named_spelled name)
 
-pub name_only : (name : List ℕ) (o : Option ℕ) → o ≡ command_named name → (c : ℕ) → IsTrue (is_command c) → name ≡ name_text c → o ≡ Some c
+pub name_only : (name : List ℕ) (o : Option ℕ) → o ≡ command_named name → (c : ℕ)
+    → IsTrue (is_command c) → name ≡ name_text c → o ≡ Some c
 name_only name o e c t p = e ∙ ap command_named p ∙ command_named-name_text c t

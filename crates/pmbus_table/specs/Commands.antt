@@ -1,5 +1,7 @@
 -- Commands by their code: the named ones of the table, and the manufacturer's.
-use Rattle.std.specs.Prelude.{ℕ, List, Bool, true, false, ◌&&◌, ◌||◌, ◌==◌, not, nat_le, Option, Some, None, is_some, option_map, option_and_then, unwrap_or, if◌then◌else◌}
+use Rattle.std.specs.Prelude.{ℕ, List, Bool, true, false, ◌&&◌, ◌||◌, ◌==◌, not, nat_le, Option}
+use Rattle.std.specs.Prelude.{Some, None, is_some, option_map, option_and_then, unwrap_or}
+use Rattle.std.specs.Prelude.{if◌then◌else◌}
 use Rattle.smbus.specs.declared.message.Form.{Form}
 use Rattle.smbus.specs.declared.message.Form.TheVariants as form
 use Rattle.texts.specs.Hex.{pair_of, pair_text}

@@ -1,8 +1,10 @@
 -- What write protection permits (PMBus 1.3 Part II, 11.1). That other values are invalid, and that
 -- the values permit these codes, is this profile's.
-use Rattle.std.specs.Prelude.{ℕ, List, [], ◌∷◌, ◌++◌, Bool, true, ◌==◌, Option, Some, None, is_some, option_map, if◌then◌else◌}
+use Rattle.std.specs.Prelude.{ℕ, List, [], ◌∷◌, ◌++◌, Bool, true, ◌==◌, Option, Some, None, is_some}
+use Rattle.std.specs.Prelude.{option_map, if◌then◌else◌}
 use Rattle.std.specs.List.{list_any}
-use Rattle.pmbus_table.specs.Codes.{page_code, operation_code, on_off_config_code, write_protect_code, vout_command_code}
+use Rattle.pmbus_table.specs.Codes.{page_code, operation_code, on_off_config_code}
+use Rattle.pmbus_table.specs.Codes.{write_protect_code, vout_command_code}
 
 abbrev pub is_one_of : List ℕ → ℕ → Bool
 is_one_of codes code = list_any (λ c. c == code) codes

@@ -1,9 +1,11 @@
 -- The commands with a name: codes, names and transactions (PMBus 1.3 Part II, Appendix I, Command
 -- Summary). Which of them PAGE selects, and which have no written form, is this profile's.
-use Rattle.std.specs.Prelude.{ℕ, List, [], ◌∷◌, Bool, true, false, ◌==◌, Option, Some, None, find, codes}
+use Rattle.std.specs.Prelude.{ℕ, List, [], ◌∷◌, Bool, true, false, ◌==◌, Option, Some, None, find}
+use Rattle.std.specs.Prelude.{codes}
 use Rattle.std.specs.Str.{bytes_eq}
 use Rattle.smbus.specs.declared.message.Form.{Form}
-use Rattle.smbus.specs.declared.message.Form.TheVariants.{SendByte, WriteByte, WriteWord, ReadByte, ReadWord, BlockRead, BlockProcessCall}
+use Rattle.smbus.specs.declared.message.Form.TheVariants.{SendByte, WriteByte, WriteWord, ReadByte}
+use Rattle.smbus.specs.declared.message.Form.TheVariants.{ReadWord, BlockRead, BlockProcessCall}
 
 pub record Row : Type 0 where
   pub code : ℕ

@@ -1,6 +1,7 @@
 -- Voltages in ULINEAR16 (PMBus 1.3 Part II, 8.4): a mantissa of 16 bits times 2 to the exponent.
 -- That the exponent lies in -16 to 0 is this profile's.
-use Rattle.std.specs.Prelude.{ℕ, ℤ, pos, negsuc, ◌*◌, ◌^◌, ◌≤◌, ◌≤ℤ◌, nat_le, Bool, ◌&&◌, int_le, unsigned_abs}
+use Rattle.std.specs.Prelude.{ℕ, ℤ, pos, negsuc, ◌*◌, ◌^◌, ◌≤◌, ◌≤ℤ◌, nat_le, Bool, ◌&&◌, int_le}
+use Rattle.std.specs.Prelude.{unsigned_abs}
 
 -- mantissa volts times 2 ^ exponent are at most so many microvolts
 pub record IsWithin (mantissa : ℕ) (exponent : ℤ) (limit : ℕ) : Type 0 where

@@ -1,6 +1,7 @@
 ghost use Rattle.std.specs.Prelude.{◌≡◌, ◌↔◌, IsTrue, IsSome, IfSome};
 ghost use Rattle.pmbus_table.specs.Forms.{is_form};
-ghost use Rattle.pmbus_table.specs.Commands.{is_manufacturer, is_manufacturer_form, is_plain_read, is_command, command_at};
+ghost use Rattle.pmbus_table.specs.Commands.{is_manufacturer, is_manufacturer_form, is_plain_read};
+ghost use Rattle.pmbus_table.specs.Commands.{is_command, command_at};
 
 use crate::code::CLEAR_FAULTS;
 use crate::table::row_of;
@@ -65,7 +66,8 @@ fn is_plain_read(form: Form) -> bool
 
 impl Command {
     ghost use Rattle.std.specs.Prelude.{◌≡◌, ℕ, IsTrue, true};
-    ghost use Rattle.pmbus_table.specs.Commands.{is_command, form_written, form_read, is_paged, takes_form, counts_as_write};
+    ghost use Rattle.pmbus_table.specs.Commands.{is_command, form_written, form_read, is_paged};
+    ghost use Rattle.pmbus_table.specs.Commands.{takes_form, counts_as_write};
 
     /// The command's code.
     pub fn code(self) -> u8

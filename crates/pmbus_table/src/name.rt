@@ -1,5 +1,6 @@
 ghost use Rattle.std.specs.Prelude.{◌≡◌, ℕ, IsTrue, IfSome, IfOk, Some, string_bytes};
-ghost use Rattle.pmbus_table.specs.Commands.{is_command, manufacturer_named, command_named, name_text};
+ghost use Rattle.pmbus_table.specs.Commands.{is_command, manufacturer_named, command_named};
+ghost use Rattle.pmbus_table.specs.Commands.{name_text};
 
 use crate::command::{Command, by_code, is_manufacturer};
 use crate::table::{row_named, row_of};

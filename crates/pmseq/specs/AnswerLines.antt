@@ -1,5 +1,6 @@
 -- An answer line: the words of an answer, and then those that only a run has.
-use Rattle.std.specs.Prelude.{ℕ, List, [], ◌∷◌, ◌==◌, length, Bool, true, false, Option, Some, None, Result, if◌then◌else◌, codes}
+use Rattle.std.specs.Prelude.{ℕ, List, [], ◌∷◌, ◌==◌, length, Bool, true, false, Option, Some, None}
+use Rattle.std.specs.Prelude.{Result, if◌then◌else◌, codes}
 use Rattle.std.specs.Str.{bytes_eq}
 use Rattle.texts.specs.Reading.{◌>>=◌, some_or, value_if}
 use Rattle.texts.specs.Words.{words_of}
@@ -31,7 +32,8 @@ answer_in number words = do
   answer ← answer_of (bad_answer number) words
   took ← some_or (bad_answer number) (took_of (value_of (codes "took=") (past_bytes words)))
   alerts ← some_or (bad_answer number) (number_of (value_of (codes "alerts=") (past_took words)))
-  value_if (bad_answer number) (length (past_alerts words) == 0) (record answer { took = took; alerts = alerts })
+  value_if (bad_answer number) (length (past_alerts words) == 0)
+      (record answer { took = took; alerts = alerts })
 
 -- `-` alone stands for no words
 abbrev pub said : List Line → List Line

@@ -25,4 +25,11 @@ answer_of fault words = do
   refuse ← some_or fault (refuse_of (value_of (codes "refuse=") (past_holds words)))
   value ← some_or fault (number_of (value_of (codes "value=") (past_refuse words)))
   bytes ← some_or fault (bytes_of (value_of (codes "bytes=") (past_value words)))
-  Ok (record { holds = holds; refuse = refuse; value = value; bytes = bytes; took = false; alerts = 0 })
+  Ok (record {
+    holds = holds;
+    refuse = refuse;
+    value = value;
+    bytes = bytes;
+    took = false;
+    alerts = 0;
+  })

@@ -1,5 +1,6 @@
 -- The section of a run's answers: how the targets start, and then an answer a line.
-use Rattle.std.specs.Prelude.{ℕ, ◌+◌, List, [], ◌∷◌, ◌==◌, length, Option, Some, None, option_map, option_and_then, Result, Ok, Err, if◌then◌else◌, codes}
+use Rattle.std.specs.Prelude.{ℕ, ◌+◌, List, [], ◌∷◌, ◌==◌, length, Option, Some, None, option_map}
+use Rattle.std.specs.Prelude.{option_and_then, Result, Ok, Err, if◌then◌else◌, codes}
 use Rattle.std.specs.List.{slice_split}
 use Rattle.std.specs.Str.{bytes_eq}
 use Rattle.texts.specs.Reading.{◌>>=◌, some_or}
@@ -21,7 +22,8 @@ pub record Answers : Type 0 where
 -- the bytes of some parts, if each of them is two digits
 unfoldable pub bytes_in : List (List ℕ) → Option (List ℕ)
 bytes_in [] = Some []
-bytes_in (part ∷ later) = option_and_then (λ byte. option_map (λ bytes. byte ∷ bytes) (bytes_in later)) (pair_of part)
+bytes_in (part ∷ later) =
+    option_and_then (λ byte. option_map (λ bytes. byte ∷ bytes) (bytes_in later)) (pair_of part)
 
 -- the parts between commas
 abbrev pub listed_bytes : List ℕ → Option (List ℕ)
@@ -31,7 +33,8 @@ listed_bytes text = bytes_in (slice_split (λ b. b == 44) text)
 abbrev pub start_of : List Line → Option (List ℕ × List ℕ)
 start_of (word ∷ pages ∷ protects ∷ []) =
     if bytes_eq word (codes "start")
-    then option_and_then (λ started. option_map (λ protected. (started, protected)) (listed_bytes protects)) (listed_bytes pages)
+    then option_and_then (λ started.
+    option_map (λ protected. (started, protected)) (listed_bytes protects)) (listed_bytes pages)
     else None
 start_of words = None
 

@@ -1,5 +1,8 @@
--- A bundle as a whole text: a command on the first line, and then its sections, each below its header.
-use Rattle.std.specs.Prelude.{ℕ, ◌+◌, List, [], ◌∷◌, length, take, drop, count_by, find, slice_get, Bool, false, not, ◌||◌, ◌==◌, nat_lt, Option, Some, None, option_map, Result, Ok, Err, if◌then◌else◌, codes}
+-- A bundle as a whole text: a command on the first line, and then its sections, each below its
+-- header.
+use Rattle.std.specs.Prelude.{ℕ, ◌+◌, List, [], ◌∷◌, length, take, drop, count_by, find, slice_get}
+use Rattle.std.specs.Prelude.{Bool, false, not, ◌||◌, ◌==◌, nat_lt, Option, Some, None, option_map}
+use Rattle.std.specs.Prelude.{Result, Ok, Err, if◌then◌else◌, codes}
 use Rattle.std.specs.List.{list_all, slice_index, slice_split, enumerate_from}
 use Rattle.std.specs.Str.{bytes_eq}
 use Rattle.std.specs.Str.Lines.{lines}
@@ -10,7 +13,8 @@ use Rattle.pmseq.specs.declared.command.Header.{Header}
 use Rattle.pmseq.specs.declared.command.Header.TheVariants.{Message, Board, Program, Answers}
 use Rattle.pmseq.specs.declared.fault.InputFault.{InputFault}
 use Rattle.pmseq.specs.declared.fault.InputFault.TheVariants as faults
-use Rattle.pmseq.specs.declared.fault.BundleFault.TheVariants.{NoCommand, UnknownCommand, Unexpected, MissingSection}
+use Rattle.pmseq.specs.declared.fault.BundleFault.TheVariants.{NoCommand, UnknownCommand}
+use Rattle.pmseq.specs.declared.fault.BundleFault.TheVariants.{Unexpected, MissingSection}
 
 -- a line as its bytes
 abbrev pub Line : Type 0
@@ -41,18 +45,21 @@ is_blank line = list_all (λ b. b == 32) line
 abbrev pub starts_section : Line → Bool
 starts_section line = slice_index line 0 == 37
 
--- whether a line belongs below so many headers: as the next of them, or else as a blank line or as a
--- line of a section
+-- whether a line belongs below so many headers: as the next of them, or else as a blank line or as
+-- a line of a section
 abbrev pub is_header : Option Header → Line → Bool
 is_header None line = false
 is_header (Some header) line = bytes_eq line (header_text header)
 
 abbrev pub belongs : List Header → ℕ → Line → Bool
-belongs headers above line = if starts_section line then is_header (slice_get headers above) line else (is_blank line || nat_lt 0 above)
+belongs headers above line =
+    if starts_section line then is_header (slice_get headers above) line
+    else (is_blank line || nat_lt 0 above)
 
 -- the first of the lines, with its place among them, that doesn't belong below the headers above it
 abbrev pub is_unexpected : List Header → List Line → ℕ × Line → Bool
-is_unexpected headers lines placed = not (belongs headers (count_by starts_section (take placed.0 lines)) placed.1)
+is_unexpected headers lines placed =
+    not (belongs headers (count_by starts_section (take placed.0 lines)) placed.1)
 
 abbrev pub first_unexpected : List Header → List Line → Option (ℕ × Line)
 first_unexpected headers lines = find (is_unexpected headers lines) (enumerate_from 0 lines)
@@ -65,7 +72,8 @@ pub record Section : Type 0 where
 -- the parts between header lines, where the first line of the first part has this number
 abbrev pub numbered : ℕ → List (List Line) → List Section
 numbered number [] = []
-numbered number (part ∷ later) = record { first_line = number; lines = part } ∷ numbered (number + length part + 1) later
+numbered number (part ∷ later) =
+    record { first_line = number; lines = part } ∷ numbered (number + length part + 1) later
 
 -- the sections are the parts below the header lines
 abbrev pub sections_of : List Line → List Section
@@ -80,14 +88,18 @@ abbrev pub unless : {A : Type 0} → Option InputFault → A → Result A InputF
 unless None x = Ok x
 unless (Some fault) x = Err fault
 
--- the lines below the command: the first that is unexpected, or else the first header that is missing
+-- the lines below the command: the first that is unexpected, or else the first header that is
+-- missing
 unfoldable pub bundle_below : Command → List Line → Result Bundle InputFault
 bundle_below command lines = do
-  placed ← unless (option_map (λ (placed : ℕ × Line). faults.Bundle (Unexpected (placed.0 + 2))) (first_unexpected (headers_of command) lines)) lines
-  whole ← unless (option_map (λ header. faults.Bundle (MissingSection header)) (slice_get (headers_of command) (count_by starts_section placed))) placed
+  placed ← unless (option_map (λ (placed : ℕ × Line). faults.Bundle (Unexpected (placed.0 + 2)))
+      (first_unexpected (headers_of command) lines)) lines
+  whole ← unless (option_map (λ header. faults.Bundle (MissingSection header))
+      (slice_get (headers_of command) (count_by starts_section placed))) placed
   Ok (record { command = command; sections = sections_of whole })
 
 -- the lines of a bundle
 unfoldable pub bundle_of : List Line → Result Bundle InputFault
 bundle_of [] = Err (faults.Bundle NoCommand)
-bundle_of (first ∷ below) = some_or (faults.Bundle UnknownCommand) (command_of first) >>= λ command. bundle_below command below
+bundle_of (first ∷ below) = some_or (faults.Bundle UnknownCommand) (command_of first) >>= λ command.
+    bundle_below command below

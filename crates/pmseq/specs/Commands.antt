@@ -19,9 +19,12 @@ section_at sections place = slice_index_or sections place (record { first_line =
 
 -- what each command asks for, from its sections in order
 abbrev pub asked_by : Command → List Section → Result Task InputFault
-asked_by commands.Frame sections = exchange_in (section_at sections 0) >>= λ exchange. Ok (tasks.Frame exchange)
+asked_by commands.Frame sections = exchange_in (section_at sections 0) >>= λ exchange.
+    Ok (tasks.Frame exchange)
 asked_by commands.Run sections =
-    scenario_in (section_at sections 0) (section_at sections 1) (section_at sections 2) >>= λ scenario. Ok (tasks.Run scenario)
+    scenario_in (section_at sections 0) (section_at sections 1) (section_at sections 2)
+    >>= λ scenario.
+    Ok (tasks.Run scenario)
 
 abbrev pub task_of : Bundle → Result Task InputFault
 task_of bundle = asked_by bundle.command bundle.sections

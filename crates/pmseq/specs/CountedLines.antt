@@ -8,4 +8,6 @@ abbrev pub is_counted : Line → Bool
 is_counted line = not (is_blank line) && not (slice_index line 0 == 35)
 
 abbrev pub counted_lines : Section → List (ℕ × Line)
-counted_lines section = filter (λ (numbered : ℕ × Line). is_counted numbered.1) (enumerate_from section.first_line section.lines)
+counted_lines section =
+    filter (λ (numbered : ℕ × Line). is_counted numbered.1)
+    (enumerate_from section.first_line section.lines)

@@ -1,5 +1,6 @@
 -- Words of the form KEY=VALUE, in a fixed order.
-use Rattle.std.specs.Prelude.{ℕ, List, [], ◌∷◌, ◌==◌, length, drop, nat_lt, Option, Some, None, option_map, is_some, if◌then◌else◌}
+use Rattle.std.specs.Prelude.{ℕ, List, [], ◌∷◌, ◌==◌, length, drop, nat_lt, Option, Some, None}
+use Rattle.std.specs.Prelude.{option_map, is_some, if◌then◌else◌}
 use Rattle.std.specs.List.{starts_with, position_or_len, before_first, after_first}
 use Rattle.std.specs.Prelude.{nat_eq}
 use Rattle.texts.specs.Decimal.{decimal_within}
@@ -36,4 +37,6 @@ bytes_of (Some text) = if nat_lt 0 (length text) then pairs_of text else None
 
 -- what stands before the first such byte and after it
 abbrev pub cut_at : ℕ → List ℕ → Option (List ℕ × List ℕ)
-cut_at c text = if nat_lt (position_or_len (λ b. b == c) text) (length text) then Some (before_first (λ b. b == c) text, after_first (λ b. b == c) text) else None
+cut_at c text =
+    if nat_lt (position_or_len (λ b. b == c) text) (length text)
+    then Some (before_first (λ b. b == c) text, after_first (λ b. b == c) text) else None

@@ -1,4 +1,5 @@
--- The reply to a message: its frame as it is seen on the wire, the number of samples, and how it ended.
+-- The reply to a message: its frame as it is seen on the wire, the number of samples, and how it
+-- ended.
 use Rattle.std.specs.Prelude.{ℕ, ◌≡◌, true, List, [], ◌∷◌, ◌++◌, length, codes}
 use Rattle.std.specs.Fmt.{decimal}
 use Rattle.wires.specs.Events.{events_of}
@@ -16,17 +17,21 @@ use Rattle.pmseq.specs.Outcomes.{outcome_text}
 use Rattle.pmseq.specs.Replies.{Reply, refusal}
 
 abbrev pub frame_lines : List ℕ → ℕ → List ℕ → List ℕ
-frame_lines frame count outcome = frame ++ (codes "\nsamples " ++ (decimal count ++ (codes "\n" ++ (outcome ++ codes "\n"))))
+frame_lines frame count outcome =
+    frame ++ (codes "\nsamples " ++ (decimal count ++ (codes "\n" ++ (outcome ++ codes "\n"))))
 
--- the frame that an observer of the lines reads, behind an idle sample, where the slots of the message
--- and the answer are driven
+-- the frame that an observer of the lines reads, behind an idle sample, where the slots of the
+-- message and the answer are driven
 pub record IsFrameText (message : Asked) (answer : Answered) (text : List ℕ) : Type 0 where
   pub frame : Shown
   pub seen : AreFrames (events_of (idle true ∷ levels true (plan_of message answer))) (frame ∷ [])
-  pub prints : text ≡ frame_lines (text_of frame) (length (levels true (plan_of message answer))) (outcome_text message.form answer (first_cut (plan_of message answer)))
+  pub prints : text ≡ frame_lines (text_of frame) (length (levels true (plan_of message answer)))
+      (outcome_text message.form answer (first_cut (plan_of message answer)))
 
 -- the text, or the fault of a message and an answer that have no slots
 pub record IsFrameReply (message : Asked) (answer : Answered) (reply : Reply) : Type 0 where
-  pub shown : IsGoodData message answer → IsGoodBlock message answer → (reply.status ≡ Accepted) × IsFrameText message answer reply.text
+  pub shown : IsGoodData message answer → IsGoodBlock message answer
+      → (reply.status ≡ Accepted) × IsFrameText message answer reply.text
   pub bad_data : (IsGoodData message answer → ⊥) → reply ≡ refusal (Frame BadData)
-  pub bad_block : IsGoodData message answer → (IsGoodBlock message answer → ⊥) → reply ≡ refusal (Frame BadBlock)
+  pub bad_block : IsGoodData message answer → (IsGoodBlock message answer → ⊥)
+      → reply ≡ refusal (Frame BadBlock)

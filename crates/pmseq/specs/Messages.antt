@@ -1,5 +1,6 @@
 -- A message line: what the controller asks, and the answer that it gets.
-use Rattle.std.specs.Prelude.{ℕ, ◌+◌, List, [], ◌∷◌, ◌==◌, length, not, ◌&&◌, nat_le, Option, Some, None, option_and_then, Result, Ok, Err, if◌then◌else◌, codes}
+use Rattle.std.specs.Prelude.{ℕ, ◌+◌, List, [], ◌∷◌, ◌==◌, length, not, ◌&&◌, nat_le, Option, Some}
+use Rattle.std.specs.Prelude.{None, option_and_then, Result, Ok, Err, if◌then◌else◌, codes}
 use Rattle.std.specs.Str.{bytes_eq}
 use Rattle.texts.specs.Reading.{◌>>=◌, some_or, value_if}
 use Rattle.texts.specs.Words.{words_of}
@@ -55,7 +56,8 @@ bad_message number = faults.Bundle (BadMessage number)
 unfoldable pub asked_of : ℕ → List (List ℕ) → Result Asked InputFault
 asked_of number words = do
   form ← some_or (bad_message number) (option_and_then form_of (value_of (codes "form=") words))
-  address ← some_or (bad_message number) (option_and_then (address_of form) (value_of (codes "address=") (past_form words)))
+  address ← some_or (bad_message number)
+      (option_and_then (address_of form) (value_of (codes "address=") (past_form words)))
   code ← some_or (bad_message number) (code_of form (value_of (codes "code=") (past_address words)))
   out ← some_or (bad_message number) (bytes_of (value_of (codes "out=") (past_code words)))
   Ok (record { address = address; form = form; code = code; out = out })
@@ -65,15 +67,18 @@ unfoldable pub exchange_of : ℕ → Line → Result Exchange InputFault
 exchange_of number line = do
   message ← asked_of number (words_of line)
   answer ← answer_of (bad_message number) (past_asked (words_of line))
-  whole ← value_if (bad_message number) (length (past_bytes (past_asked (words_of line))) == 0) answer
+  whole ← value_if (bad_message number)
+      (length (past_bytes (past_asked (words_of line))) == 0) answer
   Ok (record { message = message; answer = whole })
 
--- the one line that counts: where there is none, the fault is at the line below the bundle's last, and
--- where there is a second, at that
+-- the one line that counts: where there is none, the fault is at the line below the bundle's last,
+-- and where there is a second, at that
 unfoldable pub only_exchange : ℕ → List (ℕ × Line) → Result Exchange InputFault
 only_exchange last [] = Err (bad_message last)
 only_exchange last (first ∷ []) = exchange_of first.0 first.1
-only_exchange last (first ∷ second ∷ later) = exchange_of first.0 first.1 >>= λ exchange. Err (bad_message second.0)
+only_exchange last (first ∷ second ∷ later) = exchange_of first.0 first.1 >>= λ exchange.
+    Err (bad_message second.0)
 
 abbrev pub exchange_in : Section → Result Exchange InputFault
-exchange_in section = only_exchange (section.first_line + length section.lines) (counted_lines section)
+exchange_in section =
+    only_exchange (section.first_line + length section.lines) (counted_lines section)

@@ -3,7 +3,9 @@ use Rattle.std.specs.Prelude.{ℕ, ◌%◌, List, ◌++◌, slice_index, Option,
 use Rattle.texts.specs.Hex.{word_text}
 use Rattle.smbus.specs.Answered.{Answered}
 use Rattle.smbus.specs.declared.message.Form.{Form}
-use Rattle.smbus.specs.declared.message.Form.TheVariants.{ReceiveByte, ReadByte, ReadWord, ProcessCall, BlockRead, BlockProcessCall, Alert}
+use Rattle.smbus.specs.declared.message.Form.TheVariants.{ReceiveByte, ReadByte, ReadWord}
+use Rattle.smbus.specs.declared.message.Form.TheVariants.{ProcessCall, BlockRead, BlockProcessCall}
+use Rattle.smbus.specs.declared.message.Form.TheVariants.{Alert}
 
 -- what a done message returned: a byte, a word, or the first byte of a block; else 0
 abbrev pub returned_by : Form → ℕ → List ℕ → ℕ
@@ -23,4 +25,5 @@ ending_text (Some byte) None returned = codes "nak"
 ending_text None None returned = codes "done " ++ word_text returned
 
 abbrev pub outcome_text : Form → Answered → Option ℕ → List ℕ
-outcome_text form answer cut = ending_text answer.refuse cut (returned_by form answer.value answer.bytes)
+outcome_text form answer cut =
+    ending_text answer.refuse cut (returned_by form answer.value answer.bytes)

@@ -4,7 +4,8 @@ use Rattle.pmseq.specs.Faults.{fault_text}
 use Rattle.pmseq.specs.declared.fault.InputFault.{InputFault as Fault}
 use Rattle.pmseq.specs.declared.reply.Reply.{Reply as ReplyCode}
 use Rattle.pmseq.specs.declared.reply.Status.{Status}
-use Rattle.pmseq.specs.declared.reply.Status.TheVariants.{Accepted, Refused, InputFault, DeviceFault}
+use Rattle.pmseq.specs.declared.reply.Status.TheVariants.{Accepted, Refused, InputFault}
+use Rattle.pmseq.specs.declared.reply.Status.TheVariants.{DeviceFault}
 
 -- the exit status
 abbrev pub code_of : Status → ℕ

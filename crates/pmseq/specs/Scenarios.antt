@@ -1,5 +1,5 @@
--- What a run is asked with, and what it is: a program on its board, how the targets start, and what they
--- answer.
+-- What a run is asked with, and what it is: a program on its board, how the targets start, and what
+-- they answer.
 use Rattle.std.specs.Prelude.{ℕ, List, length, Result, Ok, Err, All}
 use Rattle.texts.specs.Reading.{◌>>=◌}
 use Rattle.board.specs.Boards.{Board}
@@ -56,4 +56,6 @@ pub record IsRunOf (s : Scenario) (t : Trace) : Type 0 where
 -- why there is none: the targets can't start so, or the first answer without a step
 abbrev pub IsFaultOf : Scenario → RunFault → Type 0
 IsFaultOf s BadStart = IsStart s.board (start_of s) → ⊥
-IsFaultOf s fault = IsStart s.board (start_of s) × FailsAt s.board s.program (start_at (start_of s)) s.answers.answers fault
+IsFaultOf s fault =
+    IsStart s.board (start_of s)
+    × FailsAt s.board s.program (start_at (start_of s)) s.answers.answers fault

@@ -1,5 +1,6 @@
 -- The reply to all bytes of an input, and what is written of it.
-use Rattle.std.specs.Prelude.{ℕ, ◌≡◌, Bool, not, nat_lt, List, length, Option, Some, None, Result, MatchResult, if◌then◌else◌}
+use Rattle.std.specs.Prelude.{ℕ, ◌≡◌, Bool, not, nat_lt, List, length, Option, Some, None, Result}
+use Rattle.std.specs.Prelude.{MatchResult, if◌then◌else◌}
 use Rattle.std.specs.Str.{is_utf8}
 use Rattle.std.specs.Io.KnownBytes.{Appends}
 use Rattle.texts.specs.Reading.{◌>>=◌, some_or, value_if}
@@ -36,7 +37,8 @@ abbrev pub task_of : List ℕ → Result Task InputFault
 task_of input = text_in input >>= task_in
 
 abbrev pub IsReplyAfter : Result Task InputFault → Reply → Type 0
-IsReplyAfter read reply = MatchResult read (λ task. IsReplyOf task reply) (λ fault. reply ≡ refusal fault)
+IsReplyAfter read reply =
+    MatchResult read (λ task. IsReplyOf task reply) (λ fault. reply ≡ refusal fault)
 
 -- the reply to what the input asks for, or to its first fault
 abbrev pub IsReplyTo : List ℕ → Reply → Type 0

@@ -24,7 +24,9 @@ pub record AnswerValues : Type 0 where
 
 -- their keys in order, with others behind them
 abbrev pub keyed_answer : AnswerValues → Keyed → Keyed
-keyed_answer a later = (codes "holds=", a.holds) ∷ (codes "refuse=", a.refuse) ∷ (codes "value=", a.value) ∷ (codes "bytes=", a.bytes) ∷ later
+keyed_answer a later =
+    (codes "holds=", a.holds) ∷ (codes "refuse=", a.refuse) ∷ (codes "value=", a.value)
+    ∷ (codes "bytes=", a.bytes) ∷ later
 
 -- what the values say of an answer
 pub record SaysAnswer (said : AnswerValues) (answer : Answered) : Type 0 where

@@ -1,4 +1,5 @@
--- Which lines are answers: `-`, and those whose words spell one, KEY=VALUE in the order of the keys.
+-- Which lines are answers: `-`, and those whose words spell one, KEY=VALUE in the order of the
+-- keys.
 use Rattle.std.specs.Prelude.{◌≡◌, ◌↔◌, ℕ, List, [], ◌∷◌, Option, Some, Ok, Err, codes}
 use Rattle.texts.specs.Words.{words_of}
 use Rattle.smbus.specs.Answered.{Answered}
@@ -16,7 +17,9 @@ pub record AnswerLineValues : Type 0 where
 
 -- the keys in their order
 abbrev pub keyed : AnswerLineValues → Keyed
-keyed values = keyed_answer values.answer ((codes "took=", values.took) ∷ (codes "alerts=", values.alerts) ∷ [])
+keyed values =
+    keyed_answer values.answer
+    ((codes "took=", values.took) ∷ (codes "alerts=", values.alerts) ∷ [])
 
 -- a line that spells an answer
 pub record IsAnswerLine (line : Line) (answer : Answered) : Type 0 where
@@ -27,8 +30,10 @@ pub record IsAnswerLine (line : Line) (answer : Answered) : Type 0 where
   pub alerts : number_of values.alerts ≡ Some answer.alerts
 
 abbrev pub AnswerLinesAreRead : Type 0
-AnswerLinesAreRead = (number : ℕ) (line : Line) (answer : Answered) → (answer_line_of number line ≡ Ok answer) ↔ IsAnswerLine line answer
+AnswerLinesAreRead = (number : ℕ) (line : Line) (answer : Answered)
+    → (answer_line_of number line ≡ Ok answer) ↔ IsAnswerLine line answer
 
 -- every other line is a bad answer
 abbrev pub OtherLinesAreBad : Type 0
-OtherLinesAreBad = (number : ℕ) (line : Line) (fault : InputFault) → answer_line_of number line ≡ Err fault → fault ≡ bad_answer number
+OtherLinesAreBad = (number : ℕ) (line : Line) (fault : InputFault)
+    → answer_line_of number line ≡ Err fault → fault ≡ bad_answer number

@@ -19,8 +19,10 @@ pub fn answer_of(
     words: &mut Fields<'_>,
 ) -> Result<Answer, ReadError<InputFault>>
     ensures held { IfOk result (λ answer. All (λ hold. hold ≤ 6999) answer.holds) }
-    ensures value { Gives (λ a. a) result (answer_of (Bundle fault) (texts_of words.old.words.now)) }
-    ensures rest { OnOk result (texts_of words.new.words.now ≡ past_bytes (texts_of words.old.words.now)) }
+    ensures value { Gives (λ a. a) result
+        (answer_of (Bundle fault) (texts_of words.old.words.now)) }
+    ensures rest { OnOk result
+        (texts_of words.new.words.now ≡ past_bytes (texts_of words.old.words.now)) }
 {
     let Some(holds) = holds_of(alloc, words.take("holds="))? else {
         return Err(fault.error());

@@ -1,6 +1,7 @@
 ghost use Rattle.std.specs.Prelude.{◌≡◌, ◌≤◌, ◌+◌, length, option_map, All, IfOk};
 ghost use Rattle.texts.specs.Reading.{Gives};
-ghost use Rattle.pmseq.specs.Answers.{bytes_in, listed_bytes, start_of, answer_lines_of, answers_of, answers_in};
+ghost use Rattle.pmseq.specs.Answers.{bytes_in, listed_bytes, start_of, answer_lines_of};
+ghost use Rattle.pmseq.specs.Answers.{answers_of, answers_in};
 ghost use Rattle.pmseq.specs.CountedLines.{counted_lines};
 ghost use Rattle.pmseq.specs.Texts.{texts_of, numbered_texts_of};
 ghost use Rattle.pmseq.specs.Views.{section_view};
@@ -28,13 +29,18 @@ impl Model for Answers {
 
     ghost Value = { Answers };
 
-    ghost view = { λ a. record { pages = a.pages.items; protects = a.protects.items; answers = a.answers.items } };
+    ghost view = { λ a. record {
+      pages = a.pages.items;
+      protects = a.protects.items;
+      answers = a.answers.items;
+    } };
 }
 
 /// The bytes of some parts, if each of them is two digits.
 #[tactic(auto, unfolding(crate::specs::Answers::bytes_in))]
 fn bytes_in(alloc: Global, parts: &[&str]) -> Result<Option<Vec<u8>>, AllocError>
-    ensures { IfOk result (λ bytes. option_map (λ b. b.items) bytes ≡ bytes_in (texts_of parts.now)) }
+    ensures { IfOk result
+        (λ bytes. option_map (λ b. b.items) bytes ≡ bytes_in (texts_of parts.now)) }
 {
     let mut bytes = Vec::new(alloc);
     for part in parts {
@@ -56,7 +62,8 @@ fn listed_bytes(alloc: Global, text: &str) -> Result<Option<Vec<u8>>, AllocError
 
 /// The pages and the protections of the words `start PAGES PROTECTS`.
 fn start_of(alloc: Global, words: &[&str]) -> Result<Option<(Vec<u8>, Vec<u8>)>, AllocError>
-    ensures { IfOk result (λ start. option_map (λ s. (s.0.items, s.1.items)) start ≡ start_of (texts_of words.now)) }
+    ensures { IfOk result
+        (λ start. option_map (λ s. (s.0.items, s.1.items)) start ≡ start_of (texts_of words.now)) }
 {
     let [word, pages, protects] = words else {
         return Ok(None);
@@ -79,8 +86,10 @@ fn answer_lines_of(
     alloc: Global,
     lines: &[(usize, &str)],
 ) -> Result<Vec<Answer>, ReadError<InputFault>>
-    ensures held { IfOk result (λ answers. All (λ answer. All (λ hold. hold ≤ 6999) answer.holds) answers.items) }
-    ensures value { Gives (λ answers. answers.items) result (answer_lines_of (numbered_texts_of lines.now)) }
+    ensures held { IfOk result
+        (λ answers. All (λ answer. All (λ hold. hold ≤ 6999) answer.holds) answers.items) }
+    ensures value { Gives (λ answers. answers.items) result
+        (answer_lines_of (numbered_texts_of lines.now)) }
 {
     let mut answers = Vec::new(alloc);
     for (number, line) in lines {
@@ -97,7 +106,8 @@ fn answers_of(
     end: usize,
     lines: &[(usize, &str)],
 ) -> Result<Answers, ReadError<InputFault>>
-    ensures held { IfOk result (λ a. All (λ answer. All (λ hold. hold ≤ 6999) answer.holds) a.answers) }
+    ensures held { IfOk result
+        (λ a. All (λ answer. All (λ hold. hold ≤ 6999) answer.holds) a.answers) }
     ensures value { Gives (λ a. a) result (answers_of end (numbered_texts_of lines.now)) }
 {
     let [(number, line), later @ ..] = lines else {
@@ -117,7 +127,8 @@ fn answers_of(
 
 /// How the targets of a section start, and what they answer.
 pub fn answers_in(alloc: Global, section: &Section<'_>) -> Result<Answers, ReadError<InputFault>>
-    ensures held { IfOk result (λ a. All (λ answer. All (λ hold. hold ≤ 6999) answer.holds) a.answers) }
+    ensures held { IfOk result
+        (λ a. All (λ answer. All (λ hold. hold ≤ 6999) answer.holds) a.answers) }
     ensures value { Gives (λ a. a) result (answers_in (section_view section.now)) }
 {
     let counted = counted_lines(alloc, section)?;

@@ -1,7 +1,11 @@
-ghost use Rattle.std.specs.Prelude.{◌≡◌, ◌≤◌, ◌<◌, ◌+◌, ◌^◌, ◌==◌, length, map, option_map, slice_get, MatchOption, IfSome, [], ◌∷◌, vec_len, MatchResult, IfOk, IfErr, count_by, Some, None};
+ghost use Rattle.std.specs.Prelude.{◌≡◌, ◌≤◌, ◌<◌, ◌+◌, ◌^◌, ◌==◌, length, map, option_map};
+ghost use Rattle.std.specs.Prelude.{slice_get, MatchOption, IfSome, [], ◌∷◌, vec_len, MatchResult};
+ghost use Rattle.std.specs.Prelude.{IfOk, IfErr, count_by, Some, None};
 ghost use Rattle.std.specs.List.{list_all, slice_split, position_from};
 ghost use Rattle.texts.specs.Reading.{Gives};
-ghost use Rattle.pmseq.specs.Bundles.{is_blank, starts_section, is_header, belongs, first_unexpected, sections_of, headers_of, bundle_below, bundle_of};
+ghost use Rattle.pmseq.specs.Bundles.{is_blank, starts_section, is_header, belongs};
+ghost use Rattle.pmseq.specs.Bundles.{first_unexpected, sections_of, headers_of, bundle_below};
+ghost use Rattle.pmseq.specs.Bundles.{bundle_of};
 ghost use Rattle.pmseq.specs.Texts.{texts_of};
 ghost use Rattle.pmseq.specs.Views.{section_view, bundle_view};
 
@@ -63,7 +67,8 @@ fn belongs(headers: &[Header], above: usize, line: &str) -> bool
 fn headers_among(headers: &[Header], lines: &[&str]) -> Result<usize, usize>
     ensures placed { MatchResult result
         (λ above. first_unexpected headers.now (texts_of lines.now) ≡ None)
-        (λ place. option_map (λ p. p.0) (first_unexpected headers.now (texts_of lines.now)) ≡ Some place) }
+        (λ place.
+        option_map (λ p. p.0) (first_unexpected headers.now (texts_of lines.now)) ≡ Some place) }
     ensures count { IfOk result (λ above. above ≡ count_by starts_section (texts_of lines.now)) }
     ensures most { IfOk result (λ above. above ≤ length headers.now) }
     ensures within { IfErr result (λ place. place < length lines.now) }
@@ -104,7 +109,8 @@ fn split_at_header<'a>(lines: &'a [&'a str]) -> Option<(&'a [&'a str], &'a [&'a 
 
 /// The sections below the lines that stand above the first header.
 fn sections_of<'a>(alloc: Global, lines: &'a [&'a str]) -> Result<Vec<Section<'a>>, AllocError>
-    ensures { IfOk result (λ sections. map section_view sections.items ≡ sections_of (texts_of lines.now)) }
+    ensures { IfOk result
+        (λ sections. map section_view sections.items ≡ sections_of (texts_of lines.now)) }
 {
     let mut sections = Vec::new(alloc);
     let Some((above, below)) = split_at_header(lines) else {
@@ -135,7 +141,8 @@ pub fn bundle_below<'a>(
     lines: &'a [&'a str],
 ) -> Result<Bundle<'a>, ReadError<InputFault>>
     ensures value { Gives bundle_view result (bundle_below command (texts_of lines.now)) }
-    ensures whole { IfOk result (λ bundle. vec_len bundle.sections ≡ length (headers_of bundle.command)) }
+    ensures whole { IfOk result
+        (λ bundle. vec_len bundle.sections ≡ length (headers_of bundle.command)) }
 {
     let headers = command.headers();
     let above = match headers_among(headers, lines) {
@@ -156,7 +163,8 @@ pub fn read_bundle<'a>(
     lines: &'a [&'a str],
 ) -> Result<Bundle<'a>, ReadError<InputFault>>
     ensures value { Gives bundle_view result (bundle_of (texts_of lines.now)) }
-    ensures whole { IfOk result (λ bundle. vec_len bundle.sections ≡ length (headers_of bundle.command)) }
+    ensures whole { IfOk result
+        (λ bundle. vec_len bundle.sections ≡ length (headers_of bundle.command)) }
 {
     let [first, below @ ..] = lines else {
         return Err(BundleFault::NoCommand.error());

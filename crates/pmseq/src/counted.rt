@@ -19,7 +19,8 @@ pub fn counted_lines<'a>(
     alloc: Global,
     section: &Section<'a>,
 ) -> Result<Vec<(usize, &'a str)>, AllocError>
-    ensures { IfOk result (λ lines. numbered_texts_of lines.items ≡ counted_lines (section_view section.now)) }
+    ensures { IfOk result
+        (λ lines. numbered_texts_of lines.items ≡ counted_lines (section_view section.now)) }
 {
     let mut counted = Vec::new(alloc);
     for (place, line) in section.lines.iter().enumerate() {

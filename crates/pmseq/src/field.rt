@@ -1,7 +1,10 @@
-ghost use Rattle.std.specs.Prelude.{◌≡◌, ◌≤◌, ◌-◌, ◌++◌, ◌∷◌, [], ◌==◌, List, ℕ, length, map, replicate, option_map, option_copied, vec_len, IfOk, OnOk, IfSome, All};
+ghost use Rattle.std.specs.Prelude.{◌≡◌, ◌≤◌, ◌-◌, ◌++◌, ◌∷◌, [], ◌==◌, List, ℕ, length, map};
+ghost use Rattle.std.specs.Prelude.{replicate, option_map, option_copied, vec_len, IfOk, OnOk};
+ghost use Rattle.std.specs.Prelude.{IfSome, All};
 ghost use Rattle.std.specs.List.{slice_split};
 ghost use Rattle.pmseq.specs.Texts.{texts_of};
-ghost use Rattle.pmseq.specs.Fields.{after_key, value_of, rest_of, refuse_of, number_of, bytes_of, cut_at};
+ghost use Rattle.pmseq.specs.Fields.{after_key, value_of, rest_of, refuse_of, number_of, bytes_of};
+ghost use Rattle.pmseq.specs.Fields.{cut_at};
 ghost use Rattle.pmseq.specs.Holds.{hold_of, holds_of};
 ghost use Rattle.pmseq.specs.HoldsRead.{holds_from};
 
@@ -66,7 +69,8 @@ pub fn number_of(text: Option<&str>) -> Option<u16>
 
 /// Bytes, one at least where they are given.
 pub fn bytes_of(alloc: Global, text: Option<&str>) -> Result<Option<Vec<u8>>, AllocError>
-    ensures { IfOk result (λ bytes. option_map (λ b. b.items) bytes ≡ bytes_of (option_copied text.entry)) }
+    ensures { IfOk result
+        (λ bytes. option_map (λ b. b.items) bytes ≡ bytes_of (option_copied text.entry)) }
 {
     match text {
         None => Ok(Some(Vec::new(alloc))),
@@ -110,7 +114,8 @@ fn push_hold(holds: &mut Vec<u16>, slot: usize, hold: u16) -> Result<(), AllocEr
     requires hold_held { hold ≤ 6999 }
     requires held { All (λ hold. hold ≤ 6999) holds.old.items }
     ensures held { OnOk result (All (λ hold. hold ≤ 6999) holds.new.items) }
-    ensures added { OnOk result (holds.new.items ≡ holds.old.items ++ replicate (slot - vec_len holds.old) 0 ++ hold ∷ []) }
+    ensures added { OnOk result
+        (holds.new.items ≡ holds.old.items ++ replicate (slot - vec_len holds.old) 0 ++ hold ∷ []) }
 {
     holds.resize(slot, 0)?;
     holds.push(hold)?;
@@ -121,7 +126,8 @@ fn push_hold(holds: &mut Vec<u16>, slot: usize, hold: u16) -> Result<(), AllocEr
 #[tactic(auto, unfolding(crate::specs::HoldsRead::holds_from))]
 fn listed_holds(alloc: Global, parts: &[&str]) -> Result<Option<Vec<u16>>, AllocError>
     ensures held { IfOk result (λ holds. IfSome holds (λ h. All (λ hold. hold ≤ 6999) h.items)) }
-    ensures value { IfOk result (λ holds. option_map (λ h. h.items) holds ≡ holds_from [] (texts_of parts.now)) }
+    ensures value { IfOk result
+        (λ holds. option_map (λ h. h.items) holds ≡ holds_from [] (texts_of parts.now)) }
 {
     let mut holds = Vec::new(alloc);
     for part in parts {
@@ -137,7 +143,8 @@ fn listed_holds(alloc: Global, parts: &[&str]) -> Result<Option<Vec<u16>>, Alloc
 #[tactic(auto, using(crate::proofs::HoldsLaw::holds_from_named))]
 pub fn holds_of(alloc: Global, text: Option<&str>) -> Result<Option<Vec<u16>>, AllocError>
     ensures held { IfOk result (λ holds. IfSome holds (λ h. All (λ hold. hold ≤ 6999) h.items)) }
-    ensures value { IfOk result (λ holds. option_map (λ h. h.items) holds ≡ holds_of (option_copied text.entry)) }
+    ensures value { IfOk result
+        (λ holds. option_map (λ h. h.items) holds ≡ holds_of (option_copied text.entry)) }
 {
     match text {
         None => Ok(Some(Vec::new(alloc))),

@@ -78,7 +78,8 @@ fn shown(
 pub fn frame_reply(alloc: Global, message: &Message, answer: &Answer) -> Result<Reply, AllocError>
     requires { All (λ hold. hold ≤ 6999) answer.now.holds }
     ensures whole { IfOk result (λ reply. reply.status ≢ Status.DeviceFault) }
-    ensures replies { IfOk result (λ reply. IsFrameReply message.now answer.now (reply_view reply)) }
+    ensures replies { IfOk result
+        (λ reply. IsFrameReply message.now answer.now (reply_view reply)) }
 {
     let slots = match frame_slots(alloc, message, answer) {
         Ok(slots) => slots,

@@ -1,7 +1,9 @@
-ghost use Rattle.std.specs.Prelude.{◌≡◌, option_copied, option_map, option_and_then, codes, IfOk, IfSome, OnOk, map, ◌≤◌, length, All, Some, None, if◌then◌else◌};
+ghost use Rattle.std.specs.Prelude.{◌≡◌, option_copied, option_map, option_and_then, codes, IfOk};
+ghost use Rattle.std.specs.Prelude.{IfSome, OnOk, map, ◌≤◌, length, All, Some, None, if◌then◌else◌};
 ghost use Rattle.smbus.specs.Asked.{IsAddressed};
 ghost use Rattle.texts.specs.Reading.{Gives};
-ghost use Rattle.pmseq.specs.Messages.{code_of, form_of, address_for, address_of, asked_of, exchange_of, past_asked, only_exchange, exchange_in};
+ghost use Rattle.pmseq.specs.Messages.{code_of, form_of, address_for, address_of, asked_of};
+ghost use Rattle.pmseq.specs.Messages.{exchange_of, past_asked, only_exchange, exchange_in};
 ghost use Rattle.pmseq.specs.AnswerWords.{answer_of, past_bytes};
 ghost use Rattle.pmseq.specs.CountedLines.{counted_lines};
 ghost use Rattle.pmseq.specs.Texts.{texts_of};
@@ -77,8 +79,10 @@ fn bad_message(line: usize) -> ReadError<InputFault>
 
 /// Takes the form word.
 fn take_form(words: &mut Fields<'_>) -> Option<Form>
-    ensures value { result ≡ option_and_then form_of (value_of (codes "form=") (texts_of words.old.words.now)) }
-    ensures rest { texts_of words.new.words.now ≡ rest_of (codes "form=") (texts_of words.old.words.now) }
+    ensures value { result
+        ≡ option_and_then form_of (value_of (codes "form=") (texts_of words.old.words.now)) }
+    ensures rest { texts_of words.new.words.now
+        ≡ rest_of (codes "form=") (texts_of words.old.words.now) }
 {
     form_of(words.take("form=")?)
 }
@@ -86,8 +90,10 @@ fn take_form(words: &mut Fields<'_>) -> Option<Form>
 /// Takes the address.
 fn take_address(form: Form, words: &mut Fields<'_>) -> Option<u8>
     ensures addressed { IfSome result (λ address. IsAddressed address form) }
-    ensures value { result ≡ option_and_then (address_of form) (value_of (codes "address=") (texts_of words.old.words.now)) }
-    ensures rest { texts_of words.new.words.now ≡ rest_of (codes "address=") (texts_of words.old.words.now) }
+    ensures value { result ≡ option_and_then (address_of form)
+        (value_of (codes "address=") (texts_of words.old.words.now)) }
+    ensures rest { texts_of words.new.words.now
+        ≡ rest_of (codes "address=") (texts_of words.old.words.now) }
 {
     address_of(form, words.take("address=")?)
 }
@@ -100,7 +106,8 @@ fn asked_of(
     words: &mut Fields<'_>,
 ) -> Result<Message, ReadError<InputFault>>
     ensures value { Gives (λ m. m) result (asked_of line (texts_of words.old.words.now)) }
-    ensures rest { OnOk result (texts_of words.new.words.now ≡ past_asked (texts_of words.old.words.now)) }
+    ensures rest { OnOk result
+        (texts_of words.new.words.now ≡ past_asked (texts_of words.old.words.now)) }
 {
     let Some(form) = take_form(words) else {
         return Err(bad_message(line));

@@ -5,7 +5,8 @@ use smbus::{Answer, Form, Message};
 use std::alloc::{AllocError, Global};
 use texts::push_word;
 
-/// What a done message returned: the byte or the word that was read, the first byte of a block, or 0.
+/// What a done message returned: the byte or the word that was read, the first byte of a block, or
+/// 0.
 fn returned_by(form: Form, answer: &Answer) -> u16
     ensures { result ≡ returned_by form answer.now.value answer.now.bytes }
 {
@@ -28,7 +29,8 @@ pub fn outcome_line(
     answer: &Answer,
     cut: Option<usize>,
 ) -> Result<String, AllocError>
-    ensures { IfOk result (λ text. string_bytes text ≡ outcome_text message.now.form answer.now cut) }
+    ensures { IfOk result
+        (λ text. string_bytes text ≡ outcome_text message.now.form answer.now cut) }
 {
     if cut.is_some() {
         return String::from_str(alloc, "timeout");

@@ -3,7 +3,8 @@ use crate::session::session;
 use std::alloc::{AllocError, Global};
 use std::test::*;
 
-/// Two targets that may alert, at the addresses 40h and 21h, with a rail each; the second needs the first.
+/// Two targets that may alert, at the addresses 40h and 21h, with a rail each; the second needs the
+/// first.
 const ALERTING: &str = r#"
 [[target]]
 name = "a"

@@ -70,7 +70,8 @@ pub fn scenario_in(
     program: &Section<'_>,
     answered: &Section<'_>,
 ) -> Result<Scenario, ReadError<InputFault>>
-    ensures value { Gives (λ s. s) result (scenario_in (section_view on.now) (section_view program.now) (section_view answered.now)) }
+    ensures value { Gives (λ s. s) result
+        (scenario_in (section_view on.now) (section_view program.now) (section_view answered.now)) }
     ensures on_board { IfOk result IsOnItsBoard }
 {
     let board = board_in(alloc, on)?;

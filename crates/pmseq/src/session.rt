@@ -3,7 +3,8 @@ ghost use Rattle.std.specs.Str.{is_utf8};
 ghost use Rattle.texts.specs.Reading.{Gives};
 ghost use Rattle.pmseq.specs.Commands.{IsReady};
 ghost use Rattle.pmseq.specs.Replies.{reply_view};
-ghost use Rattle.pmseq.specs.Sessions.{text_if, kept_text, kept_task, IsReplyAfter, IsReplyTo, IsAnswered, IsBegun};
+ghost use Rattle.pmseq.specs.Sessions.{text_if, kept_text, kept_task, IsReplyAfter, IsReplyTo};
+ghost use Rattle.pmseq.specs.Sessions.{IsAnswered, IsBegun};
 ghost use Rattle.pmseq.specs.Devices.{device_of};
 ghost use Rattle.pmseq.specs.declared.session.DeviceFault.TheVariants.{Memory, Writer};
 
@@ -55,7 +56,8 @@ fn utf8_of(bytes: &[u8]) -> Option<&str>
 /// The text of a bundle.
 #[tactic(auto, unfolding(crate::specs::Sessions::kept_text))]
 fn text_of(input: &Input) -> Result<&str, ReadError<InputFault>>
-    ensures { Gives (λ text. text.now) result (kept_text input.now.bytes.items input.now.too_large) }
+    ensures { Gives (λ text. text.now) result
+        (kept_text input.now.bytes.items input.now.too_large) }
 {
     if input.too_large {
         return Err(BundleFault::TooLarge.error());
@@ -71,7 +73,8 @@ fn text_of(input: &Input) -> Result<&str, ReadError<InputFault>>
 
 /// What an input asks for.
 fn task_of(alloc: Global, input: &Input) -> Result<Task, ReadError<InputFault>>
-    ensures value { Gives (λ task. task) result (kept_task input.now.bytes.items input.now.too_large) }
+    ensures value { Gives (λ task. task) result
+        (kept_task input.now.bytes.items input.now.too_large) }
     ensures ready { IfOk result IsReady }
 {
     let text = text_of(input)?;
@@ -81,7 +84,8 @@ fn task_of(alloc: Global, input: &Input) -> Result<Task, ReadError<InputFault>>
 /// The reply to an input.
 fn make_reply(alloc: Global, input: &Input) -> Result<Reply, AllocError>
     ensures whole { IfOk result (λ reply. reply.status ≢ Status.DeviceFault) }
-    ensures replies { IfOk result (λ reply. IsReplyAfter (kept_task input.now.bytes.items input.now.too_large) (reply_view reply)) }
+    ensures replies { IfOk result (λ reply.
+        IsReplyAfter (kept_task input.now.bytes.items input.now.too_large) (reply_view reply)) }
 {
     match task_of(alloc, input) {
         Ok(task) => reply_of(alloc, &task),
@@ -92,7 +96,8 @@ fn make_reply(alloc: Global, input: &Input) -> Result<Reply, AllocError>
 
 /// Reads a whole input and makes the reply, and writes nothing.
 fn received<R: Read>(alloc: Global, reader: &mut R) -> Result<Reply, DeviceFault>
-    ensures replies { IfOk result (λ reply. IfSome (R.remaining reader.old) (λ input. IsReplyTo input (reply_view reply))) }
+    ensures replies { IfOk result
+        (λ reply. IfSome (R.remaining reader.old) (λ input. IsReplyTo input (reply_view reply))) }
     ensures whole { IfOk result (λ reply. reply.status ≢ Status.DeviceFault) }
     ensures err { IfErr result (λ fault. fault ≢ Writer) }
 {
@@ -110,7 +115,8 @@ pub fn answer<R: Read, W: Write>(
     ensures answered { IfOk result (λ status. IfSome (R.remaining reader.old) (λ input.
         IsAnswered input (W.contents writer.old) (W.contents writer.new) status)) }
     ensures whole { IfOk result (λ status. status ≢ Status.DeviceFault) }
-    ensures begun { IfErr result (λ fault. fault ≡ Writer → IfSome (R.remaining reader.old) (λ input.
+    ensures begun { IfErr result
+        (λ fault. fault ≡ Writer → IfSome (R.remaining reader.old) (λ input.
         IsBegun input (W.contents writer.old) (W.contents writer.new))) }
 
     // Where memory or the reader failed, nothing was written.
@@ -129,7 +135,8 @@ pub fn session<R: Read, W: Write>(alloc: Global, reader: &mut R, writer: &mut W)
         IsAnswered input (W.contents writer.old) (W.contents writer.new) result) }
 
     // A device failed: nothing was written, or a beginning of the reply.
-    ensures failed { result ≡ Status.DeviceFault → (writer.new ≡ writer.old) ⊎ IfSome (R.remaining reader.old) (λ input.
+    ensures failed { result ≡ Status.DeviceFault
+        → (writer.new ≡ writer.old) ⊎ IfSome (R.remaining reader.old) (λ input.
         IsBegun input (W.contents writer.old) (W.contents writer.new)) }
 {
     match answer(alloc, reader, writer) {

@@ -16,7 +16,9 @@ is_program = record {
   some = lit≤ tt;
   few = lit≤ tt;
   each = All-from_recursion (λ i. IsInstr i) asks_first (tt, (tt, tt));
-  jumps = All-from_recursion (λ i. IfSome (jump_in i) (λ place. place < 2)) asks_first (lit< tt, (tt, tt));
+  jumps =
+      All-from_recursion (λ i. IfSome (jump_in i) (λ place. place < 2)) asks_first
+      (lit< tt, (tt, tt));
   last = refl;
 }
 
@@ -26,6 +28,8 @@ boards_have_programs board good =
     record {
       instrs = asks_first;
       program = is_program;
-      targets = All-from_recursion (λ i. IsOnBoard (length board.target_names) i) asks_first (first, (tt, tt));
+      targets =
+          All-from_recursion (λ i. IsOnBoard (length board.target_names) i) asks_first
+          (first, (tt, tt));
       sends = refl;
     }

@@ -1,5 +1,6 @@
 -- A printed program reads back.
-use Rattle.std.proofs.Common.{◌≡◌, ℕ, ◌-◌, ◌<◌, ◌≤◌, true, List, [], length, slice_get, Option, Some, None, IfSome, IsTrue, Ok, refl, All, arith}
+use Rattle.std.proofs.Common.{◌≡◌, ℕ, ◌-◌, ◌<◌, ◌≤◌, true, List, [], length, slice_get, Option}
+use Rattle.std.proofs.Common.{Some, None, IfSome, IsTrue, Ok, refl, All, arith}
 use Rattle.std.specs.List.{flat_map, enumerate_from}
 use Rattle.std.specs.Str.Lines.{lines}
 use Rattle.std.proofs.lemmas.Bool.{and_from}
@@ -12,78 +13,126 @@ use Rattle.seq_program.specs.declared.instr.Written.{Written}
 use Rattle.seq_program.specs.declared.instr.Written.TheVariants as written
 use Rattle.seq_program.specs.Passes.{after_lines}
 use Rattle.seq_program.specs.PrintedWords.{place_name}
-use Rattle.seq_program.specs.Programs.{place_of, is_end, is_some_end, ends, all_resolved, no_pass, program_of}
+use Rattle.seq_program.specs.Programs.{place_of, is_end, is_some_end, ends, all_resolved, no_pass}
+use Rattle.seq_program.specs.Programs.{program_of}
 use Rattle.seq_program.specs.Valid.{IsInstr, IsWritten, IsOnBoard, IsProgram, jump_in}
 use Rattle.seq_program.specs.Printed.{place_lines, printed}
 use Rattle.seq_program.specs.PrintedLaw.{PrintedProgramsReadBack}
 use Rattle.seq_program.proofs.JoinedWords.{lines_back}
-use Rattle.seq_program.proofs.PrintedPlaces.{ReadsBack, placed_from, labels_from, places_read, all_words, texts_from}
+use Rattle.seq_program.proofs.PrintedPlaces.{ReadsBack, placed_from, labels_from, places_read}
+use Rattle.seq_program.proofs.PrintedPlaces.{all_words, texts_from}
 use Rattle.seq_program.proofs.PrintedJumps.{place_found, labels_below, all_back}
-use Rattle.seq_program.proofs.PrintedPlain.{if_alert_back, set_back, add_back, if_back, above_back, count_back, again_back, wait_back, goto_back, end_back, fail_back}
-use Rattle.seq_program.proofs.PrintedMessages.{IsTargetOf, quick_back, send_back, receive_back, write_byte_back, write_word_back, write_register_back, reading_back, call_back, block_write_back, block_read_back, block_call_back, alert_back}
+use Rattle.seq_program.proofs.PrintedPlain.{if_alert_back, set_back, add_back, if_back, above_back}
+use Rattle.seq_program.proofs.PrintedPlain.{count_back, again_back, wait_back, goto_back, end_back}
+use Rattle.seq_program.proofs.PrintedPlain.{fail_back}
+use Rattle.seq_program.proofs.PrintedMessages.{IsTargetOf, quick_back, send_back, receive_back}
+use Rattle.seq_program.proofs.PrintedMessages.{write_byte_back, write_word_back}
+use Rattle.seq_program.proofs.PrintedMessages.{write_register_back, reading_back, call_back}
+use Rattle.seq_program.proofs.PrintedMessages.{block_write_back, block_read_back, block_call_back}
+use Rattle.seq_program.proofs.PrintedMessages.{alert_back}
 
 -- the last instruction ends
-end_at : (o : Option (Instr ℕ)) (i : Instr ℕ) → o ≡ Some i → IfSome o (λ i. IsTrue (is_end i)) → is_some_end o ≡ true
+end_at : (o : Option (Instr ℕ)) (i : Instr ℕ) → o ≡ Some i → IfSome o (λ i. IsTrue (is_end i))
+    → is_some_end o ≡ true
 end_at None i e t = absurd cc
 end_at (Some j) i e t = t
 
 ends_back : (instrs : List (Instr ℕ)) → IsProgram instrs → ends (labels_from 0 instrs) instrs ≡ true
 ends_back instrs program =
-    and_from _ _ (end_at (slice_get instrs (length instrs - 1)) _ (slice_get-get_or instrs (length instrs - 1) instr.End (omega arith)) program.last)
+    and_from _ _ (end_at (slice_get instrs (length instrs - 1)) _
+    (slice_get-get_or instrs (length instrs - 1) instr.End (omega arith)) program.last)
     (labels_below (length instrs) instrs 0 (omega arith))
 
-found_at : (instrs : List (Instr ℕ)) (o : Option ℕ) → length instrs ≤ 1024 → IfSome o (λ p. p < length instrs) → IfSome o (λ p. place_of (labels_from 0 instrs) (place_name p) ≡ Some p)
+found_at : (instrs : List (Instr ℕ)) (o : Option ℕ) → length instrs ≤ 1024
+    → IfSome o (λ p. p < length instrs)
+    → IfSome o (λ p. place_of (labels_from 0 instrs) (place_name p) ≡ Some p)
 found_at instrs None few less = tt
 found_at instrs (Some p) few less = place_found instrs 0 p (omega arith) (omega arith) (omega arith)
 
 -- a program whose instructions read back
-pub program_back : (board : Board) (instrs : List (Instr ℕ)) → IsProgram instrs → All (ReadsBack board) instrs → program_of board (printed board instrs) ≡ Ok instrs
+pub program_back : (board : Board) (instrs : List (Instr ℕ)) → IsProgram instrs
+    → All (ReadsBack board) instrs → program_of board (printed board instrs) ≡ Ok instrs
 unfolding program_of
 program_back board instrs program back =
     let few : length instrs ≤ 1024 = program.few in
-    let cut : lines (printed board instrs) ≡ texts_from board 0 instrs = lines_back (flat_map (place_lines board) (enumerate_from 0 instrs)) (all_words board instrs 0 (omega arith) back) in
-    let said : after_lines board 1 no_pass (texts_from board 0 instrs) ≡ Ok (record { instrs = placed_from 1 instrs; labels = labels_from 0 instrs }) =
+    let cut : lines (printed board instrs) ≡ texts_from board 0 instrs =
+    lines_back (flat_map (place_lines board) (enumerate_from 0 instrs))
+    (all_words board instrs 0 (omega arith) back) in
+    let said : after_lines board 1 no_pass (texts_from board 0 instrs)
+    ≡ Ok (record { instrs = placed_from 1 instrs; labels = labels_from 0 instrs }) =
     places_read board instrs 0 1 no_pass refl (omega arith) (λ j more less. refl) back in
     let made : all_resolved [] (labels_from 0 instrs) (placed_from 1 instrs) ≡ Ok instrs =
-    all_back (labels_from 0 instrs) instrs [] 1 (λ k d less. found_at instrs _ few (program.jumps k d less)) in
+    all_back (labels_from 0 instrs) instrs [] 1
+    (λ k d less. found_at instrs _ few (program.jumps k d less)) in
     rw (cut, said, made, ends_back instrs program) refl
 
 -- each instruction of a board's program reads back
-written_instr : (board : Board) (target command place : ℕ) (value : Written) → IsTargetOf board target → IsWritten command value → place < 1024 → ReadsBack board (instr.Write target command value place)
-written_instr board target command place (written.Byte value) t fits few = write_byte_back board target command value place t fits.0 fits.1 few
-written_instr board target command place (written.Word value) t fits few = write_word_back board target command value place t fits.0 fits.1 few
-written_instr board target command place (written.Register register) t fits few = rw fits.0 (write_register_back board target register place t fits.1 few)
+written_instr : (board : Board) (target command place : ℕ) (value : Written)
+    → IsTargetOf board target → IsWritten command value → place < 1024
+    → ReadsBack board (instr.Write target command value place)
+written_instr board target command place (written.Byte value) t fits few =
+    write_byte_back board target command value place t fits.0 fits.1 few
+written_instr board target command place (written.Word value) t fits few =
+    write_word_back board target command value place t fits.0 fits.1 few
+written_instr board target command place (written.Register register) t fits few =
+    rw fits.0 (write_register_back board target register place t fits.1 few)
 
-on_board : (board : Board) (target : ℕ) → IsBoard board → target < length board.target_names → IsTargetOf board target
+on_board : (board : Board) (target : ℕ) → IsBoard board → target < length board.target_names
+    → IsTargetOf board target
 on_board board target good less = record { good = good; within = less }
 
-instr_back : (board : Board) → IsBoard board → (i : Instr ℕ) → IsInstr i → IsOnBoard (length board.target_names) i → IfSome (jump_in i) (λ p. p < 1024) → ReadsBack board i
-instr_back board good (instr.Quick target read place) fits t few = quick_back board target place read (on_board board target good t) few
-instr_back board good (instr.Send target command place) fits t few = send_back board target command place (on_board board target good t) fits few
-instr_back board good (instr.Receive target register place) fits t few = receive_back board target register place (on_board board target good t) fits few
-instr_back board good (instr.Write target command value place) fits t few = written_instr board target command place value (on_board board target good t) fits few
-instr_back board good (instr.Read target command size register place) fits t few = reading_back board target command register place size (on_board board target good t) fits.0 fits.1 few
-instr_back board good (instr.Call target command value register place) fits t few = call_back board target command value register place (on_board board target good t) fits.0 fits.1 fits.2 few
-instr_back board good (instr.BlockWrite target command bytes place) fits t few = block_write_back board target command place bytes (on_board board target good t) fits.0 fits.1 few
-instr_back board good (instr.BlockRead target command register place) fits t few = block_read_back board target command register place (on_board board target good t) fits.0 fits.1 few
-instr_back board good (instr.BlockCall target command bytes register place) fits t few = block_call_back board target command register place bytes (on_board board target good t) fits.0 fits.1 fits.2 few
-instr_back board good (instr.Alert register place) fits t few = alert_back board register place fits few
+instr_back : (board : Board) → IsBoard board → (i : Instr ℕ) → IsInstr i
+    → IsOnBoard (length board.target_names) i → IfSome (jump_in i) (λ p. p < 1024)
+    → ReadsBack board i
+instr_back board good (instr.Quick target read place) fits t few =
+    quick_back board target place read (on_board board target good t) few
+instr_back board good (instr.Send target command place) fits t few =
+    send_back board target command place (on_board board target good t) fits few
+instr_back board good (instr.Receive target register place) fits t few =
+    receive_back board target register place (on_board board target good t) fits few
+instr_back board good (instr.Write target command value place) fits t few =
+    written_instr board target command place value (on_board board target good t) fits few
+instr_back board good (instr.Read target command size register place) fits t few =
+    reading_back board target command register place size
+    (on_board board target good t) fits.0 fits.1 few
+instr_back board good (instr.Call target command value register place) fits t few =
+    call_back board target command value register place
+    (on_board board target good t) fits.0 fits.1 fits.2 few
+instr_back board good (instr.BlockWrite target command bytes place) fits t few =
+    block_write_back board target command place bytes
+    (on_board board target good t) fits.0 fits.1 few
+instr_back board good (instr.BlockRead target command register place) fits t few =
+    block_read_back board target command register place
+    (on_board board target good t) fits.0 fits.1 few
+instr_back board good (instr.BlockCall target command bytes register place) fits t few =
+    block_call_back board target command register place bytes
+    (on_board board target good t) fits.0 fits.1 fits.2 few
+instr_back board good (instr.Alert register place) fits t few =
+    alert_back board register place fits few
 instr_back board good (instr.IfAlert place) fits t few = if_alert_back board place few
-instr_back board good (instr.Set register value) fits t few = set_back board register value fits.0 fits.1
-instr_back board good (instr.Add register value) fits t few = add_back board register value fits.0 fits.1
-instr_back board good (instr.If register mask value place) fits t few = if_back board register mask value place fits.0 fits.1 fits.2 few
-instr_back board good (instr.Above register value place) fits t few = above_back board register value place fits.0 fits.1 few
-instr_back board good (instr.Count counter value) fits t few = count_back board counter value fits.0 fits.1
-instr_back board good (instr.Again counter place) fits t few = again_back board counter place fits few
+instr_back board good (instr.Set register value) fits t few =
+    set_back board register value fits.0 fits.1
+instr_back board good (instr.Add register value) fits t few =
+    add_back board register value fits.0 fits.1
+instr_back board good (instr.If register mask value place) fits t few =
+    if_back board register mask value place fits.0 fits.1 fits.2 few
+instr_back board good (instr.Above register value place) fits t few =
+    above_back board register value place fits.0 fits.1 few
+instr_back board good (instr.Count counter value) fits t few =
+    count_back board counter value fits.0 fits.1
+instr_back board good (instr.Again counter place) fits t few =
+    again_back board counter place fits few
 instr_back board good (instr.Wait ticks) fits t few = wait_back board ticks fits.0 fits.1
 instr_back board good (instr.Goto place) fits t few = goto_back board place few
 instr_back board good instr.End fits t few = end_back board
 instr_back board good instr.Fail fits t few = fail_back board
 
-lands : (o : Option ℕ) (count : ℕ) → count ≤ 1024 → IfSome o (λ p. p < count) → IfSome o (λ p. p < 1024)
+lands : (o : Option ℕ) (count : ℕ) → count ≤ 1024 → IfSome o (λ p. p < count)
+    → IfSome o (λ p. p < 1024)
 lands None count few less = tt
 lands (Some p) count few less = omega arith
 
 pub printed_programs_read_back : PrintedProgramsReadBack
 printed_programs_read_back board good instrs program targets =
-    program_back board instrs program (λ k d less. instr_back board good _ (program.each k d less) (targets k d less) (lands _ (length instrs) program.few (program.jumps k d less)))
+    program_back board instrs program (λ k d less. instr_back board good _ (program.each k d less)
+    (targets k d less) (lands _ (length instrs) program.few (program.jumps k d less)))

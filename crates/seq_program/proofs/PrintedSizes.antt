@@ -1,5 +1,7 @@
 -- Printed commands of a byte or a word read back with their width.
-use Rattle.std.proofs.Common.{◌≡◌, ℕ, ◌<◌, ◌/◌, ◌%◌, Bool, true, false, ◌&&◌, ◌||◌, not, ◌==◌, inl, inr, List, [], ◌∷◌, ◌++◌, length, Option, Some, None, option_and_then, codes, refl, ap, arith}
+use Rattle.std.proofs.Common.{◌≡◌, ℕ, ◌<◌, ◌/◌, ◌%◌, Bool, true, false, ◌&&◌, ◌||◌, not, ◌==◌, inl}
+use Rattle.std.proofs.Common.{inr, List, [], ◌∷◌, ◌++◌, length, Option, Some, None, option_and_then}
+use Rattle.std.proofs.Common.{codes, refl, ap, arith}
 use Rattle.std.specs.List.{list_all}
 use Rattle.std.specs.Str.{bytes_eq}
 use Rattle.std.proofs.lemmas.Bool.{cases_Bool}
@@ -10,7 +12,8 @@ use Rattle.texts.proofs.HexLaws.{pair_of-pair_text}
 use Rattle.smbus.specs.declared.message.Form.{Form}
 use Rattle.smbus.specs.declared.message.Form.TheVariants as form
 use Rattle.pmbus_table.specs.Codes.{vout_command_code}
-use Rattle.pmbus_table.specs.Commands.{is_manufacturer, name_text, command_named, manufacturer_named, form_written, form_read, takes_form}
+use Rattle.pmbus_table.specs.Commands.{is_manufacturer, name_text, command_named}
+use Rattle.pmbus_table.specs.Commands.{manufacturer_named, form_written, form_read, takes_form}
 use Rattle.pmbus_table.specs.Forms.{is_form}
 use Rattle.pmbus_table.specs.Table.{Row, table, row_of, row_named}
 use Rattle.pmbus_table.proofs.NameLaws.{text_of_digits, command_named-name_text}
@@ -19,11 +22,13 @@ use Rattle.seq_program.specs.declared.instr.Width.{Width}
 use Rattle.seq_program.specs.declared.instr.Width.TheVariants as width
 use Rattle.seq_program.specs.PrintedWords.{width_letter, sized_name}
 use Rattle.seq_program.proofs.JoinedWords.{is_word_byte, is_word, word-append}
-use Rattle.seq_program.proofs.PrintedCommands.{Plain, plain, found_here, same_text, is_taken, taken_is_command, command_word}
+use Rattle.seq_program.proofs.PrintedCommands.{Plain, plain, found_here, same_text, is_taken}
+use Rattle.seq_program.proofs.PrintedCommands.{taken_is_command, command_word}
 
 -- no named command has both forms
 abbrev AreApart : Form → Form → Type 0
-AreApart byte word = (c : ℕ) → is_manufacturer c ≡ false → takes_form c word ≡ true → takes_form c byte ≡ false
+AreApart byte word = (c : ℕ) → is_manufacturer c ≡ false → takes_form c word ≡ true
+    → takes_form c byte ≡ false
 
 one_of : (a b : Bool) → not (a && b) ≡ true → b ≡ true → a ≡ false
 one_of true true t s = cc
@@ -34,10 +39,13 @@ abbrev IsSingle : Form → Form → Type 0
 IsSingle byte word = (r : Row) → Plain r → not (is_taken byte r && is_taken word r) ≡ true
 
 row_apart : (byte word : Form) → IsSingle byte word → (c : ℕ) (o : Option Row) → row_of c ≡ o
-    → (is_form word (option_and_then (λ r. r.written) o) || is_form word (option_and_then (λ r. r.read) o)) ≡ true
-    → (is_form byte (option_and_then (λ r. r.written) o) || is_form byte (option_and_then (λ r. r.read) o)) ≡ false
+    → (is_form word (option_and_then (λ r. r.written) o)
+    || is_form word (option_and_then (λ r. r.read) o)) ≡ true
+    → (is_form byte (option_and_then (λ r. r.written) o)
+    || is_form byte (option_and_then (λ r. r.read) o)) ≡ false
 row_apart byte word single c None e t = refl
-row_apart byte word single c (Some r) e t = one_of (is_taken byte r) (is_taken word r) (single r (plain (λ r. r.code == c) r e)) t
+row_apart byte word single c (Some r) e t =
+    one_of (is_taken byte r) (is_taken word r) (single r (plain (λ r. r.code == c) r e)) t
 
 apart : (byte word : Form) → IsSingle byte word → AreApart byte word
 apart byte word single c n t =
@@ -45,15 +53,18 @@ apart byte word single c n t =
     rw n (row_apart byte word single c (row_of c) refl test)
 
 -- a named command
-named_width : (byte word : Form) → AreApart byte word → (c : ℕ) (size : Width) → is_manufacturer c ≡ false → takes_form c (form_at byte word size) ≡ true
+named_width : (byte word : Form) → AreApart byte word → (c : ℕ) (size : Width)
+    → is_manufacturer c ≡ false → takes_form c (form_at byte word size) ≡ true
     → width_of byte word c ≡ Some size
 named_width byte word other c width.Byte n t = rw (t, n) refl
 named_width byte word other c width.Word n t = rw (other c n t, t, n) refl
 
-named_back : (byte word : Form) → AreApart byte word → (c : ℕ) (size : Width) → is_manufacturer c ≡ false → takes_form c (form_at byte word size) ≡ true
+named_back : (byte word : Form) → AreApart byte word → (c : ℕ) (size : Width)
+    → is_manufacturer c ≡ false → takes_form c (form_at byte word size) ≡ true
     → sized_in byte word (name_text c) ≡ Some (c, size)
 named_back byte word other c size n t =
-    let code : command_named (name_text c) ≡ Some c = command_named-name_text c (taken_is_command c (form_at byte word size) t) in
+    let code : command_named (name_text c) ≡ Some c =
+    command_named-name_text c (taken_is_command c (form_at byte word size) t) in
     rw (code, named_width byte word other c size n t) refl
 
 -- two digits and a letter are no name
@@ -61,41 +72,57 @@ no_name : (text : List ℕ) (o : Option Row) → row_named text ≡ o → length
 no_name text None e three = refl
 no_name text (Some r) e three =
     let row = plain (λ r. bytes_eq r.name text) r e in
-    let name : length r.name ≡ length text = ap length (same_text r.name text (found_here (λ r. bytes_eq r.name text) table r e)) in
+    let name : length r.name ≡ length text =
+    ap length (same_text r.name text (found_here (λ r. bytes_eq r.name text) table r e)) in
     let more : 3 < length r.name = row.long in
     absurd (omega arith)
 
 unnamed : (high low letter : ℕ) → command_named (high ∷ low ∷ letter ∷ []) ≡ None
-unnamed high low letter = rw (no_name (high ∷ low ∷ letter ∷ []) (row_named (high ∷ low ∷ letter ∷ [])) refl refl) refl
+unnamed high low letter =
+    rw (no_name (high ∷ low ∷ letter ∷ []) (row_named (high ∷ low ∷ letter ∷ [])) refl refl) refl
 
 digits_back : (c : ℕ) → is_manufacturer c ≡ true → manufacturer_named (pair_text c) ≡ Some c
 digits_back c m =
     let small : c < 256 = grind (arith, nat_tests) in
     rw (pair_of-pair_text c small, m) refl
 
-lettered_back : (c : ℕ) (size : Width) → is_manufacturer c ≡ true → manufacturer_sized (pair_text c ++ width_letter size) ≡ Some (c, size)
+lettered_back : (c : ℕ) (size : Width) → is_manufacturer c ≡ true
+    → manufacturer_sized (pair_text c ++ width_letter size) ≡ Some (c, size)
 unfolding before
 lettered_back c width.Byte m = rw (digits_back c m) refl
 lettered_back c width.Word m = rw (digits_back c m) refl
 
-manufacturer_back : (byte word : Form) (c : ℕ) (size : Width) → is_manufacturer c ≡ true → sized_in byte word (pair_text c ++ width_letter size) ≡ Some (c, size)
-manufacturer_back byte word c width.Byte m = rw (unnamed (digit_of (c / 16)) (digit_of (c % 16)) 98) (lettered_back c width.Byte m)
-manufacturer_back byte word c width.Word m = rw (unnamed (digit_of (c / 16)) (digit_of (c % 16)) 119) (lettered_back c width.Word m)
+manufacturer_back : (byte word : Form) (c : ℕ) (size : Width) → is_manufacturer c ≡ true
+    → sized_in byte word (pair_text c ++ width_letter size) ≡ Some (c, size)
+manufacturer_back byte word c width.Byte m =
+    rw (unnamed (digit_of (c / 16)) (digit_of (c % 16)) 98) (lettered_back c width.Byte m)
+manufacturer_back byte word c width.Word m =
+    rw (unnamed (digit_of (c / 16)) (digit_of (c % 16)) 119) (lettered_back c width.Word m)
 
-sized_back : (byte word : Form) → AreApart byte word → (c : ℕ) (size : Width) → takes_form c (form_at byte word size) ≡ true → sized_in byte word (sized_name c size) ≡ Some (c, size)
+sized_back : (byte word : Form) → AreApart byte word → (c : ℕ) (size : Width)
+    → takes_form c (form_at byte word size) ≡ true
+    → sized_in byte word (sized_name c size) ≡ Some (c, size)
 sized_back byte word other c size t = elim (cases_Bool (is_manufacturer c)) [
   | inl m ↦ rw (m, text_of_digits c m) (manufacturer_back byte word c size m)
   | inr n ↦ rw (n, append-nil (name_text c)) (named_back byte word other c size n t)
 ]
 
-pub written_back : (c : ℕ) (size : Width) → takes_form c (form_at form.WriteByte form.WriteWord size) ≡ true → sized_in form.WriteByte form.WriteWord (sized_name c size) ≡ Some (c, size)
-written_back = sized_back form.WriteByte form.WriteWord (apart form.WriteByte form.WriteWord (λ r row. row.writes))
+pub written_back : (c : ℕ) (size : Width)
+    → takes_form c (form_at form.WriteByte form.WriteWord size) ≡ true
+    → sized_in form.WriteByte form.WriteWord (sized_name c size) ≡ Some (c, size)
+written_back =
+    sized_back form.WriteByte form.WriteWord
+    (apart form.WriteByte form.WriteWord (λ r row. row.writes))
 
-pub read_back : (c : ℕ) (size : Width) → takes_form c (form_at form.ReadByte form.ReadWord size) ≡ true → sized_in form.ReadByte form.ReadWord (sized_name c size) ≡ Some (c, size)
-read_back = sized_back form.ReadByte form.ReadWord (apart form.ReadByte form.ReadWord (λ r row. row.reads))
+pub read_back : (c : ℕ) (size : Width)
+    → takes_form c (form_at form.ReadByte form.ReadWord size) ≡ true
+    → sized_in form.ReadByte form.ReadWord (sized_name c size) ≡ Some (c, size)
+read_back =
+    sized_back form.ReadByte form.ReadWord (apart form.ReadByte form.ReadWord (λ r row. row.reads))
 
 -- and are words
-letter_word : (name : List ℕ) (size : Width) → is_word name ≡ true → is_word (name ++ width_letter size) ≡ true
+letter_word : (name : List ℕ) (size : Width) → is_word name ≡ true
+    → is_word (name ++ width_letter size) ≡ true
 letter_word name size t = word-append name (width_letter size) t (letter_bytes size)
   where
     letter_bytes : (size : Width) → list_all is_word_byte (width_letter size) ≡ true

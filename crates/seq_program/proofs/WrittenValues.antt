@@ -1,5 +1,7 @@
 -- What a write line writes fits its command.
-use Rattle.std.proofs.Common.{◌≡◌, ℕ, ◌≤◌, ◌<◌, inl, inr, nat_le, ◌&&◌, List, Option, Some, None, IfSome, IsTrue, codes, option_map, option_and_then, if◌then◌else◌, refl, sym, ap, ◌∙◌}
+use Rattle.std.proofs.Common.{◌≡◌, ℕ, ◌≤◌, ◌<◌, inl, inr, nat_le, ◌&&◌, List, Option, Some, None}
+use Rattle.std.proofs.Common.{IfSome, IsTrue, codes, option_map, option_and_then, if◌then◌else◌}
+use Rattle.std.proofs.Common.{refl, sym, ap, ◌∙◌}
 use Rattle.std.proofs.lemmas.Bool.{cases_Bool, and_parts, leb-true}
 use Rattle.smbus.specs.declared.message.Form.TheVariants as form
 use Rattle.pmbus_table.specs.Table.{table}
@@ -14,23 +16,32 @@ use Rattle.seq_program.specs.Operands.{number_of, number_within}
 use Rattle.seq_program.specs.MessageLines.{written_of}
 use Rattle.seq_program.specs.Valid.{IsWritten}
 
-within_high : (low high : ℕ) (o : Option ℕ) (n : ℕ) → option_and_then (λ n. if nat_le low n && nat_le n high then Some n else None) o ≡ Some n → n ≤ high
+within_high : (low high : ℕ) (o : Option ℕ) (n : ℕ)
+    → option_and_then (λ n. if nat_le low n && nat_le n high then Some n else None) o ≡ Some n
+    → n ≤ high
 within_high low high None n e = absurd cc
 within_high low high (Some m) n e = elim (cases_Bool (nat_le low m && nat_le m high)) [
-  | inl t ↦ let same : m ≡ n = some_of (rw t at e) in rw (← same) (leb-true m high (and_parts (nat_le low m) (nat_le m high) t).1)
+  | inl t ↦
+      let same : m ≡ n = some_of (rw t at e) in
+      rw (← same) (leb-true m high (and_parts (nat_le low m) (nat_le m high) t).1)
   | inr f ↦ let none : None ≡ Some n = rw f at e in absurd cc
 ]
   where
     some_of : {a b : ℕ} → Some a ≡ Some b → a ≡ b
     some_of e = cc
 
-voltage : Some (vout_command_code, width.Word) ≡ sized_in form.WriteByte form.WriteWord (codes "VOUT_COMMAND")
+voltage : Some (vout_command_code, width.Word)
+    ≡ sized_in form.WriteByte form.WriteWord (codes "VOUT_COMMAND")
 unfolding table
 voltage = refl
 
-number_fits : (high : ℕ) (make : ℕ → Written) (o : Option ℕ) (value : Written) → Some value ≡ option_map make o → (P : Written → Type 0) → ((n : ℕ) → o ≡ Some n → P (make n)) → P value
+number_fits : (high : ℕ) (make : ℕ → Written) (o : Option ℕ) (value : Written)
+    → Some value ≡ option_map make o → (P : Written → Type 0) → ((n : ℕ) → o ≡ Some n → P (make n))
+    → P value
 number_fits high make None value e P fits = absurd cc
-number_fits high make (Some n) value e P fits = let same : value ≡ make n = cc in rw same (fits n refl)
+number_fits high make (Some n) value e P fits =
+    let same : value ≡ make n = cc in
+    rw same (fits n refl)
 
 abbrev sized_as : ℕ → Width → Option (ℕ × Width)
 sized_as command w = Some (command, w)
@@ -42,7 +53,8 @@ first_same a b x y e = ap command_at e
     command_at None = 0
     command_at (Some sized) = sized.0
 
-pub written_fits : (command : ℕ) (w : Width) (source : Option ℕ) (name text : List ℕ) (value : Written)
+pub written_fits : (command : ℕ) (w : Width) (source : Option ℕ) (name text : List ℕ)
+    (value : Written)
     → IsTrue (takes_form command (form_at form.WriteByte form.WriteWord w))
     → Some (command, w) ≡ sized_in form.WriteByte form.WriteWord name
     → IfSome source (λ r. (name ≡ codes "VOUT_COMMAND") × (r < 8))
@@ -50,10 +62,14 @@ pub written_fits : (command : ℕ) (w : Width) (source : Option ℕ) (name text 
 unfolding written_of
 written_fits command w (Some r) name text value taken sized h e =
     let same : value ≡ written.Register r = cc in
-    let both : Some (command, w) ≡ Some (vout_command_code, width.Word) = sized ∙ ap (sized_in form.WriteByte form.WriteWord) h.0 ∙ sym voltage in
-    let code : command ≡ vout_command_code = first_same command vout_command_code w width.Word both in
+    let both : Some (command, w) ≡ Some (vout_command_code, width.Word) =
+    sized ∙ ap (sized_in form.WriteByte form.WriteWord) h.0 ∙ sym voltage in
+    let code : command ≡ vout_command_code =
+    first_same command vout_command_code w width.Word both in
     rw same (code, h.1)
 written_fits command width.Byte None name text value taken sized h e =
-    number_fits 255 written.Byte (number_within 0 255 text) value e (IsWritten command) (λ n k. (taken, within_high 0 255 (number_of text) n k))
+    number_fits 255 written.Byte (number_within 0 255 text) value e (IsWritten command)
+    (λ n k. (taken, within_high 0 255 (number_of text) n k))
 written_fits command width.Word None name text value taken sized h e =
-    number_fits 65535 written.Word (number_within 0 65535 text) value e (IsWritten command) (λ n k. (taken, within_high 0 65535 (number_of text) n k))
+    number_fits 65535 written.Word (number_within 0 65535 text) value e (IsWritten command)
+    (λ n k. (taken, within_high 0 65535 (number_of text) n k))

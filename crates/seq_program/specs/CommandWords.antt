@@ -1,15 +1,18 @@
 -- Commands as words of a program.
-use Rattle.std.specs.Prelude.{ℕ, ◌-◌, List, length, take, Option, Some, None, option_map, option_and_then, nat_eq, if◌then◌else◌, codes}
+use Rattle.std.specs.Prelude.{ℕ, ◌-◌, List, length, take, Option, Some, None, option_map}
+use Rattle.std.specs.Prelude.{option_and_then, nat_eq, if◌then◌else◌, codes}
 use Rattle.std.specs.List.{ends_with}
 use Rattle.smbus.specs.declared.message.Form.{Form}
-use Rattle.pmbus_table.specs.Commands.{is_manufacturer, manufacturer_named, command_named, takes_form}
+use Rattle.pmbus_table.specs.Commands.{is_manufacturer, manufacturer_named, command_named}
+use Rattle.pmbus_table.specs.Commands.{takes_form}
 use Rattle.seq_program.specs.declared.instr.Width.{Width}
 use Rattle.seq_program.specs.declared.instr.Width.TheVariants.{Byte, Word}
 
 -- the command of a word, if it takes the form
 abbrev pub command_in : Form → List ℕ → Option ℕ
 command_in form word =
-    option_and_then (λ command. if takes_form command form then Some command else None) (command_named word)
+    option_and_then (λ command. if takes_form command form then Some command else None)
+    (command_named word)
 
 abbrev pub form_at : Form → Form → Width → Form
 form_at byte word Byte = byte
@@ -26,7 +29,8 @@ width_of byte word command =
 -- a name
 abbrev pub named_sized : Form → Form → List ℕ → Option (ℕ × Width)
 named_sized byte word text =
-    option_and_then (λ command. option_map (λ width. (command, width)) (width_of byte word command)) (command_named text)
+    option_and_then (λ command. option_map (λ width. (command, width)) (width_of byte word command))
+    (command_named text)
 
 abbrev pub first_some : {A : Type 0} → Option A → Option A → Option A
 first_some None other = other
@@ -34,15 +38,18 @@ first_some (Some x) other = Some x
 
 -- what stands before the ending of a word
 unfoldable pub before : List ℕ → List ℕ → Option (List ℕ)
-before ending text = if ends_with nat_eq text ending then Some (take (length text - length ending) text) else None
+before ending text =
+    if ends_with nat_eq text ending then Some (take (length text - length ending) text) else None
 
 abbrev pub manufacturer_word : Width → Option (List ℕ) → Option (ℕ × Width)
-manufacturer_word width digits = option_map (λ command. (command, width)) (option_and_then manufacturer_named digits)
+manufacturer_word width digits =
+    option_map (λ command. (command, width)) (option_and_then manufacturer_named digits)
 
 -- the two digits of a manufacturer command, and then `b` or `w`
 abbrev pub manufacturer_sized : List ℕ → Option (ℕ × Width)
 manufacturer_sized text =
-    first_some (manufacturer_word Byte (before (codes "b") text)) (manufacturer_word Word (before (codes "w") text))
+    first_some (manufacturer_word Byte (before (codes "b") text))
+    (manufacturer_word Word (before (codes "w") text))
 
 -- a command of a byte form or a word form, and which of them it is
 abbrev pub sized_in : Form → Form → List ℕ → Option (ℕ × Width)

@@ -1,5 +1,6 @@
 -- The instruction of a line, by its first word.
-use Rattle.std.specs.Prelude.{ℕ, ◌-◌, List, [], length, take, nat_lt, slice_index_or, Option, Some, None, option_map, Result, Err, if◌then◌else◌, codes}
+use Rattle.std.specs.Prelude.{ℕ, ◌-◌, List, [], length, take, nat_lt, slice_index_or, Option, Some}
+use Rattle.std.specs.Prelude.{None, option_map, Result, Err, if◌then◌else◌, codes}
 use Rattle.std.specs.Str.{bytes_eq}
 use Rattle.texts.specs.Reading.{◌>>=◌, some_or}
 use Rattle.board.specs.Boards.{Board}
@@ -10,8 +11,11 @@ use Rattle.seq_program.specs.declared.line.MessageWord.TheVariants as message
 use Rattle.seq_program.specs.declared.line.PlainWord.{PlainWord}
 use Rattle.seq_program.specs.declared.line.PlainWord.TheVariants as plain
 use Rattle.seq_program.specs.Operands.{label_of}
-use Rattle.seq_program.specs.MessageLines.{Said, quick_of, send_of, receive_of, write_of, read_of, call_of, block_write_of, block_read_of, block_call_of, alert_of}
-use Rattle.seq_program.specs.PlainLines.{if_alert_of, set_of, add_of, if_of, above_of, count_of, again_of, wait_of, goto_of, end_of, fail_of}
+use Rattle.seq_program.specs.MessageLines.{Said, quick_of, send_of, receive_of, write_of, read_of}
+use Rattle.seq_program.specs.MessageLines.{call_of, block_write_of, block_read_of, block_call_of}
+use Rattle.seq_program.specs.MessageLines.{alert_of}
+use Rattle.seq_program.specs.PlainLines.{if_alert_of, set_of, add_of, if_of, above_of, count_of}
+use Rattle.seq_program.specs.PlainLines.{again_of, wait_of, goto_of, end_of, fail_of}
 
 -- the first words of lines that send a message, and end with `else L`
 abbrev pub message_word : List ℕ → Option MessageWord
@@ -52,7 +56,9 @@ else_label word label = if bytes_eq word (codes "else") then label_of label else
 unfoldable pub split_else : ℕ → List (List ℕ) → Result (List (List ℕ) × List ℕ) ProgramFault
 split_else n words =
     if nat_lt (length words) 2 then Err (BadOperand n)
-    else some_or (BadOperand n) (option_map (λ label. (take (length words - 2) words, label)) (else_label (slice_index_or words (length words - 2) []) (slice_index_or words (length words - 1) [])))
+    else some_or (BadOperand n)
+    (option_map (λ label. (take (length words - 2) words, label)) (else_label
+    (slice_index_or words (length words - 2) []) (slice_index_or words (length words - 1) [])))
 
 abbrev pub message_line : Board → ℕ → MessageWord → List ℕ → List (List ℕ) → Said
 message_line board n message.Quick label words = quick_of board n label words
@@ -80,7 +86,8 @@ plain_line n plain.End words = end_of n words
 plain_line n plain.Fail words = fail_of n words
 
 abbrev pub worded : Board → ℕ → Option MessageWord → Option PlainWord → List (List ℕ) → Said
-worded board n (Some word) other words = split_else n words >>= λ parts. message_line board n word parts.1 parts.0
+worded board n (Some word) other words = split_else n words >>= λ parts.
+    message_line board n word parts.1 parts.0
 worded board n None (Some word) words = plain_line n word words
 worded board n None None words = Err (UnknownWord n)
 

@@ -1,11 +1,13 @@
 -- The lines that send a message: what stands behind their first word.
-use Rattle.std.specs.Prelude.{ℕ, List, [], ◌∷◌, Option, Some, None, option_map, Result, Ok, Err, if◌then◌else◌, codes}
+use Rattle.std.specs.Prelude.{ℕ, List, [], ◌∷◌, Option, Some, None, option_map, Result, Ok, Err}
+use Rattle.std.specs.Prelude.{if◌then◌else◌, codes}
 use Rattle.std.specs.Str.{bytes_eq}
 use Rattle.texts.specs.Reading.{◌>>=◌, some_or}
 use Rattle.smbus.specs.declared.message.Form.TheVariants as form
 use Rattle.board.specs.Boards.{Board, place_of_name}
 use Rattle.seq_program.specs.declared.fault.ProgramFault.{ProgramFault}
-use Rattle.seq_program.specs.declared.fault.ProgramFault.TheVariants.{BadOperand, BadNumber, UnknownTarget, UnknownCommand}
+use Rattle.seq_program.specs.declared.fault.ProgramFault.TheVariants.{BadOperand, BadNumber}
+use Rattle.seq_program.specs.declared.fault.ProgramFault.TheVariants.{UnknownTarget, UnknownCommand}
 use Rattle.seq_program.specs.declared.instr.Instr.{Instr}
 use Rattle.seq_program.specs.declared.instr.Instr.TheVariants as instr
 use Rattle.seq_program.specs.declared.instr.Width.{Width}
@@ -52,7 +54,8 @@ receive_of board n label _ = Err (BadOperand n)
 -- the register that is written, which only VOUT_COMMAND may have
 abbrev pub source_for : ℕ → List ℕ → Option ℕ → Result (Option ℕ) ProgramFault
 source_for n command None = Ok None
-source_for n command (Some register) = if bytes_eq command (codes "VOUT_COMMAND") then Ok (Some register) else Err (BadOperand n)
+source_for n command (Some register) =
+    if bytes_eq command (codes "VOUT_COMMAND") then Ok (Some register) else Err (BadOperand n)
 
 unfoldable pub source_of : ℕ → List ℕ → List ℕ → Result (Option ℕ) ProgramFault
 source_of n command value = source_for n command (register_of value)

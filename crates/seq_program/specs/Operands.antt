@@ -1,5 +1,7 @@
 -- One word of a line as an operand.
-use Rattle.std.specs.Prelude.{ℕ, ◌-◌, ◌+◌, List, [], ◌∷◌, length, drop, Bool, true, false, ◌&&◌, ◌||◌, nat_le, nat_lt, ◌==◌, nat_eq, Option, Some, None, option_and_then, if◌then◌else◌, codes}
+use Rattle.std.specs.Prelude.{ℕ, ◌-◌, ◌+◌, List, [], ◌∷◌, length, drop, Bool, true, false, ◌&&◌}
+use Rattle.std.specs.Prelude.{◌||◌, nat_le, nat_lt, ◌==◌, nat_eq, Option, Some, None}
+use Rattle.std.specs.Prelude.{option_and_then, if◌then◌else◌, codes}
 use Rattle.std.specs.List.{list_all, starts_with}
 use Rattle.std.specs.Str.{bytes_eq}
 use Rattle.std.specs.Str.Parse.{digits_value}
@@ -10,7 +12,8 @@ use Rattle.texts.specs.Names.{is_name}
 -- a letter and a digit below a limit
 abbrev pub numbered : ℕ → ℕ → List ℕ → Option ℕ
 numbered letter limit (first ∷ digit ∷ []) =
-    if (first == letter) && (nat_le 48 digit && nat_lt digit (limit + 48)) then Some (digit - 48) else None
+    if (first == letter) && (nat_le 48 digit && nat_lt digit (limit + 48)) then Some (digit - 48)
+    else None
 numbered letter limit _ = None
 
 -- r0 to r7, c0 to c3
@@ -27,11 +30,13 @@ label_of word = if is_name word then Some word else None
 -- whether a quick command reads
 abbrev pub direction_of : List ℕ → Option Bool
 direction_of word =
-    if bytes_eq word (codes "r") then Some true else if bytes_eq word (codes "w") then Some false else None
+    if bytes_eq word (codes "r") then Some true else if bytes_eq word (codes "w") then Some false
+    else None
 
 -- 0 to 9, A to F or a to f
 abbrev pub is_digit : ℕ → Bool
-is_digit c = ((nat_le 48 c && nat_le c 57) || (nat_le 65 c && nat_le c 70)) || (nat_le 97 c && nat_le c 102)
+is_digit c =
+    ((nat_le 48 c && nat_le c 57) || (nat_le 65 c && nat_le c 70)) || (nat_le 97 c && nat_le c 102)
 
 -- one to four hexadecimal digits of either case
 abbrev pub hexadecimal_of : List ℕ → Option ℕ
@@ -42,7 +47,8 @@ hexadecimal_of digits =
 -- `0x` and these digits, or at most eight decimal ones
 abbrev pub number_of : List ℕ → Option ℕ
 number_of word =
-    if starts_with nat_eq word (codes "0x") then hexadecimal_of (drop 2 word) else decimal_within 99999999 word
+    if starts_with nat_eq word (codes "0x") then hexadecimal_of (drop 2 word)
+    else decimal_within 99999999 word
 
 abbrev pub number_within : ℕ → ℕ → List ℕ → Option ℕ
 number_within low high word =
@@ -51,4 +57,5 @@ number_within low high word =
 -- as many bytes as pairs of upper case hexadecimal digits spell, one at least
 abbrev pub block_of : ℕ → List ℕ → Option (List ℕ)
 block_of most word =
-    option_and_then (λ bytes. if nat_le 1 (length bytes) && nat_le (length bytes) most then Some bytes else None) (pairs_of word)
+    option_and_then (λ bytes. if nat_le 1 (length bytes) && nat_le (length bytes) most
+    then Some bytes else None) (pairs_of word)

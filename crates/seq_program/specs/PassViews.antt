@@ -23,7 +23,9 @@ pass_view p = record { instrs = map placed_view p.instrs.items; labels = labels_
 
 -- instructions that were read for a board, no more than a program has
 abbrev pub IsPass : ℕ → PassCode → Type 0
-IsPass targets pass = (length pass.instrs.items ≤ 1024) × All (λ (p : PlacedCode). IsSaid targets p.instr) pass.instrs.items
+IsPass targets pass =
+    (length pass.instrs.items ≤ 1024)
+    × All (λ (p : PlacedCode). IsSaid targets p.instr) pass.instrs.items
 
 -- each label stands before so many places
 abbrev pub AreBelow : ℕ → List Label → Type 0

@@ -9,8 +9,10 @@ use Rattle.seq_program.specs.Printed.{printed}
 
 -- reading the printed text of a board's program gives the program
 abbrev pub PrintedProgramsReadBack : Type 0
-PrintedProgramsReadBack = (board : Board) → IsBoard board → (instrs : List (Instr ℕ)) → IsProgram instrs
-    → All (λ i. IsOnBoard (length board.target_names) i) instrs → program_of board (printed board instrs) ≡ Ok instrs
+PrintedProgramsReadBack = (board : Board) → IsBoard board → (instrs : List (Instr ℕ))
+    → IsProgram instrs
+    → All (λ i. IsOnBoard (length board.target_names) i) instrs
+    → program_of board (printed board instrs) ≡ Ok instrs
 
 -- a program of a board, which sends a message
 pub record SomeProgram (board : Board) : Type 0 where

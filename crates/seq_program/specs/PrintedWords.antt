@@ -1,5 +1,6 @@
 -- Operands as words of a printed program.
-use Rattle.std.specs.Prelude.{ℕ, List, [], ◌++◌, Bool, true, false, slice_index_or, if◌then◌else◌, codes}
+use Rattle.std.specs.Prelude.{ℕ, List, [], ◌++◌, Bool, true, false, slice_index_or, if◌then◌else◌}
+use Rattle.std.specs.Prelude.{codes}
 use Rattle.std.specs.Fmt.{decimal}
 use Rattle.pmbus_table.specs.Commands.{is_manufacturer, name_text}
 use Rattle.board.specs.Boards.{Board}
@@ -29,4 +30,5 @@ width_letter width.Word = codes "w"
 
 -- a command of a byte or a word: a manufacturer command says which
 abbrev pub sized_name : ℕ → Width → List ℕ
-sized_name command size = name_text command ++ (if is_manufacturer command then width_letter size else [])
+sized_name command size =
+    name_text command ++ (if is_manufacturer command then width_letter size else [])

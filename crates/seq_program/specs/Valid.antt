@@ -1,5 +1,6 @@
 -- What every instruction and every program keeps to, whatever text it was read from.
-use Rattle.std.specs.Prelude.{◌≡◌, ◌≤◌, ◌<◌, ◌-◌, ℕ, List, length, slice_get, Option, Some, None, IfSome, IsTrue, All}
+use Rattle.std.specs.Prelude.{◌≡◌, ◌≤◌, ◌<◌, ◌-◌, ℕ, List, length, slice_get, Option, Some, None}
+use Rattle.std.specs.Prelude.{IfSome, IsTrue, All}
 use Rattle.std.specs.List.{AllByRecursion}
 use Rattle.smbus.specs.declared.message.Form.{Form}
 use Rattle.smbus.specs.declared.message.Form.TheVariants as form
@@ -57,12 +58,14 @@ read_form width.Word = form.ReadWord
 -- a register is written to VOUT_COMMAND alone
 abbrev pub IsWritten : ℕ → Written → Type 0
 IsWritten command (written.Byte value) = IsTrue (takes_form command form.WriteByte) × (value ≤ 255)
-IsWritten command (written.Word value) = IsTrue (takes_form command form.WriteWord) × (value ≤ 65535)
+IsWritten command (written.Word value) =
+    IsTrue (takes_form command form.WriteWord) × (value ≤ 65535)
 IsWritten command (written.Register register) = (command ≡ vout_command_code) × (register < 8)
 
 -- so many bytes
 abbrev pub IsBlock : ℕ → List ℕ → Type 0
-IsBlock most bytes = (1 ≤ length bytes) × (length bytes ≤ most) × AllByRecursion (λ b. b < 256) bytes
+IsBlock most bytes =
+    (1 ≤ length bytes) × (length bytes ≤ most) × AllByRecursion (λ b. b < 256) bytes
 
 -- commands take their forms, and operands are in their ranges
 abbrev pub IsInstr : {L : Type 0} → Instr L → Type 0
@@ -70,11 +73,16 @@ IsInstr (instr.Quick target read otherwise) = Unit {0}
 IsInstr (instr.Send target command otherwise) = IsTrue (takes_form command form.SendByte)
 IsInstr (instr.Receive target register otherwise) = register < 8
 IsInstr (instr.Write target command value otherwise) = IsWritten command value
-IsInstr (instr.Read target command size register otherwise) = IsTrue (takes_form command (read_form size)) × (register < 8)
-IsInstr (instr.Call target command value register otherwise) = IsTrue (takes_form command form.ProcessCall) × (value ≤ 65535) × (register < 8)
-IsInstr (instr.BlockWrite target command bytes otherwise) = IsTrue (takes_form command form.BlockWrite) × IsBlock 255 bytes
-IsInstr (instr.BlockRead target command register otherwise) = IsTrue (takes_form command form.BlockRead) × (register < 8)
-IsInstr (instr.BlockCall target command bytes register otherwise) = IsTrue (takes_form command form.BlockProcessCall) × IsBlock 254 bytes × (register < 8)
+IsInstr (instr.Read target command size register otherwise) =
+    IsTrue (takes_form command (read_form size)) × (register < 8)
+IsInstr (instr.Call target command value register otherwise) =
+    IsTrue (takes_form command form.ProcessCall) × (value ≤ 65535) × (register < 8)
+IsInstr (instr.BlockWrite target command bytes otherwise) =
+    IsTrue (takes_form command form.BlockWrite) × IsBlock 255 bytes
+IsInstr (instr.BlockRead target command register otherwise) =
+    IsTrue (takes_form command form.BlockRead) × (register < 8)
+IsInstr (instr.BlockCall target command bytes register otherwise) =
+    IsTrue (takes_form command form.BlockProcessCall) × IsBlock 254 bytes × (register < 8)
 IsInstr (instr.Alert register otherwise) = register < 8
 IsInstr (instr.IfAlert jump) = Unit {0}
 IsInstr (instr.Set register value) = (register < 8) × (value ≤ 65535)

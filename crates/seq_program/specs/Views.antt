@@ -7,12 +7,18 @@ abbrev pub map_jump : {A B : Type 0} → (A → B) → Instr A → Instr B
 map_jump f (instr.Quick target read otherwise) = instr.Quick target read (f otherwise)
 map_jump f (instr.Send target command otherwise) = instr.Send target command (f otherwise)
 map_jump f (instr.Receive target register otherwise) = instr.Receive target register (f otherwise)
-map_jump f (instr.Write target command value otherwise) = instr.Write target command value (f otherwise)
-map_jump f (instr.Read target command width register otherwise) = instr.Read target command width register (f otherwise)
-map_jump f (instr.Call target command value register otherwise) = instr.Call target command value register (f otherwise)
-map_jump f (instr.BlockWrite target command bytes otherwise) = instr.BlockWrite target command bytes (f otherwise)
-map_jump f (instr.BlockRead target command register otherwise) = instr.BlockRead target command register (f otherwise)
-map_jump f (instr.BlockCall target command bytes register otherwise) = instr.BlockCall target command bytes register (f otherwise)
+map_jump f (instr.Write target command value otherwise) =
+    instr.Write target command value (f otherwise)
+map_jump f (instr.Read target command width register otherwise) =
+    instr.Read target command width register (f otherwise)
+map_jump f (instr.Call target command value register otherwise) =
+    instr.Call target command value register (f otherwise)
+map_jump f (instr.BlockWrite target command bytes otherwise) =
+    instr.BlockWrite target command bytes (f otherwise)
+map_jump f (instr.BlockRead target command register otherwise) =
+    instr.BlockRead target command register (f otherwise)
+map_jump f (instr.BlockCall target command bytes register otherwise) =
+    instr.BlockCall target command bytes register (f otherwise)
 map_jump f (instr.Alert register otherwise) = instr.Alert register (f otherwise)
 map_jump f (instr.IfAlert jump) = instr.IfAlert (f jump)
 map_jump f (instr.Set register value) = instr.Set register value

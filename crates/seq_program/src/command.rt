@@ -1,8 +1,11 @@
 //! Commands as words of a program.
 
 ghost use Rattle.std.specs.Prelude.{◌≡◌, option_copied, IfSome, IsTrue, true};
-ghost use Rattle.pmbus_table.specs.Commands.{is_manufacturer, is_manufacturer_form, manufacturer_named, takes_form};
-ghost use Rattle.seq_program.specs.CommandWords.{form_at, command_in, width_of, named_sized, before, manufacturer_word, manufacturer_sized, sized_in};
+ghost use Rattle.pmbus_table.specs.Commands.{is_manufacturer, is_manufacturer_form};
+ghost use Rattle.pmbus_table.specs.Commands.{manufacturer_named, takes_form};
+ghost use Rattle.seq_program.specs.CommandWords.{form_at, command_in, width_of, named_sized};
+ghost use Rattle.seq_program.specs.CommandWords.{before, manufacturer_word, manufacturer_sized};
+ghost use Rattle.seq_program.specs.CommandWords.{sized_in};
 
 use crate::instr::Width;
 use pmbus_table::{Command, by_code, by_name};

@@ -111,8 +111,8 @@ pub enum Written {
     Register(Register),
 }
 
-/// An instruction. Targets are numbered as on the board. Its jumps are places, or labels while a text is
-/// read; `otherwise` is where a message leads that isn't done.
+/// An instruction. Targets are numbered as on the board. Its jumps are places, or labels while a
+/// text is read; `otherwise` is where a message leads that isn't done.
 #[derive(Debug, Drop)]
 pub enum Instr<L> {
     Quick {

@@ -4,7 +4,8 @@ ghost use Rattle.std.specs.Prelude.{◌≡◌, ℕ, length, map, option_copied, 
 ghost use Rattle.seq_program.specs.Reading.{Gives};
 ghost use Rattle.seq_program.specs.Views.{map_jump};
 ghost use Rattle.seq_program.specs.Valid.{IsSaid};
-ghost use Rattle.seq_program.specs.Lines.{message_word, plain_word, else_label, split_else, message_line, plain_line, instr_of};
+ghost use Rattle.seq_program.specs.Lines.{message_word, plain_word, else_label, split_else};
+ghost use Rattle.seq_program.specs.Lines.{message_line, plain_line, instr_of};
 
 use crate::fault::ProgramFault;
 use crate::message_line::Said;
@@ -97,7 +98,8 @@ fn split_else<'w, 'a>(
     line: usize,
     words: &'w [&'a str],
 ) -> Result<(&'w [&'a str], &'a str), ProgramFault>
-    ensures { Gives (λ parts. (map (λ w. w.now) parts.0.now, parts.1.now)) result (split_else line (map (λ w. w.now) words.now)) }
+    ensures { Gives (λ parts. (map (λ w. w.now) parts.0.now, parts.1.now)) result
+        (split_else line (map (λ w. w.now) words.now)) }
 {
     let [operands @ .., word, label] = words else {
         return Err(ProgramFault::BadOperand(line));
@@ -115,7 +117,8 @@ fn message_line<'a>(
     words: &[&str],
 ) -> Said<'a>
     ensures fits { IfOk result (λ i. IsSaid (length board.now.target_names) i) }
-    ensures value { Gives (map_jump (λ l. l.now)) result (message_line board.now line word label.now (map (λ w. w.now) words.now)) }
+    ensures value { Gives (map_jump (λ l. l.now)) result
+        (message_line board.now line word label.now (map (λ w. w.now) words.now)) }
 {
     match word {
         MessageWord::Quick => message::quick_of(board, line, label, words),
@@ -133,7 +136,8 @@ fn message_line<'a>(
 
 fn plain_line<'a>(line: usize, word: PlainWord, words: &[&'a str]) -> Said<'a>
     ensures fits { IfOk result (λ i. (targets : ℕ) → IsSaid targets i) }
-    ensures value { Gives (map_jump (λ l. l.now)) result (plain_line line word (map (λ w. w.now) words.now)) }
+    ensures value { Gives (map_jump (λ l. l.now)) result
+        (plain_line line word (map (λ w. w.now) words.now)) }
 {
     match word {
         PlainWord::IfAlert => plain::if_alert_of(line, words),
@@ -160,7 +164,8 @@ pub(crate) fn instr_of<'a>(
     words: &[&'a str],
 ) -> Said<'a>
     ensures fits { IfOk result (λ i. IsSaid (length board.now.target_names) i) }
-    ensures value { Gives (map_jump (λ l. l.now)) result (instr_of board.now line word.now (map (λ w. w.now) words.now)) }
+    ensures value { Gives (map_jump (λ l. l.now)) result
+        (instr_of board.now line word.now (map (λ w. w.now) words.now)) }
 {
     if let Some(word) = message_word(word) {
         let (operands, label) = split_else(line, words)?;

@@ -3,7 +3,8 @@
 ghost use Rattle.std.specs.Prelude.{◌≡◌, ◌≢◌, ◌≤◌, [], IfOk, IfSome, option_map, slice_get};
 ghost use Rattle.smbus.specs.declared.message.Form.TheVariants.{Alert};
 ghost use Rattle.seq_program.specs.Valid.{read_form};
-ghost use Rattle.seq_program.specs.Messages.{low_byte_first, form_of, data_of, message_to, alert_message, message_of};
+ghost use Rattle.seq_program.specs.Messages.{low_byte_first, form_of, data_of, message_to};
+ghost use Rattle.seq_program.specs.Messages.{alert_message, message_of};
 
 use crate::instr::{Instr, Width, Written};
 use board::Board;
@@ -78,9 +79,9 @@ fn message_to(board: &Board, target: usize, form: Form, code: u8, out: Vec<u8>) 
     })
 }
 
-/// The message that an instruction sends to a target of the board, where the registers hold these words; `None`
-/// for an instruction that sends nothing, and for a target that the board hasn't. Memory is answered where a
-/// growth was refused.
+/// The message that an instruction sends to a target of the board, where the registers hold these
+/// words; `None` for an instruction that sends nothing, and for a target that the board hasn't.
+/// Memory is answered where a growth was refused.
 pub fn message_of(
     alloc: Global,
     board: &Board,

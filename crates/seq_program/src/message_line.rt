@@ -5,7 +5,10 @@ ghost use Rattle.board.specs.Boards.{place_of_name};
 ghost use Rattle.seq_program.specs.Reading.{Gives};
 ghost use Rattle.seq_program.specs.Views.{map_jump};
 ghost use Rattle.seq_program.specs.Valid.{IsSaid, IsWritten, written_form};
-ghost use Rattle.seq_program.specs.MessageLines.{target_of, number_in, quick_of, send_of, receive_of, source_for, source_of, written_of, write_of, read_of, call_of, block_write_of, block_read_of, block_call_of, alert_of};
+ghost use Rattle.seq_program.specs.MessageLines.{target_of, number_in, quick_of, send_of};
+ghost use Rattle.seq_program.specs.MessageLines.{receive_of, source_for, source_of, written_of};
+ghost use Rattle.seq_program.specs.MessageLines.{write_of, read_of, call_of, block_write_of};
+ghost use Rattle.seq_program.specs.MessageLines.{block_read_of, block_call_of, alert_of};
 
 use crate::command::{command_in, sized_in};
 use crate::fault::ProgramFault;
@@ -49,7 +52,8 @@ pub(crate) fn quick_of<'a>(
     words: &[&str],
 ) -> Said<'a>
     ensures fits { IfOk result (λ i. IsSaid (length board.now.target_names) i) }
-    ensures value { Gives (map_jump (λ l. l.now)) result (quick_of board.now line otherwise.now (map (λ w. w.now) words.now)) }
+    ensures value { Gives (map_jump (λ l. l.now)) result
+        (quick_of board.now line otherwise.now (map (λ w. w.now) words.now)) }
 {
     let [target, direction] = words else {
         return Err(ProgramFault::BadOperand(line));
@@ -71,7 +75,8 @@ pub(crate) fn send_of<'a>(
     words: &[&str],
 ) -> Said<'a>
     ensures fits { IfOk result (λ i. IsSaid (length board.now.target_names) i) }
-    ensures value { Gives (map_jump (λ l. l.now)) result (send_of board.now line otherwise.now (map (λ w. w.now) words.now)) }
+    ensures value { Gives (map_jump (λ l. l.now)) result
+        (send_of board.now line otherwise.now (map (λ w. w.now) words.now)) }
 {
     let [target, command] = words else {
         return Err(ProgramFault::BadOperand(line));
@@ -93,7 +98,8 @@ pub(crate) fn receive_of<'a>(
     words: &[&str],
 ) -> Said<'a>
     ensures fits { IfOk result (λ i. IsSaid (length board.now.target_names) i) }
-    ensures value { Gives (map_jump (λ l. l.now)) result (receive_of board.now line otherwise.now (map (λ w. w.now) words.now)) }
+    ensures value { Gives (map_jump (λ l. l.now)) result
+        (receive_of board.now line otherwise.now (map (λ w. w.now) words.now)) }
 {
     let [target, register] = words else {
         return Err(ProgramFault::BadOperand(line));
@@ -113,7 +119,8 @@ fn source_for(
     register: Option<Register>,
 ) -> Result<Option<Register>, ProgramFault>
     ensures value { Gives (λ s. s) result (source_for line command.now register) }
-    ensures voltage { IfOk result (λ s. (s ≡ register) × IfSome s (λ r. command.now ≡ codes "VOUT_COMMAND")) }
+    ensures voltage { IfOk result
+        (λ s. (s ≡ register) × IfSome s (λ r. command.now ≡ codes "VOUT_COMMAND")) }
 {
     match register {
         Some(_) if command != "VOUT_COMMAND" => Err(ProgramFault::BadOperand(line)),
@@ -125,7 +132,8 @@ fn source_for(
 #[tactic(auto, unfolding(crate::specs::MessageLines::source_of))]
 fn source_of(line: usize, command: &str, value: &str) -> Result<Option<Register>, ProgramFault>
     ensures value { Gives (λ s. s) result (source_of line command.now value.now) }
-    ensures voltage { IfOk result (λ s. IfSome s (λ r. (command.now ≡ codes "VOUT_COMMAND") × (r < 8))) }
+    ensures voltage { IfOk result
+        (λ s. IfSome s (λ r. (command.now ≡ codes "VOUT_COMMAND") × (r < 8))) }
 {
     source_for(line, command, register_of(value))
 }
@@ -155,7 +163,8 @@ pub(crate) fn write_of<'a>(
     words: &[&str],
 ) -> Said<'a>
     ensures fits { IfOk result (λ i. IsSaid (length board.now.target_names) i) }
-    ensures value { Gives (map_jump (λ l. l.now)) result (write_of board.now line otherwise.now (map (λ w. w.now) words.now)) }
+    ensures value { Gives (map_jump (λ l. l.now)) result
+        (write_of board.now line otherwise.now (map (λ w. w.now) words.now)) }
 {
     let [target, command, value] = words else {
         return Err(ProgramFault::BadOperand(line));
@@ -182,7 +191,8 @@ pub(crate) fn read_of<'a>(
     words: &[&str],
 ) -> Said<'a>
     ensures fits { IfOk result (λ i. IsSaid (length board.now.target_names) i) }
-    ensures value { Gives (map_jump (λ l. l.now)) result (read_of board.now line otherwise.now (map (λ w. w.now) words.now)) }
+    ensures value { Gives (map_jump (λ l. l.now)) result
+        (read_of board.now line otherwise.now (map (λ w. w.now) words.now)) }
 {
     let [target, command, register] = words else {
         return Err(ProgramFault::BadOperand(line));
@@ -209,7 +219,8 @@ pub(crate) fn call_of<'a>(
     words: &[&str],
 ) -> Said<'a>
     ensures fits { IfOk result (λ i. IsSaid (length board.now.target_names) i) }
-    ensures value { Gives (map_jump (λ l. l.now)) result (call_of board.now line otherwise.now (map (λ w. w.now) words.now)) }
+    ensures value { Gives (map_jump (λ l. l.now)) result
+        (call_of board.now line otherwise.now (map (λ w. w.now) words.now)) }
 {
     let [target, command, value, register] = words else {
         return Err(ProgramFault::BadOperand(line));
@@ -236,7 +247,8 @@ pub(crate) fn block_write_of<'a>(
     words: &[&str],
 ) -> Said<'a>
     ensures fits { IfOk result (λ i. IsSaid (length board.now.target_names) i) }
-    ensures value { Gives (map_jump (λ l. l.now)) result (block_write_of board.now line otherwise.now (map (λ w. w.now) words.now)) }
+    ensures value { Gives (map_jump (λ l. l.now)) result
+        (block_write_of board.now line otherwise.now (map (λ w. w.now) words.now)) }
 {
     let [target, command, bytes] = words else {
         return Err(ProgramFault::BadOperand(line));
@@ -260,7 +272,8 @@ pub(crate) fn block_read_of<'a>(
     words: &[&str],
 ) -> Said<'a>
     ensures fits { IfOk result (λ i. IsSaid (length board.now.target_names) i) }
-    ensures value { Gives (map_jump (λ l. l.now)) result (block_read_of board.now line otherwise.now (map (λ w. w.now) words.now)) }
+    ensures value { Gives (map_jump (λ l. l.now)) result
+        (block_read_of board.now line otherwise.now (map (λ w. w.now) words.now)) }
 {
     let [target, command, register] = words else {
         return Err(ProgramFault::BadOperand(line));
@@ -285,7 +298,8 @@ pub(crate) fn block_call_of<'a>(
     words: &[&str],
 ) -> Said<'a>
     ensures fits { IfOk result (λ i. IsSaid (length board.now.target_names) i) }
-    ensures value { Gives (map_jump (λ l. l.now)) result (block_call_of board.now line otherwise.now (map (λ w. w.now) words.now)) }
+    ensures value { Gives (map_jump (λ l. l.now)) result
+        (block_call_of board.now line otherwise.now (map (λ w. w.now) words.now)) }
 {
     let [target, command, bytes, register] = words else {
         return Err(ProgramFault::BadOperand(line));
@@ -308,7 +322,8 @@ pub(crate) fn block_call_of<'a>(
 #[tactic(auto, unfolding(crate::specs::MessageLines::alert_of))]
 pub(crate) fn alert_of<'a>(line: usize, otherwise: &'a str, words: &[&str]) -> Said<'a>
     ensures fits { IfOk result (λ i. (targets : ℕ) → IsSaid targets i) }
-    ensures value { Gives (map_jump (λ l. l.now)) result (alert_of line otherwise.now (map (λ w. w.now) words.now)) }
+    ensures value { Gives (map_jump (λ l. l.now)) result
+        (alert_of line otherwise.now (map (λ w. w.now) words.now)) }
 {
     let [register] = words else {
         return Err(ProgramFault::BadOperand(line));

@@ -2,7 +2,9 @@
 
 ghost use Rattle.std.specs.Prelude.{◌≡◌, ◌<◌, ◌≤◌, length, option_map, option_copied, IfOk, IfSome};
 ghost use Rattle.std.specs.List.{list_all, AllByRecursion};
-ghost use Rattle.seq_program.specs.Operands.{numbered, register_of, counter_of, label_of, direction_of, is_digit, hexadecimal_of, number_of, number_within, block_of};
+ghost use Rattle.seq_program.specs.Operands.{numbered, register_of, counter_of, label_of};
+ghost use Rattle.seq_program.specs.Operands.{direction_of, is_digit, hexadecimal_of, number_of};
+ghost use Rattle.seq_program.specs.Operands.{number_within, block_of};
 
 use crate::instr::{Block, Counter, Register};
 use std::alloc::{AllocError, Global};
@@ -110,8 +112,10 @@ pub(crate) fn number_within(low: u32, high: u32, word: &str) -> Option<u32>
 pub(crate) fn block_of(alloc: Global, most: usize, word: &str) -> Result<Option<Block>, AllocError>
     requires { most ≤ 255 }
     ensures value { IfOk result (λ block. block ≡ block_of most word.now) }
-    ensures sized { IfOk result (λ block. IfSome block (λ bytes. (1 ≤ length bytes) × (length bytes ≤ most))) }
-    ensures bytes { IfOk result (λ block. IfSome block (λ bytes. AllByRecursion (λ b. b < 256) bytes)) }
+    ensures sized { IfOk result
+        (λ block. IfSome block (λ bytes. (1 ≤ length bytes) × (length bytes ≤ most))) }
+    ensures bytes { IfOk result
+        (λ block. IfSome block (λ bytes. AllByRecursion (λ b. b < 256) bytes)) }
 {
     match pairs_of(alloc, word)? {
         Some(bytes) if (1..=most).contains(&bytes.len()) => Ok(Some(Block { bytes })),

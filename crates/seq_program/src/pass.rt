@@ -1,9 +1,11 @@
 //! What the lines of a text say, one after another.
 
-ghost use Rattle.std.specs.Prelude.{◌≡◌, ◌≤◌, ◌<◌, ◌++◌, ◌∷◌, [], ◌==◌, false, length, map, option_copied, position, unwrap_or, IfSome, IfErr, OnOk};
+ghost use Rattle.std.specs.Prelude.{◌≡◌, ◌≤◌, ◌<◌, ◌++◌, ◌∷◌, [], ◌==◌, false, length, map};
+ghost use Rattle.std.specs.Prelude.{option_copied, position, unwrap_or, IfSome, IfErr, OnOk};
 ghost use Rattle.seq_program.specs.Reading.{Gives};
 ghost use Rattle.seq_program.specs.declared.fault.ProgramFault.TheVariants.{Memory};
-ghost use Rattle.seq_program.specs.Passes.{without_comment, label_name, has_label, after_label, after_instr, after_words, after_line, after_lines};
+ghost use Rattle.seq_program.specs.Passes.{without_comment, label_name, has_label, after_label};
+ghost use Rattle.seq_program.specs.Passes.{after_instr, after_words, after_line, after_lines};
 ghost use Rattle.seq_program.specs.PassViews.{labels_view, pass_view, IsPass};
 
 use crate::fault::ProgramFault;
@@ -63,7 +65,8 @@ fn add_label(
     place: usize,
 ) -> Result<(), ProgramFault>
     requires { has_label name.now (labels_view labels.old) ≡ false }
-    ensures added { OnOk result (labels_view labels.new ≡ labels_view labels.old ++ record { name = name.now; place = place } ∷ []) }
+    ensures added { OnOk result (labels_view labels.new
+        ≡ labels_view labels.old ++ record { name = name.now; place = place } ∷ []) }
     ensures err { IfErr result (λ e. e ≡ Memory) }
 {
     labels.insert(String::from_str(alloc, name)?, place)?;
@@ -75,7 +78,8 @@ impl<'a> Pass<'a> {
     #[tactic(auto, unfolding(crate::specs::Passes::after_label))]
     fn add_label(&mut self, alloc: Global, line: usize, name: &str) -> Result<(), ProgramFault>
         ensures kept { OnOk result (self.new.instrs ≡ self.old.instrs) }
-        ensures value { Gives (λ _. pass_view self.new) result (after_label line (pass_view self.old) name.now) }
+        ensures value { Gives (λ _. pass_view self.new) result
+            (after_label line (pass_view self.old) name.now) }
     {
         if has_label(&self.labels, name) {
             return Err(ProgramFault::SameLabel(line));
@@ -96,7 +100,8 @@ impl<'a> Pass<'a> {
         requires said { IsPass (length board.now.target_names) self.old }
         ensures said { OnOk result (IsPass (length board.now.target_names) self.new) }
         ensures value { Gives (λ _. pass_view self.new) result
-            (after_instr board.now line (pass_view self.old) word.now (map (λ w. w.now) words.now)) }
+            (after_instr board.now line (pass_view self.old) word.now
+            (map (λ w. w.now) words.now)) }
     {
         let instr = instr_of(alloc, board, line, word, words)?;
         if self.instrs.len() >= MOST_PLACES {
@@ -139,7 +144,8 @@ impl<'a> Pass<'a> {
     ) -> Result<(), ProgramFault>
         requires said { IsPass (length board.now.target_names) self.old }
         ensures said { OnOk result (IsPass (length board.now.target_names) self.new) }
-        ensures value { Gives (λ _. pass_view self.new) result (after_line board.now number (pass_view self.old) line.now) }
+        ensures value { Gives (λ _. pass_view self.new) result
+            (after_line board.now number (pass_view self.old) line.now) }
     {
         let words = words_of(alloc, without_comment(line))?;
         self.add_words(alloc, board, number, &words)

@@ -4,7 +4,9 @@ ghost use Rattle.std.specs.Prelude.{◌≡◌, ℕ, map, IfOk};
 ghost use Rattle.seq_program.specs.Reading.{Gives};
 ghost use Rattle.seq_program.specs.Views.{map_jump};
 ghost use Rattle.seq_program.specs.Valid.{IsSaid};
-ghost use Rattle.seq_program.specs.PlainLines.{if_alert_of, set_of, add_of, if_of, above_of, count_of, again_of, wait_of, goto_of, end_of, fail_of};
+ghost use Rattle.seq_program.specs.PlainLines.{if_alert_of, set_of, add_of, if_of, above_of};
+ghost use Rattle.seq_program.specs.PlainLines.{count_of, again_of, wait_of, goto_of, end_of};
+ghost use Rattle.seq_program.specs.PlainLines.{fail_of};
 
 use crate::fault::ProgramFault;
 use crate::instr::Instr;
@@ -14,7 +16,8 @@ use crate::operand::{counter_of, label_of, register_of};
 #[tactic(auto, unfolding(crate::specs::PlainLines::if_alert_of))]
 pub(crate) fn if_alert_of<'a>(line: usize, words: &[&'a str]) -> Said<'a>
     ensures fits { IfOk result (λ i. (targets : ℕ) → IsSaid targets i) }
-    ensures value { Gives (map_jump (λ l. l.now)) result (if_alert_of line (map (λ w. w.now) words.now)) }
+    ensures value { Gives (map_jump (λ l. l.now)) result
+        (if_alert_of line (map (λ w. w.now) words.now)) }
 {
     let [label] = words else {
         return Err(ProgramFault::BadOperand(line));
@@ -26,7 +29,8 @@ pub(crate) fn if_alert_of<'a>(line: usize, words: &[&'a str]) -> Said<'a>
 #[tactic(auto, unfolding(crate::specs::PlainLines::set_of))]
 pub(crate) fn set_of<'a>(line: usize, words: &[&'a str]) -> Said<'a>
     ensures fits { IfOk result (λ i. (targets : ℕ) → IsSaid targets i) }
-    ensures value { Gives (map_jump (λ l. l.now)) result (set_of line (map (λ w. w.now) words.now)) }
+    ensures value { Gives (map_jump (λ l. l.now)) result
+        (set_of line (map (λ w. w.now) words.now)) }
 {
     let [register, value] = words else {
         return Err(ProgramFault::BadOperand(line));
@@ -39,7 +43,8 @@ pub(crate) fn set_of<'a>(line: usize, words: &[&'a str]) -> Said<'a>
 #[tactic(auto, unfolding(crate::specs::PlainLines::add_of))]
 pub(crate) fn add_of<'a>(line: usize, words: &[&'a str]) -> Said<'a>
     ensures fits { IfOk result (λ i. (targets : ℕ) → IsSaid targets i) }
-    ensures value { Gives (map_jump (λ l. l.now)) result (add_of line (map (λ w. w.now) words.now)) }
+    ensures value { Gives (map_jump (λ l. l.now)) result
+        (add_of line (map (λ w. w.now) words.now)) }
 {
     let [register, value] = words else {
         return Err(ProgramFault::BadOperand(line));
@@ -72,7 +77,8 @@ pub(crate) fn if_of<'a>(line: usize, words: &[&'a str]) -> Said<'a>
 #[tactic(auto, unfolding(crate::specs::PlainLines::above_of))]
 pub(crate) fn above_of<'a>(line: usize, words: &[&'a str]) -> Said<'a>
     ensures fits { IfOk result (λ i. (targets : ℕ) → IsSaid targets i) }
-    ensures value { Gives (map_jump (λ l. l.now)) result (above_of line (map (λ w. w.now) words.now)) }
+    ensures value { Gives (map_jump (λ l. l.now)) result
+        (above_of line (map (λ w. w.now) words.now)) }
 {
     let [register, value, label] = words else {
         return Err(ProgramFault::BadOperand(line));
@@ -90,7 +96,8 @@ pub(crate) fn above_of<'a>(line: usize, words: &[&'a str]) -> Said<'a>
 #[tactic(auto, unfolding(crate::specs::PlainLines::count_of))]
 pub(crate) fn count_of<'a>(line: usize, words: &[&'a str]) -> Said<'a>
     ensures fits { IfOk result (λ i. (targets : ℕ) → IsSaid targets i) }
-    ensures value { Gives (map_jump (λ l. l.now)) result (count_of line (map (λ w. w.now) words.now)) }
+    ensures value { Gives (map_jump (λ l. l.now)) result
+        (count_of line (map (λ w. w.now) words.now)) }
 {
     let [counter, value] = words else {
         return Err(ProgramFault::BadOperand(line));
@@ -103,7 +110,8 @@ pub(crate) fn count_of<'a>(line: usize, words: &[&'a str]) -> Said<'a>
 #[tactic(auto, unfolding(crate::specs::PlainLines::again_of))]
 pub(crate) fn again_of<'a>(line: usize, words: &[&'a str]) -> Said<'a>
     ensures fits { IfOk result (λ i. (targets : ℕ) → IsSaid targets i) }
-    ensures value { Gives (map_jump (λ l. l.now)) result (again_of line (map (λ w. w.now) words.now)) }
+    ensures value { Gives (map_jump (λ l. l.now)) result
+        (again_of line (map (λ w. w.now) words.now)) }
 {
     let [counter, label] = words else {
         return Err(ProgramFault::BadOperand(line));
@@ -116,7 +124,8 @@ pub(crate) fn again_of<'a>(line: usize, words: &[&'a str]) -> Said<'a>
 #[tactic(auto, unfolding(crate::specs::PlainLines::wait_of))]
 pub(crate) fn wait_of<'a>(line: usize, words: &[&'a str]) -> Said<'a>
     ensures fits { IfOk result (λ i. (targets : ℕ) → IsSaid targets i) }
-    ensures value { Gives (map_jump (λ l. l.now)) result (wait_of line (map (λ w. w.now) words.now)) }
+    ensures value { Gives (map_jump (λ l. l.now)) result
+        (wait_of line (map (λ w. w.now) words.now)) }
 {
     let [ticks] = words else {
         return Err(ProgramFault::BadOperand(line));
@@ -128,7 +137,8 @@ pub(crate) fn wait_of<'a>(line: usize, words: &[&'a str]) -> Said<'a>
 #[tactic(auto, unfolding(crate::specs::PlainLines::goto_of))]
 pub(crate) fn goto_of<'a>(line: usize, words: &[&'a str]) -> Said<'a>
     ensures fits { IfOk result (λ i. (targets : ℕ) → IsSaid targets i) }
-    ensures value { Gives (map_jump (λ l. l.now)) result (goto_of line (map (λ w. w.now) words.now)) }
+    ensures value { Gives (map_jump (λ l. l.now)) result
+        (goto_of line (map (λ w. w.now) words.now)) }
 {
     let [label] = words else {
         return Err(ProgramFault::BadOperand(line));
@@ -139,7 +149,8 @@ pub(crate) fn goto_of<'a>(line: usize, words: &[&'a str]) -> Said<'a>
 
 pub(crate) fn end_of<'a>(line: usize, words: &[&'a str]) -> Said<'a>
     ensures fits { IfOk result (λ i. (targets : ℕ) → IsSaid targets i) }
-    ensures value { Gives (map_jump (λ l. l.now)) result (end_of line (map (λ w. w.now) words.now)) }
+    ensures value { Gives (map_jump (λ l. l.now)) result
+        (end_of line (map (λ w. w.now) words.now)) }
 {
     if !words.is_empty() {
         return Err(ProgramFault::BadOperand(line));
@@ -149,7 +160,8 @@ pub(crate) fn end_of<'a>(line: usize, words: &[&'a str]) -> Said<'a>
 
 pub(crate) fn fail_of<'a>(line: usize, words: &[&'a str]) -> Said<'a>
     ensures fits { IfOk result (λ i. (targets : ℕ) → IsSaid targets i) }
-    ensures value { Gives (map_jump (λ l. l.now)) result (fail_of line (map (λ w. w.now) words.now)) }
+    ensures value { Gives (map_jump (λ l. l.now)) result
+        (fail_of line (map (λ w. w.now) words.now)) }
 {
     if !words.is_empty() {
         return Err(ProgramFault::BadOperand(line));

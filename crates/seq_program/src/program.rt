@@ -1,13 +1,15 @@
 //! Programs, and their texts.
 
-ghost use Rattle.std.specs.Prelude.{◌≡◌, nat_lt, [], length, slice_get, map, option_map, option_copied, All, IfOk};
+ghost use Rattle.std.specs.Prelude.{◌≡◌, nat_lt, [], length, slice_get, map, option_map};
+ghost use Rattle.std.specs.Prelude.{option_copied, All, IfOk};
 ghost use Rattle.std.specs.List.{list_all};
 ghost use Rattle.indexmap.specs.IndexMap.{values};
 ghost use Rattle.seq_program.specs.Reading.{Gives};
 ghost use Rattle.seq_program.specs.Passes.{after_lines};
 ghost use Rattle.seq_program.specs.PassViews.{placed_view, labels_view, pass_view, IsPass};
 ghost use Rattle.seq_program.specs.Valid.{IsOnBoard};
-ghost use Rattle.seq_program.specs.Programs.{place_of, place_at, resolved, all_resolved, is_end, is_some_end, ends, no_pass, program_of};
+ghost use Rattle.seq_program.specs.Programs.{place_of, place_at, resolved, all_resolved, is_end};
+ghost use Rattle.seq_program.specs.Programs.{is_some_end, ends, no_pass, program_of};
 
 use crate::fault::ProgramFault;
 use crate::instr::Instr;
@@ -18,7 +20,8 @@ use std::alloc::Global;
 use std::marker::Model;
 use texts::lines_of;
 
-/// The instructions of a program, by their places: 1 to 1024, whose jumps land, and of which the last ends.
+/// The instructions of a program, by their places: 1 to 1024, whose jumps land, and of which the
+/// last ends.
 #[derive(Debug, Drop)]
 pub struct Program {
     instrs: Vec<Instr<usize>>,
@@ -58,7 +61,8 @@ impl Program {
 /// What the lines say.
 fn pass_of<'a>(alloc: Global, board: &Board, lines: &[&'a str]) -> Result<Pass<'a>, ProgramFault>
     ensures said { IfOk result (λ p. IsPass (length board.now.target_names) p) }
-    ensures value { Gives pass_view result (after_lines board.now 1 no_pass (map (λ l. l.now) lines.now)) }
+    ensures value { Gives pass_view result
+        (after_lines board.now 1 no_pass (map (λ l. l.now) lines.now)) }
 {
     let mut pass = Pass {
         instrs: Vec::new(alloc),
@@ -93,7 +97,8 @@ fn resolved(
     placed: &Placed<'_>,
 ) -> Result<Instr<usize>, ProgramFault>
     ensures { Gives (λ i. i) result
-        (resolved (labels_view labels.now) (placed_view placed.now).line (placed_view placed.now).instr) }
+        (resolved (labels_view labels.now) (placed_view placed.now).line
+        (placed_view placed.now).instr) }
 {
     let line = placed.line;
     Ok(match &placed.instr {
@@ -256,7 +261,8 @@ fn all_resolved(
     labels: &IndexMap<String, usize>,
     placed: &[Placed<'_>],
 ) -> Result<Vec<Instr<usize>>, ProgramFault>
-    ensures { Gives (λ v. v.items) result (all_resolved [] (labels_view labels.now) (map placed_view placed.now)) }
+    ensures { Gives (λ v. v.items) result
+        (all_resolved [] (labels_view labels.now) (map placed_view placed.now)) }
 {
     let mut instrs = Vec::new(alloc);
     for instr in placed {
@@ -301,9 +307,10 @@ fn ends(labels: &IndexMap<String, usize>, instrs: &[Instr<usize>]) -> bool
 
 /// The program of a text for a board, or the text's first fault.
 ///
-/// The faults are those of the lines, the first line first: UnknownWord; BadOperand; then from the left
-/// UnknownTarget, UnknownCommand and BadNumber; SameLabel; TooLong. After all lines come UnknownLabel, and then
-/// NoEnd with the number of lines. Memory is answered where a growth was refused.
+/// The faults are those of the lines, the first line first: UnknownWord; BadOperand; then from the
+/// left UnknownTarget, UnknownCommand and BadNumber; SameLabel; TooLong. After all lines come
+/// UnknownLabel, and then NoEnd with the number of lines. Memory is answered where a growth was
+/// refused.
 #[tactic(auto, unfolding(crate::specs::Programs::program_of))]
 pub fn read_program(alloc: Global, board: &Board, text: &str) -> Result<Program, ProgramFault>
     ensures value { Gives (λ p. p) result (program_of board.now text.now) }

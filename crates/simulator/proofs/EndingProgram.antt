@@ -1,5 +1,6 @@
 -- Every run of a program that only ends is safe.
-use Rattle.std.proofs.Common.{◌≡◌, ◌≤◌, inl, inr, true, ℕ, List, [], ◌∷◌, slice_get, Some, None, refl, sym, ap, subst, ◌∙◌, arith}
+use Rattle.std.proofs.Common.{◌≡◌, ◌≤◌, inl, inr, true, ℕ, List, [], ◌∷◌, slice_get, Some, None}
+use Rattle.std.proofs.Common.{refl, sym, ap, subst, ◌∙◌, arith}
 use Rattle.std.proofs.lemmas.List.{append-nil}
 use Rattle.std.proofs.lemmas.List.Elements.{All-nil, All-from_recursion}
 use Rattle.wires.specs.declared.lines.Sample.{Sample}
@@ -31,11 +32,14 @@ record Ends (s : BusState) (a : Answered) (e : Entry) (next : Machine) : Type 0 
   pub entry : e ≡ entry_of End None a (start_at s)
   pub ended : next.ended ≡ Finished
 
-step_of : (b : Board) (s : BusState) (a : Answered) (e : Entry) (next : Machine) → IsStep b ending_program (start_at s) a e next → Ends s a e next
+step_of : (b : Board) (s : BusState) (a : Answered) (e : Entry) (next : Machine)
+    → IsStep b ending_program (start_at s) a e next → Ends s a e next
 step_of b s a e next step =
-    let same : End ≡ step.instr = let here : slice_get ending_program 0 ≡ Some step.instr = step.here in cc in
+    let same : End ≡ step.instr =
+    let here : slice_get ending_program 0 ≡ Some step.instr = step.here in cc in
     let of : IsStepOf b End None (start_at s) a e next =
-    subst (λ (i : Instr ℕ). IsStepOf b i (message_of b i (start_at s).regs) (start_at s) a e next) (sym same) step.step in
+    subst (λ (i : Instr ℕ). IsStepOf b i (message_of b i (start_at s).regs) (start_at s) a e next)
+    (sym same) step.step in
     record { entry = of.entry_is; ended = ap (λ (m : Machine). m.ended) of.next_is }
 
 -- no frame is seen
@@ -45,18 +49,23 @@ Silent samples = (frames : List Shown) → AreFrames (events_of samples) frames 
 no_frame : (samples : List Sample) → Silent samples → (f : Shown) → HasFrame samples f → ⊥
 no_frame samples silent f has = let none : f ∷ [] ≡ [] = silent (f ∷ []) has in cc
 
-writes_nothing : (samples : List Sample) → Silent samples → (t : Target) (code : ℕ) → WritesTo t samples code → ⊥
-writes_nothing samples silent t code (inl begins) = no_frame samples silent begins.1.frame begins.1.has
+writes_nothing : (samples : List Sample) → Silent samples → (t : Target) (code : ℕ)
+    → WritesTo t samples code → ⊥
+writes_nothing samples silent t code (inl begins) =
+    no_frame samples silent begins.1.frame begins.1.has
 writes_nothing samples silent t code (inr sends) = no_frame samples silent sends.frame sends.has
 
-safe : (b : Board) (history : List Entry) (e : Entry) → AreFrames (events_of e.samples) [] → Silent e.samples → IsSafe b history e
+safe : (b : Board) (history : List Entry) (e : Entry) → AreFrames (events_of e.samples) []
+    → Silent e.samples → IsSafe b history e
 safe b history e none silent = record {
   read = inl none;
   one = λ frames are. let empty : frames ≡ [] = silent frames are in rw empty (omega arith);
   allowed = λ f has. absurd (no_frame e.samples silent f has);
   protection = λ i t code at writes guarded. absurd (writes_nothing e.samples silent t code writes);
-  limits = λ i t low high d r at begins selected. absurd (no_frame e.samples silent begins.frame begins.has);
-  order = λ i t value d r at begins on selected. absurd (no_frame e.samples silent begins.frame begins.has);
+  limits = λ i t low high d r at begins selected.
+      absurd (no_frame e.samples silent begins.frame begins.has);
+  order = λ i t value d r at begins on selected.
+      absurd (no_frame e.samples silent begins.frame begins.has);
 }
 
 -- what one step of it is seen to be
@@ -66,10 +75,16 @@ record Seen (e : Entry) : Type 0 where
   pub ticks : e.ticks ≡ 1
   pub high : EndsHigh e.samples
 
-seen : IdleReadsBack → (s : BusState) (a : Answered) (e : Entry) → e ≡ entry_of End None a (start_at s) → Seen e
+seen : IdleReadsBack → (s : BusState) (a : Answered) (e : Entry)
+    → e ≡ entry_of End None a (start_at s) → Seen e
 seen idle s a e is =
     let no = idle (alert_level s) 1 in
-    rw is (record { none = no.none; silent = no.only; ticks = no.count; high = (no.entry (omega arith)).high })
+    rw is (record {
+      none = no.none;
+      silent = no.only;
+      ticks = no.count;
+      high = (no.entry (omega arith)).high;
+    })
 
 run_frames : (b : Board) (e : Entry) → Seen e → ReadsAllowed b (e ∷ [])
 run_frames b e one = record {
@@ -80,29 +95,38 @@ run_frames b e one = record {
 }
 
 -- before its step, and after it
-unbegun : SilenceHasAnswers → IdleReadsBack → (b : Board) (s : BusState) → IsSafeWithin b ending_program 1 [] (start_at s)
+unbegun : SilenceHasAnswers → IdleReadsBack → (b : Board) (s : BusState)
+    → IsSafeWithin b ending_program 1 [] (start_at s)
 unfolding idle_samples
 unbegun answers idle b s = record {
   safe = tt;
-  frames = record { frames = []; read = (idle true 0).none; only = (idle true 0).only; allowed = refl };
+  frames =
+      record { frames = []; read = (idle true 0).none; only = (idle true 0).only; allowed = refl };
   bounded = omega arith;
   each_tick = All-nil (λ (e : Entry). 1 ≤ e.ticks);
   high = All-nil (λ (e : Entry). EndsHigh e.samples);
   goes_on = λ running. record { instr = End; here = refl; answer = answers b s };
 }
 
-ended : (b : Board) (e : Entry) (last : Machine) → Seen e → last.ended ≡ Finished → IsSafeWithin b ending_program 1 (e ∷ []) last
+ended : (b : Board) (e : Entry) (last : Machine) → Seen e → last.ended ≡ Finished
+    → IsSafeWithin b ending_program 1 (e ∷ []) last
 ended b e last one end = record {
   safe = (safe b [] e one.none one.silent, tt);
   frames = run_frames b e one;
   bounded = omega (arith, one.ticks);
-  each_tick = All-from_recursion (λ (x : Entry). 1 ≤ x.ticks) (e ∷ []) (omega (arith, one.ticks), tt);
+  each_tick =
+      All-from_recursion (λ (x : Entry). 1 ≤ x.ticks) (e ∷ []) (omega (arith, one.ticks), tt);
   high = All-from_recursion (λ (x : Entry). EndsHigh x.samples) (e ∷ []) (one.high, tt);
   goes_on = λ running. let bad : Running ≡ Finished = sym running ∙ end in cc;
 }
 
-all_runs : SilenceHasAnswers → IdleReadsBack → (b : Board) (s : BusState) (answers : List Answered) (entries : List Entry) (last : Machine) → IsRun b ending_program (start_at s) answers entries last → IsSafeWithin b ending_program 1 entries last
-all_runs silence idle b s [] [] last run = subst (λ (m : Machine). IsSafeWithin b ending_program 1 [] m) (sym run) (unbegun silence idle b s)
+all_runs : SilenceHasAnswers → IdleReadsBack
+    → (b : Board) (s : BusState) (answers : List Answered) (entries : List Entry) (last : Machine)
+    → IsRun b ending_program (start_at s) answers entries last
+    → IsSafeWithin b ending_program 1 entries last
+all_runs silence idle b s [] [] last run =
+    subst (λ (m : Machine). IsSafeWithin b ending_program 1 [] m) (sym run)
+    (unbegun silence idle b s)
 all_runs silence idle b s [] (e ∷ entries) last run = absurd run
 all_runs silence idle b s (a ∷ answers) [] last run = absurd run
 all_runs silence idle b s (a ∷ []) (e ∷ []) last run =
@@ -119,4 +143,5 @@ all_runs silence idle b s (a ∷ c ∷ answers) (e ∷ f ∷ entries) last run =
     cc
 
 pub ending_is_safe : SilenceHasAnswers → IdleReadsBack → EndingIsSafe
-ending_is_safe silence idle b s answers entries last starts run = all_runs silence idle b s answers entries last run
+ending_is_safe silence idle b s answers entries last starts run =
+    all_runs silence idle b s answers entries last run

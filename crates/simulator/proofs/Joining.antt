@@ -1,5 +1,6 @@
 -- Idle samples, and the samples of entries one after another.
-use Rattle.std.proofs.Common.{◌≡◌, ℕ, zero, suc, ◌<◌, Bool, List, [], ◌∷◌, ◌++◌, length, replicate, All, refl, sym, ap, subst, ◌∙◌, arith}
+use Rattle.std.proofs.Common.{◌≡◌, ℕ, zero, suc, ◌<◌, Bool, List, [], ◌∷◌, ◌++◌, length, replicate}
+use Rattle.std.proofs.Common.{All, refl, sym, ap, subst, ◌∙◌, arith}
 use Rattle.std.specs.List.{flat_map, AllByRecursion}
 use Rattle.std.proofs.lemmas.Grind.{flat_map-append}
 use Rattle.std.proofs.lemmas.List.{append-nil, length-replicate}
@@ -39,7 +40,12 @@ idle_high alert (suc n) = idle_high alert n
 idle_entry : (alert : Bool) (n : ℕ) → 0 < n → IsEntry (idle_samples alert n)
 unfolding idle_samples
 idle_entry alert zero lt = absurd (omega arith)
-idle_entry alert (suc n) lt = record { alert = alert; later = replicate n (idle alert); begins = refl; high = idle_high alert n }
+idle_entry alert (suc n) lt = record {
+  alert = alert;
+  later = replicate n (idle alert);
+  begins = refl;
+  high = idle_high alert n;
+}
 
 idle_count : (alert : Bool) (n : ℕ) → length (idle_samples alert n) ≡ n
 unfolding idle_samples
@@ -57,39 +63,57 @@ reads_none alert ticks =
 
 -- joined entries begin idle
 
-joined_more : (samples next rest : List Sample) → EndsHigh samples → IsEntry next → events_of (samples ++ (next ++ rest)) ≡ events_of samples ++ events_of (next ++ rest)
+joined_more : (samples next rest : List Sample) → EndsHigh samples → IsEntry next
+    → events_of (samples ++ (next ++ rest)) ≡ events_of samples ++ events_of (next ++ rest)
 joined_more samples next rest high e =
-    let begins : next ++ rest ≡ idle e.alert ∷ (e.later ++ rest) = ap (λ (l : List Sample). l ++ rest) e.begins in
+    let begins : next ++ rest ≡ idle e.alert ∷ (e.later ++ rest) =
+    ap (λ (l : List Sample). l ++ rest) e.begins in
     ap (λ (l : List Sample). events_of (samples ++ l)) begins
     ∙ joins_silently e.alert samples (e.later ++ rest) high
     ∙ ap (λ (l : List Sample). events_of samples ++ events_of l) (sym begins)
 
-joined_events : (entries : List (List Sample)) → AllByRecursion IsEntry entries → events_of (joined entries) ≡ flat_map events_of entries
+joined_events : (entries : List (List Sample)) → AllByRecursion IsEntry entries
+    → events_of (joined entries) ≡ flat_map events_of entries
 joined_events [] h = refl
-joined_events (samples ∷ []) h = ap events_of (append-nil samples) ∙ sym (append-nil (events_of samples))
+joined_events (samples ∷ []) h =
+    ap events_of (append-nil samples) ∙ sym (append-nil (events_of samples))
 joined_events (samples ∷ next ∷ entries) h =
-    joined_more samples next (joined entries) h.0.high h.1.0 ∙ ap (λ (l : List Event). events_of samples ++ l) (joined_events (next ∷ entries) h.1)
+    joined_more samples next (joined entries) h.0.high h.1.0
+    ∙ ap (λ (l : List Event). events_of samples ++ l) (joined_events (next ∷ entries) h.1)
 
 -- frames one after another
 
-joins : (a b : List Event) (fs gs : List Shown) → AreFrames a fs → AreFrames b gs → AreFrames (a ++ b) (fs ++ gs)
+joins : (a b : List Event) (fs gs : List Shown) → AreFrames a fs → AreFrames b gs
+    → AreFrames (a ++ b) (fs ++ gs)
 joins a b fs gs ha hb = record {
   each = All-append IsFrame fs gs ha.each hb.each;
-  words = ap (λ (l : List Event). l ++ b) ha.words ∙ ap (λ (l : List Event). flat_map frame_word fs ++ l) hb.words ∙ sym (flat_map-append frame_word fs gs);
+  words =
+      ap (λ (l : List Event). l ++ b) ha.words
+      ∙ ap (λ (l : List Event). flat_map frame_word fs ++ l) hb.words
+      ∙ sym (flat_map-append frame_word fs gs);
 }
 
-joined_read : (entries : List (List Sample)) (frames : List (List Shown)) → AreRead entries frames → AreFrames (flat_map events_of entries) (all_frames frames)
+joined_read : (entries : List (List Sample)) (frames : List (List Shown)) → AreRead entries frames
+    → AreFrames (flat_map events_of entries) (all_frames frames)
 joined_read [] [] h = record { each = All-nil IsFrame; words = refl }
 joined_read [] (fs ∷ frames) h = absurd h
 joined_read (e ∷ entries) [] h = absurd h
-joined_read (e ∷ entries) (fs ∷ frames) h = joins (events_of e) (flat_map events_of entries) fs (all_frames frames) h.0 (joined_read entries frames h.1)
+joined_read (e ∷ entries) (fs ∷ frames) h =
+    joins (events_of e) (flat_map events_of entries) fs (all_frames frames) h.0
+    (joined_read entries frames h.1)
 
-joined_frames : (entries : List (List Sample)) (frames : List (List Shown)) → All IsEntry entries → AreRead entries frames → AreFrames (events_of (joined entries)) (all_frames frames)
-joined_frames entries frames h read = subst (λ es. AreFrames es (all_frames frames)) (sym (joined_events entries (recursion_from_All IsEntry entries h))) (joined_read entries frames read)
+joined_frames : (entries : List (List Sample)) (frames : List (List Shown)) → All IsEntry entries
+    → AreRead entries frames → AreFrames (events_of (joined entries)) (all_frames frames)
+joined_frames entries frames h read =
+    subst (λ es. AreFrames es (all_frames frames))
+    (sym (joined_events entries (recursion_from_All IsEntry entries h)))
+    (joined_read entries frames read)
 
 pub reads_joined : JoinedReadBack
 reads_joined entries h = record {
   events = joined_events entries (recursion_from_All IsEntry entries h);
   frames = λ frames read. joined_frames entries frames h read;
-  only = λ frames read others are. frames_are_unique (events_of (joined entries)) (all_frames frames) others (joined_frames entries frames h read) are;
+  only = λ frames read others are.
+      frames_are_unique (events_of (joined entries)) (all_frames frames) others
+      (joined_frames entries frames h read) are;
 }

@@ -6,8 +6,16 @@ use Rattle.wires.specs.declared.event.Event.{Event}
 use Rattle.smbus.specs.Shown.{Shown}
 use Rattle.smbus.specs.Frames.{AreFrames, FailsAt}
 
-pub never_fails : (events : List Event) (frames : List Shown) (place : ℕ) → AreFrames events frames → FailsAt events place → ⊥
+pub never_fails : (events : List Event) (frames : List Shown) (place : ℕ) → AreFrames events frames
+    → FailsAt events place → ⊥
 never_fails events frames place are fails = elim (cases_lt place (length events)) [
-  | inl lt ↦ fails.here lt (frames, drop (place + 1) events, subst (λ (all : List Event). AreFrames all frames) (sym (take-append-drop (place + 1) events)) are)
-  | inr le ↦ let end : place ≡ length events = omega (arith, fails.within) in fails.unfinished end frames are
+  | inl lt ↦ fails.here lt (
+    frames,
+    drop (place + 1) events,
+    subst (λ (all : List Event). AreFrames all frames)
+        (sym (take-append-drop (place + 1) events)) are,
+  )
+  | inr le ↦
+      let end : place ≡ length events = omega (arith, fails.within) in
+      fails.unfinished end frames are
 ]

@@ -1,5 +1,6 @@
 -- What is read back from the samples of a step.
-use Rattle.std.proofs.Common.{◌≡◌, ℕ, zero, suc, ◌+◌, Bool, Some, None, List, [], ◌∷◌, ◌++◌, refl, ap, ◌∙◌, arith}
+use Rattle.std.proofs.Common.{◌≡◌, ℕ, zero, suc, ◌+◌, Bool, Some, None, List, [], ◌∷◌, ◌++◌, refl}
+use Rattle.std.proofs.Common.{ap, ◌∙◌, arith}
 use Rattle.wires.specs.declared.lines.Sample.{Sample}
 use Rattle.wires.specs.Events.{events_of}
 use Rattle.bit_bus.specs.Levels.{idle, levels}
@@ -25,22 +26,31 @@ one_frame : (alert : Bool) (m : Asked) (a : Answered) → ReadsBack → SlotsAre
     → (f : Shown) × IsOnlyFrame (events_of (idle alert ∷ levels alert (plan_of m a))) f
 one_frame alert m a reads slots can =
     let one = slots m a can in
-    let same : events_of (idle alert ∷ levels alert (plan_of m a)) ≡ event_word (plan_of m a) = reads alert alert (plan_of m a) in
+    let same : events_of (idle alert ∷ levels alert (plan_of m a)) ≡ event_word (plan_of m a) =
+    reads alert alert (plan_of m a) in
     (one.frame, rw same one.is_only)
 
 pub silent_seen : (i : Instr ℕ) (a : Answered) (m : Machine) → IsSeen (entry_of i None a m)
-silent_seen i a m = record { frames = no_events (alert_level m.bus) (suc (idle_ticks i)); ticks = refl }
+silent_seen i a m =
+    record { frames = no_events (alert_level m.bus) (suc (idle_ticks i)); ticks = refl }
 
-pub message_seen : (i : Instr ℕ) (asked : Asked) (a : Answered) (m : Machine) → ReadsBack → SlotsAreOneFrame → CanBeSent asked a → IsSeen (entry_of i (Some asked) a m)
-message_seen i asked a m reads slots can = record { frames = one_frame (alert_level m.bus) asked a reads slots can; ticks = refl }
+pub message_seen : (i : Instr ℕ) (asked : Asked) (a : Answered) (m : Machine) → ReadsBack
+    → SlotsAreOneFrame → CanBeSent asked a → IsSeen (entry_of i (Some asked) a m)
+message_seen i asked a m reads slots can =
+    record { frames = one_frame (alert_level m.bus) asked a reads slots can; ticks = refl }
 
-idle_then : (alert : Bool) (n : ℕ) → idle_samples alert n ++ idle alert ∷ [] ≡ idle_samples alert (suc n)
+idle_then : (alert : Bool) (n : ℕ)
+    → idle_samples alert n ++ idle alert ∷ [] ≡ idle_samples alert (suc n)
 unfolding idle_samples
 idle_then alert zero = refl
 idle_then alert (suc n) = ap (λ (later : List Sample). idle alert ∷ later) (idle_then alert n)
 
-pub one_idle_more : (alert : Bool) (n : ℕ) (s : Sample) (before after : List Sample) → s ≡ idle alert → before ≡ idle_samples alert n → after ≡ before ++ s ∷ [] → after ≡ idle_samples alert (n + 1)
+pub one_idle_more : (alert : Bool) (n : ℕ) (s : Sample) (before after : List Sample)
+    → s ≡ idle alert → before ≡ idle_samples alert n → after ≡ before ++ s ∷ []
+    → after ≡ idle_samples alert (n + 1)
 one_idle_more alert n s before after is e more =
     let next : suc n ≡ n + 1 = omega arith in
-    let same : after ≡ before ++ idle alert ∷ [] = more ∙ ap (λ (x : Sample). before ++ x ∷ []) is in
-    same ∙ ap (λ (xs : List Sample). xs ++ idle alert ∷ []) e ∙ idle_then alert n ∙ ap (λ (k : ℕ). idle_samples alert k) next
+    let same : after ≡ before ++ idle alert ∷ [] =
+    more ∙ ap (λ (x : Sample). before ++ x ∷ []) is in
+    same ∙ ap (λ (xs : List Sample). xs ++ idle alert ∷ []) e ∙ idle_then alert n
+    ∙ ap (λ (k : ℕ). idle_samples alert k) next

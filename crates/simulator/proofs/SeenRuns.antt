@@ -1,5 +1,6 @@
 -- What a run of the model is seen to do.
-use Rattle.std.proofs.Common.{◌≡◌, ℕ, Bool, Option, Some, None, List, [], ◌∷◌, map, is_some, refl, sym, ap, subst}
+use Rattle.std.proofs.Common.{◌≡◌, ℕ, Bool, Option, Some, None, List, [], ◌∷◌, map, is_some, refl}
+use Rattle.std.proofs.Common.{sym, ap, subst}
 use Rattle.std.specs.List.{AllByRecursion}
 use Rattle.std.proofs.lemmas.List.Elements.{All-from_recursion}
 use Rattle.wires.specs.declared.lines.Sample.{Sample}
@@ -27,9 +28,15 @@ use Rattle.simulator.specs.StepLaws.{IsReady, Sees, StepsAreSeen}
 use Rattle.simulator.specs.RunLaws.{IsFrameOf, AreStepFrames, AreRunFrames, RunsAreSeen}
 
 -- whole or broken off, by how the message ended
-by_ending : (m : Asked) (a : Answered) (one : HasOneFrame m a) (refuse cut : Option ℕ) (returned : ℕ) → a.refuse ≡ refuse → first_cut (plan_of m a) ≡ cut → IsFrameOf m a (ending_of refuse cut returned) one.frame
-by_ending m a one refuse (Some slot) returned r c = subst (λ (held : Bool). IsBrokenOff m a.value a.bytes held one.frame) (ap is_some c) (one.cut slot c)
-by_ending m a one (Some n) None returned r c = subst (λ (held : Bool). IsBrokenOff m a.value a.bytes held one.frame) (ap is_some c) (one.refused n r)
+by_ending : (m : Asked) (a : Answered) (one : HasOneFrame m a) (refuse cut : Option ℕ)
+    (returned : ℕ) → a.refuse ≡ refuse → first_cut (plan_of m a) ≡ cut
+    → IsFrameOf m a (ending_of refuse cut returned) one.frame
+by_ending m a one refuse (Some slot) returned r c =
+    subst (λ (held : Bool). IsBrokenOff m a.value a.bytes held one.frame) (ap is_some c)
+    (one.cut slot c)
+by_ending m a one (Some n) None returned r c =
+    subst (λ (held : Bool). IsBrokenOff m a.value a.bytes held one.frame) (ap is_some c)
+    (one.refused n r)
 by_ending m a one None None returned r c = one.done r c
 
 record Framed (s : BusState) (o : Option Asked) (a : Answered) (e : Entry) : Type 0 where
@@ -37,29 +44,46 @@ record Framed (s : BusState) (o : Option Asked) (a : Answered) (e : Entry) : Typ
   pub read : AreFrames (events_of e.samples) frames
   pub are : AreStepFrames o a frames
 
-framed : (s : BusState) (o : Option Asked) (a : Answered) (e : Entry) → Sees s o a e → Framed s o a e
+framed : (s : BusState) (o : Option Asked) (a : Answered) (e : Entry) → Sees s o a e
+    → Framed s o a e
 framed s None a e sees = record { frames = []; read = sees; are = refl }
 framed s (Some m) a e sees =
     let one = sees.reads.shows.one in
-    let read : AreFrames (events_of (samples_of (alert_level s) m a)) (one.frame ∷ []) = sees.reads.is_only.is in
+    let read : AreFrames (events_of (samples_of (alert_level s) m a)) (one.frame ∷ []) =
+    sees.reads.is_only.is in
     record {
       frames = one.frame ∷ [];
       read = rw sees.samples read;
-      are = (one.frame, refl, by_ending m a one a.refuse (first_cut (plan_of m a)) (returned_by m.form a.value a.bytes) refl refl);
+      are = (
+        one.frame,
+        refl,
+        by_ending m a one a.refuse (first_cut (plan_of m a))
+            (returned_by m.form a.value a.bytes) refl refl,
+      );
     }
 
 abbrev lines_of : List Entry → List (List Sample)
 lines_of entries = map (λ (e : Entry). e.samples) entries
 
-record Walked (b : Board) (p : List (Instr ℕ)) (m : Machine) (answers : List Answered) (entries : List Entry) (last : Machine) : Type 0 where
+record Walked (b : Board) (p : List (Instr ℕ)) (m : Machine) (answers : List Answered)
+    (entries : List Entry) (last : Machine) : Type 0 where
   pub frames : List (List Shown)
   pub steps : AreRunFrames b p m answers entries frames
   pub read : AreRead (lines_of entries) frames
   pub entries_are : AllByRecursion IsEntry (lines_of entries)
   pub ready : IsReady b p last
 
-walked : StepsAreSeen → (b : Board) (p : List (Instr ℕ)) (m last : Machine) (answers : List Answered) (entries : List Entry) → IsBoard b → IsProgram p → IsReady b p m → IsRun b p m answers entries last → Walked b p m answers entries last
-walked steps b p m last [] [] is program ready run = record { frames = []; steps = tt; read = tt; entries_are = tt; ready = subst (λ (x : Machine). IsReady b p x) (sym run) ready }
+walked : StepsAreSeen
+    → (b : Board) (p : List (Instr ℕ)) (m last : Machine) (answers : List Answered)
+    (entries : List Entry) → IsBoard b → IsProgram p → IsReady b p m
+    → IsRun b p m answers entries last → Walked b p m answers entries last
+walked steps b p m last [] [] is program ready run = record {
+  frames = [];
+  steps = tt;
+  read = tt;
+  entries_are = tt;
+  ready = subst (λ (x : Machine). IsReady b p x) (sym run) ready;
+}
 walked steps b p m last [] (e ∷ entries) is program ready run = absurd run
 walked steps b p m last (a ∷ answers) [] is program ready run = absurd run
 walked steps b p m last (a ∷ answers) (e ∷ entries) is program ready run =
@@ -70,7 +94,17 @@ walked steps b p m last (a ∷ answers) (e ∷ entries) is program ready run =
     let later = walked steps b p next last answers entries is program seen.ready run.2 in
     record {
       frames = own.frames ∷ later.frames;
-      steps = (next, record { step = step; instr = seen.instr; here = seen.here; read = own.read; are = own.are }, later.steps);
+      steps = (
+        next,
+        record {
+          step = step;
+          instr = seen.instr;
+          here = seen.here;
+          read = own.read;
+          are = own.are;
+        },
+        later.steps,
+      );
       read = (own.read, later.read);
       entries_are = (seen.entry, later.entries_are);
       ready = later.ready;
@@ -79,7 +113,8 @@ walked steps b p m last (a ∷ answers) (e ∷ entries) is program ready run =
 pub runs_are_seen : StepsAreSeen → JoinedReadBack → RunsAreSeen
 runs_are_seen steps joins b p m last answers entries is program ready run =
     let all = walked steps b p m last answers entries is program ready run in
-    let lines = joins (lines_of entries) (All-from_recursion IsEntry (lines_of entries) all.entries_are) in
+    let lines =
+    joins (lines_of entries) (All-from_recursion IsEntry (lines_of entries) all.entries_are) in
     record {
       frames = all.frames;
       steps = all.steps;

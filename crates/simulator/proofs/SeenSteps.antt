@@ -1,5 +1,6 @@
 -- What a step of the model is seen to do.
-use Rattle.std.proofs.Common.{◌≡◌, ◌≤◌, ◌<◌, ◌+◌, ◌%◌, ℕ, zero, suc, Option, Some, None, List, [], ◌∷◌, min, replicate, slice_index, slice_set, refl, sym, ap, arith}
+use Rattle.std.proofs.Common.{◌≡◌, ◌≤◌, ◌<◌, ◌+◌, ◌%◌, ℕ, zero, suc, Option, Some, None, List, []}
+use Rattle.std.proofs.Common.{◌∷◌, min, replicate, slice_index, slice_set, refl, sym, ap, arith}
 use Rattle.std.specs.List.{AllByRecursion}
 use Rattle.std.proofs.lemmas.List.Elements.{All-from_recursion, recursion_from_All}
 use Rattle.smbus.specs.declared.message.Form.{Form}
@@ -38,13 +39,21 @@ abbrev Words : List ℕ → Type 0
 Words regs = AllByRecursion (λ word. word < 65536) regs
 
 -- a message of a machine that is ready is one on the wire
-asked_on_wire : (b : Board) (i : Instr ℕ) (m : Machine) (msg : Asked) (a : Answered) → IsBoard b → IsInstr i → Belongs b m.bus → Words m.regs → message_of b i m.regs ≡ Some msg → Fits b m.bus msg a → AreAsked msg a
+asked_on_wire : (b : Board) (i : Instr ℕ) (m : Machine) (msg : Asked) (a : Answered) → IsBoard b
+    → IsInstr i → Belongs b m.bus → Words m.regs → message_of b i m.regs ≡ Some msg
+    → Fits b m.bus msg a → AreAsked msg a
 asked_on_wire b i m msg a is ok belongs words e fits =
     let sent = sent_bytes b i m.regs msg is ok words e in
     let got = fitting_bytes b m.bus msg a is belongs fits.form in
     record {
       can_be_sent = sendable b m.bus i m.regs (Some msg) a is ok (sym e) fits;
-      wire = record { address = sent.address; code = sent.code; out = sent.out; value = got.value; read = got.read };
+      wire = record {
+        address = sent.address;
+        code = sent.code;
+        out = sent.out;
+        value = got.value;
+        read = got.read;
+      };
     }
 
 -- registers stay words
@@ -54,18 +63,23 @@ set_word [] r v words lt = tt
 set_word (x ∷ regs) zero v words lt = (lt, words.1)
 set_word (x ∷ regs) (suc r) v words lt = (words.0, set_word regs r v words.1 lt)
 
-result_word : (o : Option ℕ) (v : ℕ) (regs : List ℕ) → Words regs → v < 65536 → Words (with_result o v regs)
+result_word : (o : Option ℕ) (v : ℕ) (regs : List ℕ) → Words regs → v < 65536
+    → Words (with_result o v regs)
 result_word None v regs words lt = words
 result_word (Some r) v regs words lt = set_word regs r v words lt
 
-message_words : (i : Instr ℕ) (outcome : Outcome) (m : Machine) → Words m.regs → ((v : ℕ) → outcome ≡ Done v → v < 65536) → Words (after_message i outcome m).regs
+message_words : (i : Instr ℕ) (outcome : Outcome) (m : Machine) → Words m.regs
+    → ((v : ℕ) → outcome ≡ Done v → v < 65536) → Words (after_message i outcome m).regs
 message_words i (Done v) m words lt = result_word (result_in i) v m.regs words (lt v refl)
 message_words i NotAcknowledged m words lt = words
 message_words i TimedOut m words lt = words
 
 silent_words : (i : Instr ℕ) (m : Machine) → IsInstr i → Words m.regs → Words (silently i m).regs
-silent_words (instr.Set r v) m ok words = let le : v ≤ 65535 = ok.1 in set_word m.regs r v words (omega (arith, le))
-silent_words (instr.Add r v) m ok words = set_word m.regs r (min (slice_index m.regs r + v) 65535) words (omega arith)
+silent_words (instr.Set r v) m ok words =
+    let le : v ≤ 65535 = ok.1 in
+    set_word m.regs r v words (omega (arith, le))
+silent_words (instr.Add r v) m ok words =
+    set_word m.regs r (min (slice_index m.regs r + v) 65535) words (omega arith)
 silent_words (instr.Quick t r l) m ok words = words
 silent_words (instr.Send t c l) m ok words = words
 silent_words (instr.Receive t r l) m ok words = words
@@ -87,14 +101,16 @@ silent_words instr.End m ok words = words
 silent_words instr.Fail m ok words = words
 
 -- what was read is a word
-first_small : (bytes : List ℕ) → AllByRecursion (λ byte. byte < 256) bytes → slice_index bytes 0 < 65536
+first_small : (bytes : List ℕ) → AllByRecursion (λ byte. byte < 256) bytes
+    → slice_index bytes 0 < 65536
 first_small [] all = omega arith
 first_small (x ∷ bytes) all = let lt : x < 256 = all.0 in omega (arith, lt)
 
 low_small : (value : ℕ) → value % 256 < 65536
 low_small value = omega arith
 
-returned_small : (f : Form) (value : ℕ) (bytes : List ℕ) → value < 65536 → AllByRecursion (λ byte. byte < 256) bytes → returned_by f value bytes < 65536
+returned_small : (f : Form) (value : ℕ) (bytes : List ℕ) → value < 65536
+    → AllByRecursion (λ byte. byte < 256) bytes → returned_by f value bytes < 65536
 returned_small (form.Quick r) value bytes lt all = omega arith
 returned_small form.SendByte value bytes lt all = omega arith
 returned_small form.ReceiveByte value bytes lt all = low_small value
@@ -108,16 +124,21 @@ returned_small form.BlockRead value bytes lt all = first_small bytes all
 returned_small form.BlockProcessCall value bytes lt all = first_small bytes all
 returned_small form.Alert value bytes lt all = low_small value
 
-done_small : (refuse cut : Option ℕ) (returned v : ℕ) → returned < 65536 → ending_of refuse cut returned ≡ Done v → v < 65536
+done_small : (refuse cut : Option ℕ) (returned v : ℕ) → returned < 65536
+    → ending_of refuse cut returned ≡ Done v → v < 65536
 done_small refuse (Some slot) returned v lt e = cc
 done_small (Some byte) None returned v lt e = cc
 done_small None None returned v lt e = let same : returned ≡ v = cc in omega (arith, same, lt)
 
-outcome_small : (msg : Asked) (a : Answered) (v : ℕ) → IsOnWire a → outcome_of (Some msg) a ≡ Done v → v < 65536
+outcome_small : (msg : Asked) (a : Answered) (v : ℕ) → IsOnWire a → outcome_of (Some msg) a ≡ Done v
+    → v < 65536
 outcome_small msg a v wire e =
-    done_small a.refuse (cut_of msg a) (returned_by msg.form a.value a.bytes) v (returned_small msg.form a.value a.bytes wire.value (recursion_from_All (λ byte. byte < 256) a.bytes wire.read)) e
+    done_small a.refuse (cut_of msg a) (returned_by msg.form a.value a.bytes) v
+    (returned_small msg.form a.value a.bytes wire.value
+    (recursion_from_All (λ byte. byte < 256) a.bytes wire.read)) e
 
-record Seen (b : Board) (i : Instr ℕ) (o : Option Asked) (m : Machine) (a : Answered) (e : Entry) (next : Machine) : Type 0 where
+record Seen (b : Board) (i : Instr ℕ) (o : Option Asked) (m : Machine) (a : Answered) (e : Entry)
+    (next : Machine) : Type 0 where
   pub sees : Sees m.bus o a e
   pub does : StepDoes b m.bus o a e
   pub entry : IsEntry e.samples
@@ -132,8 +153,11 @@ same_before e f is = ap (λ (x : Entry). x.before) is
 same_regs : (x y : Machine) → x ≡ y → x.regs ≡ y.regs
 same_regs x y is = ap (λ (m : Machine). m.regs) is
 
-by_message : EntriesReadBack → EntriesDoAsAsked → IdleReadsBack → (b : Board) (i : Instr ℕ) (o : Option Asked) (m : Machine) (a : Answered) (e : Entry) (next : Machine)
-    → IsBoard b → IsInstr i → Belongs b m.bus → Words m.regs → message_of b i m.regs ≡ o → IsStepOf b i o m a e next → Seen b i o m a e next
+by_message : EntriesReadBack → EntriesDoAsAsked → IdleReadsBack
+    → (b : Board) (i : Instr ℕ) (o : Option Asked) (m : Machine) (a : Answered) (e : Entry)
+    (next : Machine)
+    → IsBoard b → IsInstr i → Belongs b m.bus → Words m.regs → message_of b i m.regs ≡ o
+    → IsStepOf b i o m a e next → Seen b i o m a e next
 by_message reads does idle b i None m a e next is ok belongs words asked step =
     let none = idle (alert_level m.bus) (suc (idle_ticks i)) in
     let samples = same_samples e _ step.entry_is in
@@ -146,16 +170,26 @@ by_message reads does idle b i None m a e next is ok belongs words asked step =
 by_message reads does idle b i (Some msg) m a e next is ok belongs words asked step =
     let sent = asked_on_wire b i m msg a is ok belongs words asked step.fits in
     let one = reads msg a (alert_level m.bus) sent in
-    let samples : e.samples ≡ samples_of (alert_level m.bus) msg a = same_samples e _ step.entry_is in
+    let samples : e.samples ≡ samples_of (alert_level m.bus) msg a =
+    same_samples e _ step.entry_is in
     let wire = fitting_bytes b m.bus msg a is belongs step.fits.form in
     let takes = takes_own_form b i m.regs msg ok asked in
     let no_block = no_block_read msg takes in
     let shown = does msg a (alert_level m.bus) sent in
     record {
-      sees = record { asked = sent; samples = samples; reads = one; does = shown; no_block = no_block };
-      does = message_does b m.bus msg a (alert_level m.bus) e is (same_before e _ step.entry_is) samples takes sent.can_be_sent.has_good_data.has_length no_block shown;
+      sees = record {
+        asked = sent;
+        samples = samples;
+        reads = one;
+        does = shown;
+        no_block = no_block;
+      };
+      does = message_does b m.bus msg a (alert_level m.bus) e is (same_before e _ step.entry_is)
+          samples takes sent.can_be_sent.has_good_data.has_length no_block shown;
       entry = rw samples one.entry;
-      words = rw (same_regs next _ step.next_is) (message_words i (outcome_of (Some msg) a) m words (λ v done. outcome_small msg a v wire done));
+      words =
+          rw (same_regs next _ step.next_is) (message_words i (outcome_of (Some msg) a) m words
+          (λ v done. outcome_small msg a v wire done));
     }
 
 pub steps_are_seen : EntriesReadBack → EntriesDoAsAsked → IdleReadsBack → StepsBelong → StepsAreSeen
@@ -163,7 +197,8 @@ steps_are_seen reads does idle stays b p m next a e is program ready step =
     let i = step.instr in
     let ok = is_instr p m.place i program step.here in
     let words = recursion_from_All (λ word. word < 65536) m.regs ready.words in
-    let seen = by_message reads does idle b i (message_of b i m.regs) m a e next is ok ready.machine.bus words refl step.step in
+    let seen = by_message reads does idle b i
+    (message_of b i m.regs) m a e next is ok ready.machine.bus words refl step.step in
     record {
       instr = i;
       here = step.here;
@@ -172,8 +207,12 @@ steps_are_seen reads does idle stays b p m next a e is program ready step =
       entry = seen.entry;
       ready = record {
         machine = record {
-          place = stepped_place b p i (message_of b i m.regs) m a e next program step.here refl step.step;
-          bus = stays b m.bus next.bus (message_of b i m.regs) a ready.machine.bus step.step.fits step.step.bus;
+          place =
+              stepped_place b p i
+              (message_of b i m.regs) m a e next program step.here refl step.step;
+          bus =
+              stays b m.bus next.bus
+              (message_of b i m.regs) a ready.machine.bus step.step.fits step.step.bus;
         };
         words = All-from_recursion (λ word. word < 65536) next.regs seen.words;
       };
@@ -182,5 +221,11 @@ steps_are_seen reads does idle stays b p m next a e is program ready step =
 pub starts_are_ready : StartsBelong → StartsAreReady
 starts_are_ready starts b p s is program start = record {
   machine = record { place = program.some; bus = starts b s is start };
-  words = All-from_recursion (λ word. word < 65536) (replicate 8 0) (omega arith, (omega arith, (omega arith, (omega arith, (omega arith, (omega arith, (omega arith, (omega arith, tt))))))));
+  words = All-from_recursion (λ word. word < 65536) (replicate 8 0) (
+    omega arith,
+    (
+      omega arith,
+      (omega arith, (omega arith, (omega arith, (omega arith, (omega arith, (omega arith, tt)))))),
+    ),
+  );
 }

@@ -1,5 +1,6 @@
 -- The messages of instructions can be sent under the answers that fit.
-use Rattle.std.proofs.Common.{◌≡◌, ◌≤◌, ◌<◌, ◌+◌, ℕ, Option, Some, None, List, [], ◌∷◌, length, slice_get, slice_index, option_map, IfSome, refl, sym, ap, arith}
+use Rattle.std.proofs.Common.{◌≡◌, ◌≤◌, ◌<◌, ◌+◌, ℕ, Option, Some, None, List, [], ◌∷◌, length}
+use Rattle.std.proofs.Common.{slice_get, slice_index, option_map, IfSome, refl, sym, ap, arith}
 use Rattle.smbus.specs.declared.message.Form.{Form}
 use Rattle.smbus.specs.declared.message.Form.TheVariants as form
 use Rattle.smbus.specs.Asked.{Asked}
@@ -48,43 +49,64 @@ record IsMade (m : Asked) (f : Form) (out : List ℕ) : Type 0 where
 abbrev asked_at : Form → ℕ → List ℕ → Target → Asked
 asked_at f code out t = record { address = t.address; form = f; code = code; out = out }
 
-made_of : (f : Form) (code : ℕ) (out : List ℕ) (m : Asked) (o : Option Target) → option_map (λ t. asked_at f code out t) o ≡ Some m → IsMade m f out
+made_of : (f : Form) (code : ℕ) (out : List ℕ) (m : Asked) (o : Option Target)
+    → option_map (λ t. asked_at f code out t) o ≡ Some m → IsMade m f out
 made_of f code out m None e = cc
 made_of f code out m (Some u) e =
     let same : asked_at f code out u ≡ m = cc in
-    record { made_as = sym (ap (λ (x : Asked). x.form) same); with_bytes = sym (ap (λ (x : Asked). x.out) same) }
+    record {
+      made_as = sym (ap (λ (x : Asked). x.form) same);
+      with_bytes = sym (ap (λ (x : Asked). x.out) same);
+    }
 
-made : (b : Board) (t : ℕ) (f : Form) (code : ℕ) (out : List ℕ) (m : Asked) → message_to b t f code out ≡ Some m → IsMade m f out
+made : (b : Board) (t : ℕ) (f : Form) (code : ℕ) (out : List ℕ) (m : Asked)
+    → message_to b t f code out ≡ Some m → IsMade m f out
 made b t f code out m e = made_of f code out m (slice_get b.targets t) e
 
-by_made : (m : Asked) (f : Form) (out : List ℕ) → IsMade m f out → GoodOut f (length out) → GoodOut m.form (length m.out)
+by_made : (m : Asked) (f : Form) (out : List ℕ) → IsMade m f out → GoodOut f (length out)
+    → GoodOut m.form (length m.out)
 by_made m f out s g = rw (s.made_as, s.with_bytes) g
 
-good_write : (b : Board) (t c : ℕ) (v : Written) (regs : List ℕ) (m : Asked) → message_to b t (form_of v) c (data_of regs v) ≡ Some m → GoodOut m.form (length m.out)
-good_write b t c (written.Byte v) regs m e = by_made m form.WriteByte (v ∷ []) (made b t form.WriteByte c (v ∷ []) m e) refl
-good_write b t c (written.Word v) regs m e = by_made m form.WriteWord (low_byte_first v) (made b t form.WriteWord c (low_byte_first v) m e) refl
+good_write : (b : Board) (t c : ℕ) (v : Written) (regs : List ℕ) (m : Asked)
+    → message_to b t (form_of v) c (data_of regs v) ≡ Some m → GoodOut m.form (length m.out)
+good_write b t c (written.Byte v) regs m e =
+    by_made m form.WriteByte (v ∷ []) (made b t form.WriteByte c (v ∷ []) m e) refl
+good_write b t c (written.Word v) regs m e =
+    by_made m form.WriteWord (low_byte_first v)
+    (made b t form.WriteWord c (low_byte_first v) m e) refl
 good_write b t c (written.Register r) regs m e =
-    by_made m form.WriteWord (low_byte_first (slice_index regs r)) (made b t form.WriteWord c (low_byte_first (slice_index regs r)) m e) refl
+    by_made m form.WriteWord (low_byte_first (slice_index regs r))
+    (made b t form.WriteWord c (low_byte_first (slice_index regs r)) m e) refl
 
-good_out : (b : Board) (i : Instr ℕ) (regs : List ℕ) (m : Asked) → IsInstr i → message_of b i regs ≡ Some m → GoodOut m.form (length m.out)
-good_out b (instr.Quick t r l) regs m is e = by_made m (form.Quick r) [] (made b t (form.Quick r) 0 [] m e) refl
-good_out b (instr.Send t c l) regs m is e = by_made m form.SendByte [] (made b t form.SendByte c [] m e) refl
-good_out b (instr.Receive t r l) regs m is e = by_made m form.ReceiveByte [] (made b t form.ReceiveByte 0 [] m e) refl
+good_out : (b : Board) (i : Instr ℕ) (regs : List ℕ) (m : Asked) → IsInstr i
+    → message_of b i regs ≡ Some m → GoodOut m.form (length m.out)
+good_out b (instr.Quick t r l) regs m is e =
+    by_made m (form.Quick r) [] (made b t (form.Quick r) 0 [] m e) refl
+good_out b (instr.Send t c l) regs m is e =
+    by_made m form.SendByte [] (made b t form.SendByte c [] m e) refl
+good_out b (instr.Receive t r l) regs m is e =
+    by_made m form.ReceiveByte [] (made b t form.ReceiveByte 0 [] m e) refl
 good_out b (instr.Write t c v l) regs m is e = good_write b t c v regs m e
-good_out b (instr.Read t c width.Byte r l) regs m is e = by_made m form.ReadByte [] (made b t form.ReadByte c [] m e) refl
-good_out b (instr.Read t c width.Word r l) regs m is e = by_made m form.ReadWord [] (made b t form.ReadWord c [] m e) refl
-good_out b (instr.Call t c v r l) regs m is e = by_made m form.ProcessCall (low_byte_first v) (made b t form.ProcessCall c (low_byte_first v) m e) refl
+good_out b (instr.Read t c width.Byte r l) regs m is e =
+    by_made m form.ReadByte [] (made b t form.ReadByte c [] m e) refl
+good_out b (instr.Read t c width.Word r l) regs m is e =
+    by_made m form.ReadWord [] (made b t form.ReadWord c [] m e) refl
+good_out b (instr.Call t c v r l) regs m is e =
+    by_made m form.ProcessCall (low_byte_first v)
+    (made b t form.ProcessCall c (low_byte_first v) m e) refl
 good_out b (instr.BlockWrite t c bytes l) regs m is e =
     let block = is.1 in
     let some : 1 ≤ length bytes = block.0 in
     let few : length bytes ≤ 255 = block.1 in
     by_made m form.BlockWrite bytes (made b t form.BlockWrite c bytes m e) (omega arith, few)
-good_out b (instr.BlockRead t c r l) regs m is e = by_made m form.BlockRead [] (made b t form.BlockRead c [] m e) refl
+good_out b (instr.BlockRead t c r l) regs m is e =
+    by_made m form.BlockRead [] (made b t form.BlockRead c [] m e) refl
 good_out b (instr.BlockCall t c bytes r l) regs m is e =
     let block = is.1 in
     let some : 1 ≤ length bytes = block.0 in
     by_made m form.BlockProcessCall bytes (made b t form.BlockProcessCall c bytes m e) (omega arith)
-good_out b (instr.Alert r l) regs m is e = by_made m form.Alert [] (record { made_as = cc; with_bytes = cc }) refl
+good_out b (instr.Alert r l) regs m is e =
+    by_made m form.Alert [] (record { made_as = cc; with_bytes = cc }) refl
 good_out b (instr.IfAlert l) regs m is e = cc
 good_out b (instr.Set r v) regs m is e = cc
 good_out b (instr.Add r v) regs m is e = cc
@@ -98,13 +120,16 @@ good_out b instr.End regs m is e = cc
 good_out b instr.Fail regs m is e = cc
 
 -- what is read has one byte at least
-some_read : (b : Board) (m : Asked) (written : ℕ) (bytes : List ℕ) → IsBoard b → FitsBlock b m written bytes → 0 < length bytes
+some_read : (b : Board) (m : Asked) (written : ℕ) (bytes : List ℕ) → IsBoard b
+    → FitsBlock b m written bytes → 0 < length bytes
 some_read b m written bytes is fits =
     let one : 1 ≤ (lengths_for b m).low = (lengths_within b m is).above in
     let more : (lengths_for b m).low ≤ length bytes = fits.count.above in
     omega arith
 
-good_counts : (b : Board) (s : BusState) (m : Asked) (a : Answered) (f : Form) → IsBoard b → GoodOut f (length m.out) → FitsForm f b s m a → AreGoodCounts f (length m.out) (length a.bytes)
+good_counts : (b : Board) (s : BusState) (m : Asked) (a : Answered) (f : Form) → IsBoard b
+    → GoodOut f (length m.out) → FitsForm f b s m a
+    → AreGoodCounts f (length m.out) (length a.bytes)
 good_counts b s m a (form.Quick r) is g fits = tt
 good_counts b s m a form.SendByte is g fits = tt
 good_counts b s m a form.ReceiveByte is g fits = tt
@@ -117,18 +142,23 @@ good_counts b s m a form.BlockWrite is g fits = g
 good_counts b s m a form.BlockRead is g fits =
     let both : 0 + length a.bytes ≤ 255 = fits.0.both in
     (some_read b m 0 a.bytes is fits.0, omega arith)
-good_counts b s m a form.BlockProcessCall is g fits = (g, some_read b m (length m.out) a.bytes is fits.0, fits.0.both)
+good_counts b s m a form.BlockProcessCall is g fits =
+    (g, some_read b m (length m.out) a.bytes is fits.0, fits.0.both)
 good_counts b s m a form.Alert is g fits = tt
 
-can_be_sent : (b : Board) (s : BusState) (i : Instr ℕ) (regs : List ℕ) (m : Asked) (a : Answered) → IsBoard b → IsInstr i → message_of b i regs ≡ Some m → Fits b s m a → CanBeSent m a
+can_be_sent : (b : Board) (s : BusState) (i : Instr ℕ) (regs : List ℕ) (m : Asked) (a : Answered)
+    → IsBoard b → IsInstr i → message_of b i regs ≡ Some m → Fits b s m a → CanBeSent m a
 can_be_sent b s i regs m a is instr e fits =
     let good = good_out b i regs m instr e in
     record {
-      has_good_data = record { has_length = has_length m.form (length m.out) good; is_numbered = fits.refuse };
+      has_good_data =
+          record { has_length = has_length m.form (length m.out) good; is_numbered = fits.refuse };
       has_good_block = good_counts b s m a m.form is good fits.form;
       holds = below (largest_stretch b.targets) (stretches b is) a.holds fits.holds;
     }
 
-pub sendable : (b : Board) (s : BusState) (i : Instr ℕ) (regs : List ℕ) (o : Option Asked) (a : Answered) → IsBoard b → IsInstr i → o ≡ message_of b i regs → FitsStep b s o a → IfSome o (λ m. CanBeSent m a)
+pub sendable : (b : Board) (s : BusState) (i : Instr ℕ) (regs : List ℕ) (o : Option Asked)
+    (a : Answered) → IsBoard b → IsInstr i → o ≡ message_of b i regs → FitsStep b s o a
+    → IfSome o (λ m. CanBeSent m a)
 sendable b s i regs None a is instr e fits = tt
 sendable b s i regs (Some m) a is instr e fits = can_be_sent b s i regs m a is instr (sym e) fits

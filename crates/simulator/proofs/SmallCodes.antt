@@ -1,5 +1,6 @@
 -- A command that takes a form has a code of one byte.
-use Rattle.std.proofs.Common.{◌≡◌, ◌<◌, ◌==◌, ◌&&◌, ℕ, Bool, true, false, Option, Some, None, List, [], ◌∷◌, IfSome, inl, inr, refl, arith, find, nat_lt, is_some}
+use Rattle.std.proofs.Common.{◌≡◌, ◌<◌, ◌==◌, ◌&&◌, ℕ, Bool, true, false, Option, Some, None, List}
+use Rattle.std.proofs.Common.{[], ◌∷◌, IfSome, inl, inr, refl, arith, find, nat_lt, is_some}
 use Rattle.std.specs.List.{list_all}
 use Rattle.std.proofs.lemmas.Bool.{cases_Bool, eqb-true}
 use Rattle.std.proofs.lemmas.Bool.Decides.{nat_tests}
@@ -14,7 +15,8 @@ both : (a b : Bool) → (a && b) ≡ true → (a ≡ true) × (b ≡ true)
 both true b e = (refl, e)
 both false b e = cc
 
-found_small : (code : ℕ) (rows : List Row) → list_all (λ r. nat_lt r.code 256) rows ≡ true → IfSome (find (λ r. r.code == code) rows) (λ r. code < 256)
+found_small : (code : ℕ) (rows : List Row) → list_all (λ r. nat_lt r.code 256) rows ≡ true
+    → IfSome (find (λ r. r.code == code) rows) (λ r. code < 256)
 found_small code [] all = tt
 found_small code (r ∷ rows) all =
     let parts = both (nat_lt r.code 256) (list_all (λ r. nat_lt r.code 256) rows) all in

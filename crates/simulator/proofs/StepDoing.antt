@@ -1,5 +1,6 @@
 -- What a step is seen to do follows from its message, its answer and the state before it.
-use Rattle.std.proofs.Common.{◌≡◌, ℕ, ◌*◌, ◌≤◌, inl, inr, Bool, Some, None, List, [], ◌∷◌, ◌++◌, length, refl, sym, ap, subst, ◌∙◌, arith}
+use Rattle.std.proofs.Common.{◌≡◌, ℕ, ◌*◌, ◌≤◌, inl, inr, Bool, Some, None, List, [], ◌∷◌, ◌++◌}
+use Rattle.std.proofs.Common.{length, refl, sym, ap, subst, ◌∙◌, arith}
 use Rattle.std.specs.Prelude.{◌↔◌, IsTrue}
 use Rattle.std.proofs.lemmas.List.{append-nil}
 use Rattle.wires.specs.declared.lines.Sample.{Sample}
@@ -20,11 +21,15 @@ use Rattle.targets.specs.States.{BusState, IsTargetAt}
 use Rattle.targets.proofs.AlertBytes.{small_address}
 use Rattle.simulator.specs.Entries.{samples_of}
 use Rattle.simulator.specs.Machines.{Entry}
-use Rattle.simulator.specs.Does.{HasFrame, IsFrontOfBytes, BeginsWith, SendsByte, ReportsWord, Sent, Reported, DoesAsAsked}
+use Rattle.simulator.specs.Does.{HasFrame, IsFrontOfBytes, BeginsWith, SendsByte, ReportsWord, Sent}
+use Rattle.simulator.specs.Does.{Reported, DoesAsAsked}
 use Rattle.simulator.specs.Reports.{write_to, WritesTo}
-use Rattle.simulator.specs.StepDoes.{writes_data, MessageWrites, MessageWritesByte, MessageWritesWord, StepDoes}
+use Rattle.simulator.specs.StepDoes.{writes_data, MessageWrites, MessageWritesByte}
+use Rattle.simulator.specs.StepDoes.{MessageWritesWord, StepDoes}
 use Rattle.simulator.proofs.NextPlaces.{at_place}
-use Rattle.simulator.proofs.FrontBytes.{message_begins, front_goes_out, IsDataWrite, three_bytes, address_and_code, IsPlain, plain_bytes, front_length, whole_front}
+use Rattle.simulator.proofs.FrontBytes.{message_begins, front_goes_out, IsDataWrite, three_bytes}
+use Rattle.simulator.proofs.FrontBytes.{address_and_code, IsPlain, plain_bytes, front_length}
+use Rattle.simulator.proofs.FrontBytes.{whole_front}
 use Rattle.simulator.proofs.TakenForms.{Takes, operation_form, voltage_form}
 
 -- a message whose command takes its form, and samples that show it
@@ -32,47 +37,67 @@ record Judged (m : Asked) (a : Answered) (samples : List Sample) : Type 0 where
   pub takes : Takes m.code m.form
   pub has_length : HasLength m.form (length m.out)
   pub begins : (bytes : List ℕ) → BeginsWith samples bytes ↔ IsFrontOfBytes bytes (bytes_out m a)
-  pub sends : (address code : ℕ) → address ≤ 127 → SendsByte samples address code ↔ Sent m a address code
-  pub reports : (address word : ℕ) → address ≤ 127 → ReportsWord samples address status_word_code word ↔ Reported m a address status_word_code word
+  pub sends : (address code : ℕ) → address ≤ 127
+      → SendsByte samples address code ↔ Sent m a address code
+  pub reports : (address word : ℕ) → address ≤ 127
+      → ReportsWord samples address status_word_code word
+      ↔ Reported m a address status_word_code word
 
 -- what is written
 
-begun_writes : (m : Asked) (a : Answered) (x y z : ℕ) (more : List ℕ) → IsFrontOfBytes (x ∷ y ∷ z ∷ more) (bytes_out m a) → IsDataWrite m.form m.address m.code x y
+begun_writes : (m : Asked) (a : Answered) (x y z : ℕ) (more : List ℕ)
+    → IsFrontOfBytes (x ∷ y ∷ z ∷ more) (bytes_out m a) → IsDataWrite m.form m.address m.code x y
 begun_writes m a x y z more o =
     let all = message_begins m a (x ∷ y ∷ z ∷ more) o in
     three_bytes m.form m.address m.code m.out a.value a.bytes x y z (more ++ all.0) all.1
 
-to_writes : (m : Asked) (a : Answered) (samples : List Sample) (t : Target) (code : ℕ) → Judged m a samples → t.address ≤ 127 → WritesTo t samples code → MessageWrites t.address code m a
+to_writes : (m : Asked) (a : Answered) (samples : List Sample) (t : Target) (code : ℕ)
+    → Judged m a samples → t.address ≤ 127 → WritesTo t samples code
+    → MessageWrites t.address code m a
 to_writes m a samples t code j le (inl w) =
     let front = (j.begins (write_to t ∷ code ∷ w.0 ∷ [])).0 w.1 in
     let is = begun_writes m a (write_to t) code w.0 [] front in
     let first : 2 * m.address ≡ 2 * t.address = is.first in
-    record { to = omega arith; command = is.second; went_out = inl (is.writes, front_length (write_to t ∷ code ∷ w.0 ∷ []) (bytes_out m a) front) }
+    record {
+      to = omega arith;
+      command = is.second;
+      went_out = inl (is.writes, front_length (write_to t ∷ code ∷ w.0 ∷ []) (bytes_out m a) front);
+    }
 to_writes m a samples t code j le (inr s) =
     let done = (j.sends t.address code le).0 s in
     record { to = done.0.to; command = done.0.command; went_out = inr (done.0.form, done.1) }
 
-a_third : (x y : ℕ) (bytes : List ℕ) → IsFrontOfBytes (x ∷ y ∷ []) bytes → 3 ≤ length bytes → (z : ℕ) × IsFrontOfBytes (x ∷ y ∷ z ∷ []) bytes
+a_third : (x y : ℕ) (bytes : List ℕ) → IsFrontOfBytes (x ∷ y ∷ []) bytes → 3 ≤ length bytes
+    → (z : ℕ) × IsFrontOfBytes (x ∷ y ∷ z ∷ []) bytes
 a_third x y bytes o le = by o.0 o.1
   where
     by : (rest : List ℕ) → bytes ≡ x ∷ y ∷ rest → (z : ℕ) × IsFrontOfBytes (x ∷ y ∷ z ∷ []) bytes
     by [] e = let l : length bytes ≡ 2 = ap length e in absurd (omega arith)
     by (z ∷ rest) e = (z, (rest, e))
 
-from_writes : (m : Asked) (a : Answered) (samples : List Sample) (t : Target) (code : ℕ) → Judged m a samples → t.address ≤ 127 → MessageWrites t.address code m a → WritesTo t samples code
+from_writes : (m : Asked) (a : Answered) (samples : List Sample) (t : Target) (code : ℕ)
+    → Judged m a samples → t.address ≤ 127 → MessageWrites t.address code m a
+    → WritesTo t samples code
 from_writes m a samples t code j le w = elim (w.went_out) [
   | inl data_out ↦
-      let two = front_goes_out m a (2 * m.address ∷ m.code ∷ []) (address_and_code m.form m.address m.code m.out a.value a.bytes data_out.0) (omega (arith, data_out.1)) in
-      let same : 2 * m.address ∷ m.code ∷ [] ≡ write_to t ∷ code ∷ [] = ap (λ (n : ℕ). 2 * n ∷ m.code ∷ []) w.to ∙ ap (λ (n : ℕ). write_to t ∷ n ∷ []) w.command in
-      let third = a_third (write_to t) code (bytes_out m a) (subst (λ (l : List ℕ). IsFrontOfBytes l (bytes_out m a)) same two) data_out.1 in
+      let two = front_goes_out m a (2 * m.address ∷ m.code ∷ [])
+      (address_and_code m.form m.address m.code m.out a.value a.bytes data_out.0)
+      (omega (arith, data_out.1)) in
+      let same : 2 * m.address ∷ m.code ∷ [] ≡ write_to t ∷ code ∷ [] =
+      ap (λ (n : ℕ). 2 * n ∷ m.code ∷ []) w.to ∙ ap (λ (n : ℕ). write_to t ∷ n ∷ []) w.command in
+      let third = a_third (write_to t) code (bytes_out m a)
+      (subst (λ (l : List ℕ). IsFrontOfBytes l (bytes_out m a)) same two) data_out.1 in
       inl (third.0, (j.begins (write_to t ∷ code ∷ third.0 ∷ [])).1 third.1)
-  | inr sent ↦ inr ((j.sends t.address code le).1 (record { form = sent.0; to = w.to; command = w.command }, sent.1))
+  | inr sent ↦
+      inr ((j.sends t.address code le).1
+      (record { form = sent.0; to = w.to; command = w.command }, sent.1))
 ]
 
 -- OPERATION and VOUT_COMMAND
 
 -- the message writes these data bytes to a code in this form, and all of them went out
-record WritesData (f : Form) (address code : ℕ) (content : List ℕ) (m : Asked) (a : Answered) : Type 0 where
+record WritesData (f : Form) (address code : ℕ) (content : List ℕ) (m : Asked)
+    (a : Answered) : Type 0 where
   pub to : m.address ≡ address
   pub form : m.form ≡ f
   pub command : m.code ≡ code
@@ -83,8 +108,11 @@ record WritesData (f : Form) (address code : ℕ) (content : List ℕ) (m : Aske
 abbrev IsOnly : Form → ℕ → Type 0
 IsOnly f code = (g : Form) → IsTrue (writes_data g) → Takes code g → g ≡ f
 
-to_data : (m : Asked) (a : Answered) (samples : List Sample) (t : Target) (f : Form) (code x : ℕ) (later : List ℕ) → Judged m a samples → IsPlain f → IsOnly f code
-    → (HasLength f (length m.out) → length m.out ≡ length (x ∷ later)) → BeginsWith samples (write_to t ∷ code ∷ x ∷ later) → WritesData f t.address code (x ∷ later) m a
+to_data : (m : Asked) (a : Answered) (samples : List Sample) (t : Target) (f : Form) (code x : ℕ)
+    (later : List ℕ) → Judged m a samples → IsPlain f → IsOnly f code
+    → (HasLength f (length m.out) → length m.out ≡ length (x ∷ later))
+    → BeginsWith samples (write_to t ∷ code ∷ x ∷ later)
+    → WritesData f t.address code (x ∷ later) m a
 to_data m a samples t f code x later j plain only long w =
     let bytes = write_to t ∷ code ∷ x ∷ later in
     let front = (j.begins bytes).0 w in
@@ -93,44 +121,83 @@ to_data m a samples t f code x later j plain only long w =
     let takes : Takes code m.form = subst (λ (c : ℕ). Takes c m.form) is.second j.takes in
     let made : m.form ≡ f = only m.form is.writes takes in
     let all = message_begins m a bytes front in
-    let same : 2 * m.address ∷ m.code ∷ m.out ≡ write_to t ∷ code ∷ x ∷ (later ++ all.0) = sym (plain_bytes f m a plain made) ∙ all.1 in
+    let same : 2 * m.address ∷ m.code ∷ m.out ≡ write_to t ∷ code ∷ x ∷ (later ++ all.0) =
+    sym (plain_bytes f m a plain made) ∙ all.1 in
     let out : m.out ≡ x ∷ (later ++ all.0) = cc in
     record {
       to = omega arith;
       form = made;
       command = is.second;
-      content_is = whole_front (x ∷ later) m.out (all.0, out) (long (subst (λ (g : Form). HasLength g (length m.out)) made j.has_length));
+      content_is =
+          whole_front (x ∷ later) m.out (all.0, out)
+          (long (subst (λ (g : Form). HasLength g (length m.out)) made j.has_length));
       went_out = front_length bytes (bytes_out m a) front;
     }
 
-from_data : (m : Asked) (a : Answered) (samples : List Sample) (t : Target) (f : Form) (code : ℕ) (content : List ℕ) → Judged m a samples → IsPlain f → WritesData f t.address code content m a → BeginsWith samples (write_to t ∷ code ∷ content)
+from_data : (m : Asked) (a : Answered) (samples : List Sample) (t : Target) (f : Form) (code : ℕ)
+    (content : List ℕ) → Judged m a samples → IsPlain f → WritesData f t.address code content m a
+    → BeginsWith samples (write_to t ∷ code ∷ content)
 from_data m a samples t f code content j plain w =
     let all : message_bytes m a ≡ write_to t ∷ code ∷ content =
-    plain_bytes f m a plain w.form ∙ ap (λ (n : ℕ). 2 * n ∷ m.code ∷ m.out) w.to ∙ ap (λ (n : ℕ). write_to t ∷ n ∷ m.out) w.command ∙ ap (λ (l : List ℕ). write_to t ∷ code ∷ l) w.content_is in
-    (j.begins (write_to t ∷ code ∷ content)).1 (front_goes_out m a (write_to t ∷ code ∷ content) ([], all ∙ sym (append-nil (write_to t ∷ code ∷ content))) w.went_out)
+    plain_bytes f m a plain w.form ∙ ap (λ (n : ℕ). 2 * n ∷ m.code ∷ m.out) w.to
+    ∙ ap (λ (n : ℕ). write_to t ∷ n ∷ m.out) w.command
+    ∙ ap (λ (l : List ℕ). write_to t ∷ code ∷ l) w.content_is in
+    (j.begins (write_to t ∷ code ∷ content)).1 (front_goes_out m a (write_to t ∷ code ∷ content)
+    ([], all ∙ sym (append-nil (write_to t ∷ code ∷ content))) w.went_out)
 
 abbrev WritesOperation : Target → List Sample → ℕ → Type 0
 WritesOperation t samples value = BeginsWith samples (write_to t ∷ operation_code ∷ value ∷ [])
 
-operation : (m : Asked) (a : Answered) (samples : List Sample) (t : Target) (value : ℕ) → Judged m a samples → WritesOperation t samples value ↔ MessageWritesByte t.address operation_code value m a
+operation : (m : Asked) (a : Answered) (samples : List Sample) (t : Target) (value : ℕ)
+    → Judged m a samples
+    → WritesOperation t samples value ↔ MessageWritesByte t.address operation_code value m a
 operation m a samples t value j = (
   λ w.
-      let is = to_data m a samples t form.WriteByte operation_code value [] j (λ _ _ _ _ _. refl) operation_form (λ one. one) w in
-      record { is_write = record { to = is.to; form = is.form; command = is.command; content = is.content_is }; went_out = is.went_out },
+      let is = to_data m a samples t form.WriteByte operation_code value [] j
+      (λ _ _ _ _ _. refl) operation_form (λ one. one) w in
+      record {
+        is_write =
+            record { to = is.to; form = is.form; command = is.command; content = is.content_is };
+        went_out = is.went_out;
+      },
   λ w.
       let is = w.is_write in
-      from_data m a samples t form.WriteByte operation_code (value ∷ []) j (λ _ _ _ _ _. refl) (record { to = is.to; form = is.form; command = is.command; content_is = is.content; went_out = w.went_out }),
+      from_data m a samples t form.WriteByte operation_code (value ∷ []) j (λ _ _ _ _ _. refl)
+      (record {
+        to = is.to;
+        form = is.form;
+        command = is.command;
+        content_is = is.content;
+        went_out = w.went_out;
+      }),
 )
 
 abbrev WritesVoltage : Target → List Sample → ℕ → ℕ → Type 0
-WritesVoltage t samples low high = BeginsWith samples (write_to t ∷ vout_command_code ∷ low ∷ high ∷ [])
+WritesVoltage t samples low high =
+    BeginsWith samples (write_to t ∷ vout_command_code ∷ low ∷ high ∷ [])
 
-voltage : (m : Asked) (a : Answered) (samples : List Sample) (t : Target) (low high : ℕ) → Judged m a samples → WritesVoltage t samples low high ↔ MessageWritesWord t.address vout_command_code low high m a
+voltage : (m : Asked) (a : Answered) (samples : List Sample) (t : Target) (low high : ℕ)
+    → Judged m a samples
+    → WritesVoltage t samples low high ↔ MessageWritesWord t.address vout_command_code low high m a
 voltage m a samples t low high j = (
   λ w.
-      let is = to_data m a samples t form.WriteWord vout_command_code low (high ∷ []) j (λ _ _ _ _ _. refl) voltage_form (λ two. two) w in
-      record { to = is.to; form = is.form; command = is.command; content = is.content_is; went_out = is.went_out },
-  λ w. from_data m a samples t form.WriteWord vout_command_code (low ∷ high ∷ []) j (λ _ _ _ _ _. refl) (record { to = w.to; form = w.form; command = w.command; content_is = w.content; went_out = w.went_out }),
+      let is = to_data m a samples t form.WriteWord vout_command_code low (high ∷ []) j
+      (λ _ _ _ _ _. refl) voltage_form (λ two. two) w in
+      record {
+        to = is.to;
+        form = is.form;
+        command = is.command;
+        content = is.content_is;
+        went_out = is.went_out;
+      },
+  λ w. from_data m a samples t form.WriteWord vout_command_code (low ∷ high ∷ []) j
+      (λ _ _ _ _ _. refl) (record {
+        to = w.to;
+        form = w.form;
+        command = w.command;
+        content_is = w.content;
+        went_out = w.went_out;
+      }),
 )
 
 -- the step of a message
@@ -138,7 +205,8 @@ voltage m a samples t low high j = (
 address_small : (b : Board) (i : ℕ) (t : Target) → IsBoard b → IsTargetAt b i t → t.address ≤ 127
 address_small b i t is at = small_address t (at_place IsTarget b.targets i t is.targets at)
 
-does_message : (b : Board) (m : Asked) (a : Answered) (e : Entry) → IsBoard b → Judged m a e.samples → StepDoes b e.before (Some m) a e
+does_message : (b : Board) (m : Asked) (a : Answered) (e : Entry) → IsBoard b → Judged m a e.samples
+    → StepDoes b e.before (Some m) a e
 does_message b m a e is j = record {
   before = refl;
   writes = λ i t code at. (
@@ -148,22 +216,56 @@ does_message b m a e is j = record {
   operations = λ i t value at. operation m a e.samples t value j;
   voltages = λ i t low high at. voltage m a e.samples t low high j;
   reports = λ d word. (
-    λ r. record { rail = r.rail; target = r.target; at = r.at; page = r.page; reports = (j.reports r.target.address word (address_small b r.rail.target r.target is r.at.target)).0 r.reports },
-    λ r. record { rail = r.rail; target = r.target; at = r.at; page = r.page; reports = (j.reports r.target.address word (address_small b r.rail.target r.target is r.at.target)).1 r.reports },
+    λ r. record {
+      rail = r.rail;
+      target = r.target;
+      at = r.at;
+      page = r.page;
+      reports =
+          (j.reports r.target.address word
+          (address_small b r.rail.target r.target is r.at.target)).0 r.reports;
+    },
+    λ r. record {
+      rail = r.rail;
+      target = r.target;
+      at = r.at;
+      page = r.page;
+      reports =
+          (j.reports r.target.address word
+          (address_small b r.rail.target r.target is r.at.target)).1 r.reports;
+    },
   );
   withdraws = λ d. (
-    λ w. record { rail = w.rail; target = w.target; at = w.at; selected = w.selected; value = w.value; written = (operation m a e.samples w.target w.value j).0 w.written; off = w.off },
-    λ w. record { rail = w.rail; target = w.target; at = w.at; selected = w.selected; value = w.value; written = (operation m a e.samples w.target w.value j).1 w.written; off = w.off },
+    λ w. record {
+      rail = w.rail;
+      target = w.target;
+      at = w.at;
+      selected = w.selected;
+      value = w.value;
+      written = (operation m a e.samples w.target w.value j).0 w.written;
+      off = w.off;
+    },
+    λ w. record {
+      rail = w.rail;
+      target = w.target;
+      at = w.at;
+      selected = w.selected;
+      value = w.value;
+      written = (operation m a e.samples w.target w.value j).1 w.written;
+      off = w.off;
+    },
   );
 }
 
 -- the step of no message
 
-no_writes : (samples : List Sample) (t : Target) (code : ℕ) → ((f : Shown) → HasFrame samples f → ⊥) → WritesTo t samples code → ⊥
+no_writes : (samples : List Sample) (t : Target) (code : ℕ) → ((f : Shown) → HasFrame samples f → ⊥)
+    → WritesTo t samples code → ⊥
 no_writes samples t code none (inl w) = none w.1.frame w.1.has
 no_writes samples t code none (inr s) = none s.frame s.has
 
-does_nothing : (b : Board) (a : Answered) (e : Entry) → ((f : Shown) → HasFrame e.samples f → ⊥) → StepDoes b e.before None a e
+does_nothing : (b : Board) (a : Answered) (e : Entry) → ((f : Shown) → HasFrame e.samples f → ⊥)
+    → StepDoes b e.before None a e
 does_nothing b a e none = record {
   before = refl;
   writes = λ i t code at. (λ w. no_writes e.samples t code none w, λ w. absurd w);
@@ -173,24 +275,36 @@ does_nothing b a e none = record {
   withdraws = λ d. (λ w. absurd (none w.written.frame w.written.has), λ w. absurd w.written);
 }
 
-no_frame : (samples : List Sample) → ((frames : List Shown) → AreFrames (events_of samples) frames → frames ≡ []) → (f : Shown) → HasFrame samples f → ⊥
+no_frame : (samples : List Sample)
+    → ((frames : List Shown) → AreFrames (events_of samples) frames → frames ≡ []) → (f : Shown)
+    → HasFrame samples f → ⊥
 no_frame samples only f has = let bad : f ∷ [] ≡ [] = only (f ∷ []) has in cc
 
 -- what is asked of a message's samples
 
-judged : (m : Asked) (a : Answered) (alert : Bool) (samples : List Sample) → samples ≡ samples_of alert m a → Takes m.code m.form → HasLength m.form (length m.out) → ReadsNoBlock status_word_code m → DoesAsAsked m a alert → Judged m a samples
+judged : (m : Asked) (a : Answered) (alert : Bool) (samples : List Sample)
+    → samples ≡ samples_of alert m a → Takes m.code m.form → HasLength m.form (length m.out)
+    → ReadsNoBlock status_word_code m → DoesAsAsked m a alert → Judged m a samples
 judged m a alert samples e takes good no_block does = record {
   takes = takes;
   has_length = good;
   begins = λ bytes. rw e (does.begins bytes);
   sends = λ address code le. rw e (does.sends address code le);
-  reports = λ address word le. rw e (does.reports address status_word_code word le (omega arith) no_block);
+  reports = λ address word le.
+      rw e (does.reports address status_word_code word le (omega arith) no_block);
 }
 
-pub message_does : (b : Board) (s : BusState) (m : Asked) (a : Answered) (alert : Bool) (e : Entry) → IsBoard b → e.before ≡ s → e.samples ≡ samples_of alert m a
-    → Takes m.code m.form → HasLength m.form (length m.out) → ReadsNoBlock status_word_code m → DoesAsAsked m a alert → StepDoes b s (Some m) a e
+pub message_does : (b : Board) (s : BusState) (m : Asked) (a : Answered) (alert : Bool) (e : Entry)
+    → IsBoard b → e.before ≡ s → e.samples ≡ samples_of alert m a
+    → Takes m.code m.form → HasLength m.form (length m.out) → ReadsNoBlock status_word_code m
+    → DoesAsAsked m a alert → StepDoes b s (Some m) a e
 message_does b s m a alert e is before samples takes good no_block does =
-    subst (λ (x : BusState). StepDoes b x (Some m) a e) before (does_message b m a e is (judged m a alert e.samples samples takes good no_block does))
+    subst (λ (x : BusState). StepDoes b x (Some m) a e) before
+    (does_message b m a e is (judged m a alert e.samples samples takes good no_block does))
 
-pub silence_does : (b : Board) (s : BusState) (a : Answered) (e : Entry) → e.before ≡ s → ((frames : List Shown) → AreFrames (events_of e.samples) frames → frames ≡ []) → StepDoes b s None a e
-silence_does b s a e before only = subst (λ (x : BusState). StepDoes b x None a e) before (does_nothing b a e (no_frame e.samples only))
+pub silence_does : (b : Board) (s : BusState) (a : Answered) (e : Entry) → e.before ≡ s
+    → ((frames : List Shown) → AreFrames (events_of e.samples) frames → frames ≡ [])
+    → StepDoes b s None a e
+silence_does b s a e before only =
+    subst (λ (x : BusState). StepDoes b x None a e) before
+    (does_nothing b a e (no_frame e.samples only))

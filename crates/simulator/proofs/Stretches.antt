@@ -13,10 +13,15 @@ largest_below (t ∷ ts) all = max-le all.0.stretch (largest_below ts all.1)
 pub stretches : (b : Board) → IsBoard b → largest_stretch b.targets ≤ 6999
 stretches b is = largest_below b.targets (recursion_from_All IsTarget b.targets is.targets)
 
-each_below : (longest : ℕ) → longest ≤ 6999 → (holds : List ℕ) → AllByRecursion (λ hold. hold ≤ longest) holds → AllByRecursion (λ hold. hold ≤ 6999) holds
+each_below : (longest : ℕ) → longest ≤ 6999 → (holds : List ℕ)
+    → AllByRecursion (λ hold. hold ≤ longest) holds → AllByRecursion (λ hold. hold ≤ 6999) holds
 each_below longest le [] all = tt
-each_below longest le (h ∷ holds) all = let first : h ≤ longest = all.0 in (omega arith, each_below longest le holds all.1)
+each_below longest le (h ∷ holds) all =
+    let first : h ≤ longest = all.0 in
+    (omega arith, each_below longest le holds all.1)
 
-pub below : (longest : ℕ) → longest ≤ 6999 → (holds : List ℕ) → All (λ hold. hold ≤ longest) holds → All (λ hold. hold ≤ 6999) holds
+pub below : (longest : ℕ) → longest ≤ 6999 → (holds : List ℕ) → All (λ hold. hold ≤ longest) holds
+    → All (λ hold. hold ≤ 6999) holds
 below longest le holds all =
-    All-from_recursion (λ hold. hold ≤ 6999) holds (each_below longest le holds (recursion_from_All (λ hold. hold ≤ longest) holds all))
+    All-from_recursion (λ hold. hold ≤ 6999) holds
+    (each_below longest le holds (recursion_from_All (λ hold. hold ≤ longest) holds all))

@@ -1,5 +1,6 @@
 -- The command of an instruction's message takes the message's form.
-use Rattle.std.proofs.Common.{◌≡◌, ℕ, true, false, Option, Some, None, List, [], IsTrue, option_map, slice_get, refl, sym, subst}
+use Rattle.std.proofs.Common.{◌≡◌, ℕ, true, false, Option, Some, None, List, [], IsTrue, option_map}
+use Rattle.std.proofs.Common.{slice_get, refl, sym, subst}
 use Rattle.smbus.specs.declared.message.Form.{Form}
 use Rattle.smbus.specs.declared.message.Form.TheVariants as form
 use Rattle.smbus.specs.Asked.{Asked}
@@ -21,11 +22,15 @@ use Rattle.simulator.proofs.WireMessages.{asked_at}
 abbrev pub Takes : ℕ → Form → Type 0
 Takes code f = IsTrue (carries_code f) → IsTrue (takes_form code f)
 
-made_of : (f : Form) (code : ℕ) (out : List ℕ) (m : Asked) (o : Option Target) → Takes code f → option_map (λ t. asked_at f code out t) o ≡ Some m → Takes m.code m.form
+made_of : (f : Form) (code : ℕ) (out : List ℕ) (m : Asked) (o : Option Target) → Takes code f
+    → option_map (λ t. asked_at f code out t) o ≡ Some m → Takes m.code m.form
 made_of f code out m None takes e = cc
-made_of f code out m (Some t) takes e = let same : asked_at f code out t ≡ m = cc in rw (sym same) takes
+made_of f code out m (Some t) takes e =
+    let same : asked_at f code out t ≡ m = cc in
+    rw (sym same) takes
 
-to_target : (b : Board) (n : ℕ) (f : Form) (code : ℕ) (out : List ℕ) (m : Asked) → Takes code f → message_to b n f code out ≡ Some m → Takes m.code m.form
+to_target : (b : Board) (n : ℕ) (f : Form) (code : ℕ) (out : List ℕ) (m : Asked) → Takes code f
+    → message_to b n f code out ≡ Some m → Takes m.code m.form
 to_target b n f code out m takes e = made_of f code out m (slice_get b.targets n) takes e
 
 voltage_word : (code : ℕ) → code ≡ vout_command_code → IsTrue (takes_form code form.WriteWord)
@@ -37,17 +42,27 @@ written_takes code (written.Byte v) w = λ _. w.0
 written_takes code (written.Word v) w = λ _. w.0
 written_takes code (written.Register r) w = λ _. voltage_word code w.0
 
-pub takes_own_form : (b : Board) (i : Instr ℕ) (regs : List ℕ) (m : Asked) → IsInstr i → message_of b i regs ≡ Some m → Takes m.code m.form
+pub takes_own_form : (b : Board) (i : Instr ℕ) (regs : List ℕ) (m : Asked) → IsInstr i
+    → message_of b i regs ≡ Some m → Takes m.code m.form
 takes_own_form b (instr.Quick n r l) regs m ok e = to_target b n (form.Quick r) 0 [] m (λ t. cc) e
 takes_own_form b (instr.Send n c l) regs m ok e = to_target b n form.SendByte c [] m (λ _. ok) e
-takes_own_form b (instr.Receive n r l) regs m ok e = to_target b n form.ReceiveByte 0 [] m (λ t. cc) e
-takes_own_form b (instr.Write n c v l) regs m ok e = to_target b n (form_of v) c (data_of regs v) m (written_takes c v ok) e
-takes_own_form b (instr.Read n c w r l) regs m ok e = to_target b n (read_form w) c [] m (λ _. ok.0) e
-takes_own_form b (instr.Call n c v r l) regs m ok e = to_target b n form.ProcessCall c (low_byte_first v) m (λ _. ok.0) e
-takes_own_form b (instr.BlockWrite n c bytes l) regs m ok e = to_target b n form.BlockWrite c bytes m (λ _. ok.0) e
-takes_own_form b (instr.BlockRead n c r l) regs m ok e = to_target b n form.BlockRead c [] m (λ _. ok.0) e
-takes_own_form b (instr.BlockCall n c bytes r l) regs m ok e = to_target b n form.BlockProcessCall c bytes m (λ _. ok.0) e
-takes_own_form b (instr.Alert r l) regs m ok e = let same : form.Alert ≡ m.form = cc in rw (sym same) (λ t. cc)
+takes_own_form b (instr.Receive n r l) regs m ok e =
+    to_target b n form.ReceiveByte 0 [] m (λ t. cc) e
+takes_own_form b (instr.Write n c v l) regs m ok e =
+    to_target b n (form_of v) c (data_of regs v) m (written_takes c v ok) e
+takes_own_form b (instr.Read n c w r l) regs m ok e =
+    to_target b n (read_form w) c [] m (λ _. ok.0) e
+takes_own_form b (instr.Call n c v r l) regs m ok e =
+    to_target b n form.ProcessCall c (low_byte_first v) m (λ _. ok.0) e
+takes_own_form b (instr.BlockWrite n c bytes l) regs m ok e =
+    to_target b n form.BlockWrite c bytes m (λ _. ok.0) e
+takes_own_form b (instr.BlockRead n c r l) regs m ok e =
+    to_target b n form.BlockRead c [] m (λ _. ok.0) e
+takes_own_form b (instr.BlockCall n c bytes r l) regs m ok e =
+    to_target b n form.BlockProcessCall c bytes m (λ _. ok.0) e
+takes_own_form b (instr.Alert r l) regs m ok e =
+    let same : form.Alert ≡ m.form = cc in
+    rw (sym same) (λ t. cc)
 takes_own_form b (instr.IfAlert l) regs m ok e = cc
 takes_own_form b (instr.Set r v) regs m ok e = cc
 takes_own_form b (instr.Add r v) regs m ok e = cc
@@ -68,11 +83,13 @@ no_block_form e = let bad : false ≡ true = e in cc
 pub no_block_read : (m : Asked) → Takes m.code m.form → ReadsNoBlock status_word_code m
 no_block_read m takes is code =
     let takes_code : Takes status_word_code m.form = subst (λ (c : ℕ). Takes c m.form) code takes in
-    let takes_block : Takes status_word_code form.BlockRead = subst (λ (f : Form). Takes status_word_code f) is takes_code in
+    let takes_block : Takes status_word_code form.BlockRead =
+    subst (λ (f : Form). Takes status_word_code f) is takes_code in
     no_block_form (takes_block refl)
 
 -- OPERATION is written by Write Byte alone
-pub operation_form : (f : Form) → IsTrue (writes_data f) → Takes operation_code f → f ≡ form.WriteByte
+pub operation_form : (f : Form) → IsTrue (writes_data f) → Takes operation_code f
+    → f ≡ form.WriteByte
 unfolding table
 operation_form (form.Quick r) w takes = cc
 operation_form form.SendByte w takes = cc
@@ -88,7 +105,8 @@ operation_form form.BlockProcessCall w takes = let bad : false ≡ true = takes 
 operation_form form.Alert w takes = cc
 
 -- and VOUT_COMMAND by Write Word
-pub voltage_form : (f : Form) → IsTrue (writes_data f) → Takes vout_command_code f → f ≡ form.WriteWord
+pub voltage_form : (f : Form) → IsTrue (writes_data f) → Takes vout_command_code f
+    → f ≡ form.WriteWord
 unfolding table
 voltage_form (form.Quick r) w takes = cc
 voltage_form form.SendByte w takes = cc

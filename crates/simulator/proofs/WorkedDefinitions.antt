@@ -1,5 +1,6 @@
 -- Definitions at known values, and what the law on steps says of single messages.
-use Rattle.std.proofs.Common.{◌≡◌, ℕ, suc, ◌+◌, ◌/◌, ◌<◌, ◌≤◌, true, false, inl, inr, Option, Some, None, List, [], ◌∷◌, length, slice_index, refl, ap, ◌∙◌, arith}
+use Rattle.std.proofs.Common.{◌≡◌, ℕ, suc, ◌+◌, ◌/◌, ◌<◌, ◌≤◌, true, false, inl, inr, Option, Some}
+use Rattle.std.proofs.Common.{None, List, [], ◌∷◌, length, slice_index, refl, ap, ◌∙◌, arith}
 use Rattle.std.proofs.lemmas.List.{length-take}
 use Rattle.bit_bus.specs.Levels.{first_cut}
 use Rattle.smbus.specs.Asked.{Asked}
@@ -52,10 +53,18 @@ low_byte_first : word_of (0x34 ∷ 0x12 ∷ []) ≡ 0x1234
 low_byte_first = refl
 
 -- a Read Word of STATUS_WORD that is done reports its word
-reads_report : (b : Board) (s : BusState) (m : Asked) (a : Answered) (e : Entry) (d word : ℕ) (r : Rail) (t : Target) → StepDoes b s (Some m) a e
-    → IsRailAt b d r t → slice_index s.page r.target ≡ r.page → IsReadWord t.address status_word_code word m a → IsDone m a → Reports b e d word
+reads_report : (b : Board) (s : BusState) (m : Asked) (a : Answered) (e : Entry) (d word : ℕ)
+    (r : Rail) (t : Target) → StepDoes b s (Some m) a e
+    → IsRailAt b d r t → slice_index s.page r.target ≡ r.page
+    → IsReadWord t.address status_word_code word m a → IsDone m a → Reports b e d word
 reads_report b s m a e d word r t does at page read done =
-    (does.reports d word).1 (record { rail = r; target = t; at = at; page = page; reports = record { read = read; accepted = done.accepted; cut_late = inl done.uncut } })
+    (does.reports d word).1 (record {
+      rail = r;
+      target = t;
+      at = at;
+      page = page;
+      reports = record { read = read; accepted = done.accepted; cut_late = inl done.uncut };
+    })
 
 -- of a message that is done all bytes go out
 done_out : (m : Asked) (a : Answered) → IsDone m a → bytes_out m a ≡ message_bytes m a
@@ -64,15 +73,18 @@ done_out m a done =
     ∙ ap (λ (refuse : Option ℕ). bytes_to refuse (message_bytes m a)) done.accepted
 
 -- so a Write Byte to OPERATION that is done is seen to write its value
-pub writes_operation : (b : Board) (s : BusState) (m : Asked) (a : Answered) (e : Entry) (i value : ℕ) (t : Target) → StepDoes b s (Some m) a e
-    → IsTargetAt b i t → IsByteWrite t.address operation_code value m → IsDone m a → BeginsWith e.samples (write_to t ∷ operation_code ∷ value ∷ [])
+pub writes_operation : (b : Board) (s : BusState) (m : Asked) (a : Answered) (e : Entry)
+    (i value : ℕ) (t : Target) → StepDoes b s (Some m) a e
+    → IsTargetAt b i t → IsByteWrite t.address operation_code value m → IsDone m a
+    → BeginsWith e.samples (write_to t ∷ operation_code ∷ value ∷ [])
 writes_operation b s m a e i value t does at is done =
     let one : length m.out ≡ 1 = ap length is.content in
-    let all : length (bytes_out m a) ≡ suc (suc (length m.out)) = ap length (done_out m a done) ∙ ap length (plain_bytes _ m a (λ _ _ _ _ _. refl) is.form) in
+    let all : length (bytes_out m a) ≡ suc (suc (length m.out)) =
+    ap length (done_out m a done) ∙ ap length (plain_bytes _ m a (λ _ _ _ _ _. refl) is.form) in
     (does.operations i t value at).1 (record { is_write = is; went_out = omega (arith, one, all) })
 
--- where the address or the code is refused, or a slot before the third byte's acknowledge is cut, nothing
--- is written
+-- where the address or the code is refused, or a slot before the third byte's acknowledge is cut,
+-- nothing is written
 
 to_few : (n : ℕ) (bytes : List ℕ) → length (bytes_to (Some n) bytes) ≤ n + 1
 to_few n bytes = let l = length-take (n + 1) bytes in omega (arith, l)
@@ -81,30 +93,41 @@ before_few : (cut : Option ℕ) (bytes : List ℕ) → length (bytes_before cut 
 before_few None bytes = omega arith
 before_few (Some slot) bytes = let l = length-take ((slot + 1) / 9) bytes in omega (arith, l)
 
-refused_early : (m : Asked) (a : Answered) (address code n : ℕ) → a.refuse ≡ Some n → n < 2 → MessageWrites address code m a → ⊥
+refused_early : (m : Asked) (a : Answered) (address code n : ℕ) → a.refuse ≡ Some n → n < 2
+    → MessageWrites address code m a → ⊥
 refused_early m a address code n e lt w = elim (w.went_out) [
   | inl data_out ↦
-      let few : length (bytes_out m a) ≤ length (bytes_to a.refuse (message_bytes m a)) = before_few (first_cut (plan_of m a)) (bytes_to a.refuse (message_bytes m a)) in
-      let to : length (bytes_to a.refuse (message_bytes m a)) ≤ n + 1 = rw e (to_few n (message_bytes m a)) in
+      let few : length (bytes_out m a) ≤ length (bytes_to a.refuse (message_bytes m a)) =
+      before_few (first_cut (plan_of m a)) (bytes_to a.refuse (message_bytes m a)) in
+      let to : length (bytes_to a.refuse (message_bytes m a)) ≤ n + 1 =
+      rw e (to_few n (message_bytes m a)) in
       let out : 3 ≤ length (bytes_out m a) = data_out.1 in
       omega (arith, few, to, out, lt)
   | inr sent ↦ let none = sent.1.accepted in cc
 ]
 
-refused_writes_nothing : (b : Board) (s : BusState) (m : Asked) (a : Answered) (e : Entry) (i code n : ℕ) (t : Target) → StepDoes b s (Some m) a e
+refused_writes_nothing : (b : Board) (s : BusState) (m : Asked) (a : Answered) (e : Entry)
+    (i code n : ℕ) (t : Target) → StepDoes b s (Some m) a e
     → IsTargetAt b i t → a.refuse ≡ Some n → n < 2 → WritesTo t e.samples code → ⊥
-refused_writes_nothing b s m a e i code n t does at refused lt w = refused_early m a t.address code n refused lt ((does.writes i t code at).0 w)
+refused_writes_nothing b s m a e i code n t does at refused lt w =
+    refused_early m a t.address code n refused lt ((does.writes i t code at).0 w)
 
-cut_early : (m : Asked) (a : Answered) (address code slot : ℕ) → first_cut (plan_of m a) ≡ Some slot → slot < 26 → MessageWrites address code m a → ⊥
+cut_early : (m : Asked) (a : Answered) (address code slot : ℕ) → first_cut (plan_of m a) ≡ Some slot
+    → slot < 26 → MessageWrites address code m a → ⊥
 cut_early m a address code slot e lt w = elim (w.went_out) [
   | inl data_out ↦
       let l = length-take ((slot + 1) / 9) (bytes_to a.refuse (message_bytes m a)) in
-      let few : length (bytes_before (Some slot) (bytes_to a.refuse (message_bytes m a))) ≤ 2 = omega (arith, l, lt) in
-      let out : 3 ≤ length (bytes_before (Some slot) (bytes_to a.refuse (message_bytes m a))) = rw e at data_out.1 in
+      let few : length (bytes_before (Some slot) (bytes_to a.refuse (message_bytes m a))) ≤ 2 =
+      omega (arith, l, lt) in
+      let out : 3 ≤ length (bytes_before (Some slot) (bytes_to a.refuse (message_bytes m a))) =
+      rw e at data_out.1 in
       omega (arith, few, out)
   | inr sent ↦ let none = sent.1.uncut in cc
 ]
 
-cut_writes_nothing : (b : Board) (s : BusState) (m : Asked) (a : Answered) (e : Entry) (i code slot : ℕ) (t : Target) → StepDoes b s (Some m) a e
-    → IsTargetAt b i t → first_cut (plan_of m a) ≡ Some slot → slot < 26 → WritesTo t e.samples code → ⊥
-cut_writes_nothing b s m a e i code slot t does at cut lt w = cut_early m a t.address code slot cut lt ((does.writes i t code at).0 w)
+cut_writes_nothing : (b : Board) (s : BusState) (m : Asked) (a : Answered) (e : Entry)
+    (i code slot : ℕ) (t : Target) → StepDoes b s (Some m) a e
+    → IsTargetAt b i t → first_cut (plan_of m a) ≡ Some slot → slot < 26 → WritesTo t e.samples code
+    → ⊥
+cut_writes_nothing b s m a e i code slot t does at cut lt w =
+    cut_early m a t.address code slot cut lt ((does.writes i t code at).0 w)

@@ -1,9 +1,13 @@
 -- Which frames the targets of a board allow, judged from what was seen on the lines.
-use Rattle.std.specs.Prelude.{◌≡◌, ◌≢◌, ◌+◌, ◌*◌, ◌||◌, ◌==◌, ◌⊎◌, ℕ, Bool, List, length, slice_index, Some, IsTrue, All}
+use Rattle.std.specs.Prelude.{◌≡◌, ◌≢◌, ◌+◌, ◌*◌, ◌||◌, ◌==◌, ◌⊎◌, ℕ, Bool, List, length}
+use Rattle.std.specs.Prelude.{slice_index, Some, IsTrue, All}
 use Rattle.wires.specs.declared.lines.Sample.{Sample}
 use Rattle.bit_bus.specs.Levels.{HasTimeout}
 use Rattle.smbus.specs.declared.message.Form.{Form}
-use Rattle.smbus.specs.declared.message.Form.TheVariants.{WriteByte, WriteWord, ReceiveByte, ReadByte, ReadWord, ProcessCall, BlockWrite, BlockRead, BlockProcessCall, Alert}
+use Rattle.smbus.specs.declared.message.Form.TheVariants.{WriteByte, WriteWord, ReceiveByte}
+use Rattle.smbus.specs.declared.message.Form.TheVariants.{ReadByte, ReadWord, ProcessCall}
+use Rattle.smbus.specs.declared.message.Form.TheVariants.{BlockWrite, BlockRead, BlockProcessCall}
+use Rattle.smbus.specs.declared.message.Form.TheVariants.{Alert}
 use Rattle.smbus.specs.Asked.{Asked}
 use Rattle.smbus.specs.Answered.{Answered}
 use Rattle.smbus.specs.Shown.{Shown}
@@ -48,13 +52,15 @@ IsInRange BlockRead e m a = IsBlockIn e a.bytes
 IsInRange BlockProcessCall e m a = IsBlockIn e a.bytes
 IsInRange other e m a = Unit {0}
 
--- off at once, off after the delays, and on (PMBus 1.3 Part II, 12.1): the values that this profile writes
+-- off at once, off after the delays, and on (PMBus 1.3 Part II, 12.1): the values that this profile
+-- writes
 abbrev pub is_operation_value : ℕ → Bool
 is_operation_value value = value == 0x00 || (value == 0x40 || enables value)
 
 -- what is written to a command is one of its values
 abbrev pub WritesOnly : ℕ → (ℕ → Bool) → Asked → Type 0
-WritesOnly code is_value m = m.form ≡ WriteByte → m.code ≡ code → IsTrue (is_value (slice_index m.out 0))
+WritesOnly code is_value m = m.form ≡ WriteByte → m.code ≡ code
+    → IsTrue (is_value (slice_index m.out 0))
 
 -- the target has an entry for the message and its data, while its PAGE is this one
 pub record Allows (t : Target) (page : ℕ) (m : Asked) (a : Answered) : Type 0 where
@@ -70,7 +76,9 @@ pub record Allows (t : Target) (page : ℕ) (m : Asked) (a : Answered) : Type 0 
 
 -- some target allows the message; an alert response goes to no target
 abbrev pub IsAllowedBy : Board → BusState → Asked → Answered → Type 0
-IsAllowedBy b s m a = (m.form ≡ Alert) ⊎ ((i : ℕ) × (t : Target) × IsTargetAt b i t × Allows t (slice_index s.page i) m a)
+IsAllowedBy b s m a =
+    (m.form ≡ Alert)
+    ⊎ ((i : ℕ) × (t : Target) × IsTargetAt b i t × Allows t (slice_index s.page i) m a)
 
 -- the frame is one of a message that a target allows, or a beginning that a target broke off
 pub record IsAllowed (b : Board) (s : BusState) (samples : List Sample) (f : Shown) : Type 0 where

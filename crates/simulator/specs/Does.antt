@@ -11,7 +11,8 @@ use Rattle.smbus.specs.Protocol.{marks_of, whole}
 use Rattle.smbus.specs.Slots.{plan_of}
 use Rattle.smbus.specs.Whole.{IsWhole}
 use Rattle.smbus.specs.FirstSegment.{bytes_out, bytes_seen}
-use Rattle.smbus.specs.MessageFrame.{send_byte, read_word, IsSendByte, IsReadWord, IsCutLate, ReadsNoBlock, AreAsked}
+use Rattle.smbus.specs.MessageFrame.{send_byte, read_word, IsSendByte, IsReadWord, IsCutLate}
+use Rattle.smbus.specs.MessageFrame.{ReadsNoBlock, AreAsked}
 use Rattle.targets.specs.Outcomes.{IsDone}
 use Rattle.simulator.specs.Entries.{samples_of}
 
@@ -27,7 +28,8 @@ pub record BeginsWith (samples : List Sample) (bytes : List ℕ) : Type 0 where
   pub has : HasFrame samples frame
   pub front : IsFrontOfBytes bytes (bytes_seen frame)
 
--- it is a whole Send Byte of the code (SMBus 3.2, 6.5.2), and the clock was nowhere low for too long
+-- it is a whole Send Byte of the code (SMBus 3.2, 6.5.2), and the clock was nowhere low for too
+-- long
 pub record SendsByte (samples : List Sample) (address code : ℕ) : Type 0 where
   pub frame : Shown
   pub has : HasFrame samples frame
@@ -52,8 +54,10 @@ pub record Reported (m : Asked) (a : Answered) (address code value : ℕ) : Type
   pub cut_late : IsCutLate (first_cut (plan_of m a)) (length (marks_of (whole m a.value a.bytes)))
 
 pub record DoesAsAsked (m : Asked) (a : Answered) (alert : Bool) : Type 0 where
-  pub begins : (bytes : List ℕ) → BeginsWith (samples_of alert m a) bytes ↔ IsFrontOfBytes bytes (bytes_out m a)
-  pub sends : (address code : ℕ) → address ≤ 127 → SendsByte (samples_of alert m a) address code ↔ Sent m a address code
+  pub begins : (bytes : List ℕ)
+      → BeginsWith (samples_of alert m a) bytes ↔ IsFrontOfBytes bytes (bytes_out m a)
+  pub sends : (address code : ℕ) → address ≤ 127
+      → SendsByte (samples_of alert m a) address code ↔ Sent m a address code
   pub reports : (address code value : ℕ) → address ≤ 127 → code < 256 → ReadsNoBlock code m
       → ReportsWord (samples_of alert m a) address code value ↔ Reported m a address code value
 

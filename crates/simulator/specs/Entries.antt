@@ -37,4 +37,5 @@ abbrev pub AreRead : List (List Sample) → List (List Shown) → Type 0
 AreRead [] [] = Unit {0}
 AreRead [] (fs ∷ frames) = ⊥
 AreRead (samples ∷ entries) [] = ⊥
-AreRead (samples ∷ entries) (fs ∷ frames) = AreFrames (events_of samples) fs × AreRead entries frames
+AreRead (samples ∷ entries) (fs ∷ frames) =
+    AreFrames (events_of samples) fs × AreRead entries frames

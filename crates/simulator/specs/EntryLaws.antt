@@ -1,5 +1,6 @@
 -- What is read back from the samples of entries.
-use Rattle.std.specs.Prelude.{ℕ, ◌+◌, ◌*◌, ◌≡◌, ◌<◌, ◌≤◌, ◌⊎◌, ◌↔◌, Bool, true, Some, None, is_some, IsTrue, List, [], length, All}
+use Rattle.std.specs.Prelude.{ℕ, ◌+◌, ◌*◌, ◌≡◌, ◌<◌, ◌≤◌, ◌⊎◌, ◌↔◌, Bool, true, Some, None, is_some}
+use Rattle.std.specs.Prelude.{IsTrue, List, [], length, All}
 use Rattle.std.specs.List.{flat_map}
 use Rattle.wires.specs.declared.lines.Sample.{Sample}
 use Rattle.wires.specs.Events.{events_of}
@@ -24,12 +25,18 @@ pub record ReadsOne (m : Asked) (a : Answered) (alert : Bool) : Type 0 where
   pub timeout : HasTimeout (samples_of alert m a) ↔ IsTrue (is_some (first_cut (plan_of m a)))
   -- whole or broken off, where a timeout is one that is seen in the samples
   pub shape : (timed_out : Bool) → (HasTimeout (samples_of alert m a) ↔ IsTrue timed_out)
-      → IsWhole m a.value a.bytes shows.one.frame ⊎ IsBrokenOff m a.value a.bytes timed_out shows.one.frame
-  pub done : a.refuse ≡ None → first_cut (plan_of m a) ≡ None → IsWhole m a.value a.bytes shows.one.frame
+      → IsWhole m a.value a.bytes shows.one.frame
+      ⊎ IsBrokenOff m a.value a.bytes timed_out shows.one.frame
+  pub done : a.refuse ≡ None → first_cut (plan_of m a) ≡ None
+      → IsWhole m a.value a.bytes shows.one.frame
   -- cut in its STOP, it is both
-  pub cut_in_end : a.refuse ≡ None → first_cut (plan_of m a) ≡ Some (length (marks_of (whole m a.value a.bytes)))
-      → IsWhole m a.value a.bytes shows.one.frame × IsBrokenOff m a.value a.bytes true shows.one.frame
-  pub few : (longest : ℕ) → All (λ hold. hold ≤ longest) a.holds → length (samples_of alert m a) ≤ 2 + most_slots m.form (length m.out) (length a.bytes) * (3 + longest)
+  pub cut_in_end : a.refuse ≡ None
+      → first_cut (plan_of m a) ≡ Some (length (marks_of (whole m a.value a.bytes)))
+      → IsWhole m a.value a.bytes shows.one.frame
+      × IsBrokenOff m a.value a.bytes true shows.one.frame
+  pub few : (longest : ℕ) → All (λ hold. hold ≤ longest) a.holds
+      → length (samples_of alert m a)
+      ≤ 2 + most_slots m.form (length m.out) (length a.bytes) * (3 + longest)
   pub some : 1 ≤ length (samples_of alert m a)
   pub entry : IsEntry (samples_of alert m a)
 
@@ -39,7 +46,8 @@ EntriesReadBack = (m : Asked) (a : Answered) (alert : Bool) → AreAsked m a →
 -- idle samples have no frame, and leave the bus free
 pub record HasNoFrame (alert : Bool) (ticks : ℕ) : Type 0 where
   pub none : AreFrames (events_of (idle_samples alert ticks)) []
-  pub only : (frames : List Shown) → AreFrames (events_of (idle_samples alert ticks)) frames → frames ≡ []
+  pub only : (frames : List Shown) → AreFrames (events_of (idle_samples alert ticks)) frames
+      → frames ≡ []
   pub count : length (idle_samples alert ticks) ≡ ticks
   pub entry : 0 < ticks → IsEntry (idle_samples alert ticks)
 
@@ -49,8 +57,10 @@ IdleReadsBack = (alert : Bool) (ticks : ℕ) → HasNoFrame alert ticks
 -- joined entries have the events of each, and so its frames in order, and no others
 pub record ReadsJoined (entries : List (List Sample)) : Type 0 where
   pub events : events_of (joined entries) ≡ flat_map events_of entries
-  pub frames : (frames : List (List Shown)) → AreRead entries frames → AreFrames (events_of (joined entries)) (all_frames frames)
-  pub only : (frames : List (List Shown)) → AreRead entries frames → (others : List Shown) → AreFrames (events_of (joined entries)) others → others ≡ all_frames frames
+  pub frames : (frames : List (List Shown)) → AreRead entries frames
+      → AreFrames (events_of (joined entries)) (all_frames frames)
+  pub only : (frames : List (List Shown)) → AreRead entries frames → (others : List Shown)
+      → AreFrames (events_of (joined entries)) others → others ≡ all_frames frames
 
 abbrev pub JoinedReadBack : Type 0
 JoinedReadBack = (entries : List (List Sample)) → All IsEntry entries → ReadsJoined entries

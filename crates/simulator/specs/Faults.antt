@@ -1,5 +1,6 @@
 -- The faults of runs: their numbers and names, and what each says.
-use Rattle.std.specs.Prelude.{◌≡◌, ◌≢◌, ◌<◌, ◌≤◌, ◌+◌, ℕ, List, slice_get, take, Option, Some, None, codes}
+use Rattle.std.specs.Prelude.{◌≡◌, ◌≢◌, ◌<◌, ◌≤◌, ◌+◌, ℕ, List, slice_get, take, Option, Some, None}
+use Rattle.std.specs.Prelude.{codes}
 use Rattle.smbus.specs.Answered.{Answered}
 use Rattle.board.specs.Boards.{Board}
 use Rattle.targets.specs.Fitting.{FitsStep}
@@ -42,7 +43,8 @@ pub record DoesNotFit (b : Board) (p : List (Instr ℕ)) (m : Machine) (a : Answ
   pub outside : FitsStep b m.bus (message_of b instr m.regs) a → ⊥
 
 -- the step would go past the most samples, where so many stand before it
-pub record IsTooLong (b : Board) (p : List (Instr ℕ)) (m : Machine) (a : Answered) (before : ℕ) : Type 0 where
+pub record IsTooLong (b : Board) (p : List (Instr ℕ)) (m : Machine) (a : Answered)
+    (before : ℕ) : Type 0 where
   pub entry : Entry
   pub next : Machine
   pub step : IsStep b p m a entry next
@@ -56,7 +58,8 @@ IsStepFault b p m a before index fault.TooLong = IsTooLong b p m a before
 IsStepFault b p m a before index other = ⊥
 
 -- the run goes as far as an answer, and there it fails
-pub record FailsAt (b : Board) (p : List (Instr ℕ)) (m : Machine) (answers : List Answered) (fault : RunFault) : Type 0 where
+pub record FailsAt (b : Board) (p : List (Instr ℕ)) (m : Machine) (answers : List Answered)
+    (fault : RunFault) : Type 0 where
   pub index : ℕ
   pub entries : List Entry
   pub reached : Machine

@@ -22,7 +22,8 @@ use Rattle.simulator.specs.Safe.{AreSafe}
 abbrev pub AreAllowedFrames : Board → List Entry → List Shown → Type 0
 AreAllowedFrames b [] frames = frames ≡ []
 AreAllowedFrames b (e ∷ later) frames =
-    (own : List Shown) × (rest : List Shown) × (frames ≡ own ++ rest) × AreFrames (events_of e.samples) own
+    (own : List Shown) × (rest : List Shown) × (frames ≡ own ++ rest)
+    × AreFrames (events_of e.samples) own
     × All (IsAllowed b e.before e.samples) own × AreAllowedFrames b later rest
 
 abbrev pub run_samples : List Entry → List Sample
@@ -32,7 +33,8 @@ run_samples entries = joined (map (λ (e : Entry). e.samples) entries)
 pub record ReadsAllowed (b : Board) (entries : List Entry) : Type 0 where
   pub frames : List Shown
   pub read : AreFrames (events_of (run_samples entries)) frames
-  pub only : (others : List Shown) → AreFrames (events_of (run_samples entries)) others → others ≡ frames
+  pub only : (others : List Shown) → AreFrames (events_of (run_samples entries)) others
+      → others ≡ frames
   pub allowed : AreAllowedFrames b entries frames
 
 -- the machine isn't stuck: at its place stands an instruction, to which the targets can answer
@@ -41,7 +43,8 @@ pub record GoesOn (b : Board) (p : List (Instr ℕ)) (m : Machine) : Type 0 wher
   pub here : slice_get p m.place ≡ Some instr
   pub answer : HasAnswer b m.bus (message_of b instr m.regs)
 
-pub record IsSafeWithin (b : Board) (p : List (Instr ℕ)) (bound : ℕ) (entries : List Entry) (last : Machine) : Type 0 where
+pub record IsSafeWithin (b : Board) (p : List (Instr ℕ)) (bound : ℕ) (entries : List Entry)
+    (last : Machine) : Type 0 where
   pub safe : AreSafe b [] entries
   pub frames : ReadsAllowed b entries
   pub bounded : total_ticks entries ≤ bound
@@ -53,4 +56,5 @@ pub record IsSafeWithin (b : Board) (p : List (Instr ℕ)) (bound : ℕ) (entrie
 abbrev pub RunsAreSafe : Board → List (Instr ℕ) → ℕ → Type 0
 RunsAreSafe b p bound =
     (s : BusState) (answers : List Answered) (entries : List Entry) (last : Machine)
-    → IsStart b s → IsRun b p (start_at s) answers entries last → IsSafeWithin b p bound entries last
+    → IsStart b s → IsRun b p (start_at s) answers entries last
+    → IsSafeWithin b p bound entries last

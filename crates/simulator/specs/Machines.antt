@@ -15,7 +15,8 @@ pub record Machine : Type 0 where
   pub bus : BusState
   pub ended : Ending
 
--- a step: its place, the state before it, the lines tick by tick, and how its message ended, if it sent one
+-- a step: its place, the state before it, the lines tick by tick, and how its message ended, if it
+-- sent one
 pub record Entry : Type 0 where
   pub place : ℕ
   pub before : BusState
@@ -29,7 +30,8 @@ start_state pages protects = record { page = pages; protect = protects; alerting
 
 -- at place 0, with registers and counters 0
 abbrev pub start_at : BusState → Machine
-start_at s = record { place = 0; regs = replicate 8 0; counters = replicate 4 0; bus = s; ended = Running }
+start_at s =
+    record { place = 0; regs = replicate 8 0; counters = replicate 4 0; bus = s; ended = Running }
 
 -- a machine of the board and the program
 pub record IsMachine (b : Board) (p : List (Instr ℕ)) (m : Machine) : Type 0 where

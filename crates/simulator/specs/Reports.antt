@@ -1,5 +1,6 @@
 -- What a step writes, reports and withdraws, judged from what was seen on the lines.
-use Rattle.std.specs.Prelude.{◌≡◌, ◌*◌, ◌==◌, ◌||◌, ◌⊎◌, ℕ, Bool, false, List, [], ◌∷◌, slice_get, slice_index, Some, IsTrue}
+use Rattle.std.specs.Prelude.{◌≡◌, ◌*◌, ◌==◌, ◌||◌, ◌⊎◌, ℕ, Bool, false, List, [], ◌∷◌, slice_get}
+use Rattle.std.specs.Prelude.{slice_index, Some, IsTrue}
 use Rattle.wires.specs.declared.lines.Sample.{Sample}
 use Rattle.pmbus_table.specs.Codes.{operation_code, status_word_code}
 use Rattle.pmbus_table.specs.Operation.{enables}
@@ -13,11 +14,12 @@ use Rattle.simulator.specs.Does.{BeginsWith, SendsByte, ReportsWord}
 abbrev pub write_to : Target → ℕ
 write_to t = 2 * t.address
 
--- a code is written to the target: its address, the code and a byte after it went out, or it is a whole
--- Send Byte of the code, and SCL was nowhere low for too long
+-- a code is written to the target: its address, the code and a byte after it went out, or it is a
+-- whole Send Byte of the code, and SCL was nowhere low for too long
 abbrev pub WritesTo : Target → List Sample → ℕ → Type 0
 WritesTo t samples code =
-    ((value : ℕ) × BeginsWith samples (write_to t ∷ code ∷ value ∷ [])) ⊎ SendsByte samples t.address code
+    ((value : ℕ) × BeginsWith samples (write_to t ∷ code ∷ value ∷ []))
+    ⊎ SendsByte samples t.address code
 
 -- a stored PAGE selects the rail on it, and FFh every rail of the target (PMBus 1.3 Part II, 11.10)
 abbrev pub selects : ℕ → ℕ → Bool
@@ -34,7 +36,8 @@ pub record IsRailAt (b : Board) (d : ℕ) (r : Rail) (t : Target) : Type 0 where
   pub rail : slice_get b.rails d ≡ Some r
   pub target : IsTargetAt b r.target t
 
--- a whole Read Word of STATUS_WORD (PMBus 1.3 Part II, 17.2) returns the word, while PAGE is the rail's
+-- a whole Read Word of STATUS_WORD (PMBus 1.3 Part II, 17.2) returns the word, while PAGE is the
+-- rail's
 pub record Reports (b : Board) (e : Entry) (d word : ℕ) : Type 0 where
   pub rail : Rail
   pub target : Target
@@ -42,7 +45,8 @@ pub record Reports (b : Board) (e : Entry) (d word : ℕ) : Type 0 where
   pub page : slice_index e.before.page rail.target ≡ rail.page
   pub reports : ReportsWord e.samples target.address status_word_code word
 
--- a value that doesn't enable went out to OPERATION (PMBus 1.3 Part II, 12.1), while PAGE selects the rail
+-- a value that doesn't enable went out to OPERATION (PMBus 1.3 Part II, 12.1), while PAGE selects
+-- the rail
 pub record Withdraws (b : Board) (e : Entry) (d : ℕ) : Type 0 where
   pub rail : Rail
   pub target : Target

@@ -1,5 +1,6 @@
 -- What a run of the model is seen to do.
-use Rattle.std.specs.Prelude.{◌≡◌, ℕ, true, false, List, [], ◌∷◌, map, slice_get, Option, Some, None}
+use Rattle.std.specs.Prelude.{◌≡◌, ℕ, true, false, List, [], ◌∷◌, map, slice_get, Option, Some}
+use Rattle.std.specs.Prelude.{None}
 use Rattle.wires.specs.declared.lines.Sample.{Sample}
 use Rattle.wires.specs.Events.{events_of}
 use Rattle.smbus.specs.Asked.{Asked}
@@ -20,8 +21,8 @@ use Rattle.simulator.specs.Machines.{Machine, Entry}
 use Rattle.simulator.specs.Steps.{IsStep, IsRun}
 use Rattle.simulator.specs.StepLaws.{IsReady}
 
--- a frame is whole where its message is done, and broken off otherwise: in a refused byte, or where the
--- clock was low for too long
+-- a frame is whole where its message is done, and broken off otherwise: in a refused byte, or where
+-- the clock was low for too long
 abbrev pub IsFrameOf : Asked → Answered → Outcome → Shown → Type 0
 IsFrameOf m a (Done value) f = IsWhole m a.value a.bytes f
 IsFrameOf m a NotAcknowledged f = IsBrokenOff m a.value a.bytes false f
@@ -30,9 +31,11 @@ IsFrameOf m a TimedOut f = IsBrokenOff m a.value a.bytes true f
 -- the frame of a step's message; none without one
 abbrev pub AreStepFrames : Option Asked → Answered → List Shown → Type 0
 AreStepFrames None a frames = frames ≡ []
-AreStepFrames (Some m) a frames = (f : Shown) × (frames ≡ f ∷ []) × IsFrameOf m a (outcome_of (Some m) a) f
+AreStepFrames (Some m) a frames =
+    (f : Shown) × (frames ≡ f ∷ []) × IsFrameOf m a (outcome_of (Some m) a) f
 
-pub record StepHasFrames (b : Board) (p : List (Instr ℕ)) (m : Machine) (a : Answered) (e : Entry) (next : Machine) (frames : List Shown) : Type 0 where
+pub record StepHasFrames (b : Board) (p : List (Instr ℕ)) (m : Machine) (a : Answered) (e : Entry)
+    (next : Machine) (frames : List Shown) : Type 0 where
   pub step : IsStep b p m a e next
   pub instr : Instr ℕ
   pub here : slice_get p m.place ≡ Some instr
@@ -40,24 +43,31 @@ pub record StepHasFrames (b : Board) (p : List (Instr ℕ)) (m : Machine) (a : A
   pub are : AreStepFrames (message_of b instr m.regs) a frames
 
 -- the frames of each step of a run
-abbrev pub AreRunFrames : Board → List (Instr ℕ) → Machine → List Answered → List Entry → List (List Shown) → Type 0
+abbrev pub AreRunFrames : Board → List (Instr ℕ) → Machine → List Answered → List Entry
+    → List (List Shown) → Type 0
 AreRunFrames b p m [] [] [] = Unit {0}
 AreRunFrames b p m (a ∷ answers) (e ∷ entries) (fs ∷ frames) =
-    (next : Machine) × StepHasFrames b p m a e next fs × AreRunFrames b p next answers entries frames
+    (next : Machine) × StepHasFrames b p m a e next fs
+    × AreRunFrames b p next answers entries frames
 AreRunFrames b p m answers entries frames = ⊥
 
 abbrev pub run_samples : List Entry → List Sample
 run_samples entries = joined (map (λ (e : Entry). e.samples) entries)
 
 -- the lines of the whole run are read as the frames of its steps in order, and as no others
-pub record RunIsSeen (b : Board) (p : List (Instr ℕ)) (m : Machine) (answers : List Answered) (entries : List Entry) (last : Machine) : Type 0 where
+pub record RunIsSeen (b : Board) (p : List (Instr ℕ)) (m : Machine) (answers : List Answered)
+    (entries : List Entry) (last : Machine) : Type 0 where
   pub frames : List (List Shown)
   pub steps : AreRunFrames b p m answers entries frames
   pub read : AreFrames (events_of (run_samples entries)) (all_frames frames)
-  pub only : (others : List Shown) → AreFrames (events_of (run_samples entries)) others → others ≡ all_frames frames
+  pub only : (others : List Shown) → AreFrames (events_of (run_samples entries)) others
+      → others ≡ all_frames frames
   pub ready : IsReady b p last
 
 -- every run from a machine that is ready
 abbrev pub RunsAreSeen : Type 0
-RunsAreSeen = (b : Board) (p : List (Instr ℕ)) (m last : Machine) (answers : List Answered) (entries : List Entry)
-    → IsBoard b → IsProgram p → IsReady b p m → IsRun b p m answers entries last → RunIsSeen b p m answers entries last
+RunsAreSeen =
+    (b : Board) (p : List (Instr ℕ)) (m last : Machine) (answers : List Answered)
+    (entries : List Entry)
+    → IsBoard b → IsProgram p → IsReady b p m → IsRun b p m answers entries last
+    → RunIsSeen b p m answers entries last

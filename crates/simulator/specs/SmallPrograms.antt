@@ -21,8 +21,9 @@ EndingIsSafe = (b : Board) → RunsAreSafe b ending_program 1
 abbrev pub enabling_program : ℕ → List (Instr ℕ)
 enabling_program target = Write target operation_code (Byte 0x80) 1 ∷ End ∷ []
 
--- a program that turns on a rail with needs, and asks for none of them, isn't safe within any bound: not
--- where PAGE may select the rail at the start
+-- a program that turns on a rail with needs, and asks for none of them, isn't safe within any
+-- bound: not where PAGE may select the rail at the start
 abbrev pub EnablingAtOnceIsUnsafe : Type 0
-EnablingAtOnceIsUnsafe = (b : Board) (s : BusState) (d : ℕ) (r : Rail) (bound : ℕ) → IsBoard b → IsStart b s
+EnablingAtOnceIsUnsafe = (b : Board) (s : BusState) (d : ℕ) (r : Rail) (bound : ℕ) → IsBoard b
+    → IsStart b s
     → Selects b s r.target d r → r.needs ≢ [] → RunsAreSafe b (enabling_program r.target) bound → ⊥

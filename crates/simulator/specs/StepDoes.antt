@@ -1,8 +1,10 @@
--- What a step writes, reports and withdraws, told from its message, its answer and the state before it,
--- and that its samples show just this.
-use Rattle.std.specs.Prelude.{◌≡◌, ◌≤◌, ◌⊎◌, ◌↔◌, ℕ, Bool, true, false, IsTrue, Option, IsSomeAnd, [], ◌∷◌, length, slice_index}
+-- What a step writes, reports and withdraws, told from its message, its answer and the state before
+-- it, and that its samples show just this.
+use Rattle.std.specs.Prelude.{◌≡◌, ◌≤◌, ◌⊎◌, ◌↔◌, ℕ, Bool, true, false, IsTrue, Option, IsSomeAnd}
+use Rattle.std.specs.Prelude.{[], ◌∷◌, length, slice_index}
 use Rattle.smbus.specs.declared.message.Form.{Form}
-use Rattle.smbus.specs.declared.message.Form.TheVariants.{SendByte, WriteByte, WriteWord, ProcessCall, BlockWrite, BlockProcessCall}
+use Rattle.smbus.specs.declared.message.Form.TheVariants.{SendByte, WriteByte, WriteWord}
+use Rattle.smbus.specs.declared.message.Form.TheVariants.{ProcessCall, BlockWrite, BlockProcessCall}
 use Rattle.smbus.specs.Asked.{Asked}
 use Rattle.smbus.specs.Answered.{Answered}
 use Rattle.smbus.specs.FirstSegment.{bytes_out}
@@ -25,13 +27,13 @@ writes_data BlockWrite = true
 writes_data BlockProcessCall = true
 writes_data other = false
 
--- so many bytes of the message went out at least: where it carries a code, the address is the first and
--- the code the second
+-- so many bytes of the message went out at least: where it carries a code, the address is the first
+-- and the code the second
 abbrev pub GoOut : ℕ → Asked → Answered → Type 0
 GoOut count m a = count ≤ length (bytes_out m a)
 
--- the message writes a code to an address: a byte after the code went out, or it is a Send Byte of the
--- code (SMBus 3.2, 6.5.2) that is done
+-- the message writes a code to an address: a byte after the code went out, or it is a Send Byte of
+-- the code (SMBus 3.2, 6.5.2) that is done
 pub record MessageWrites (address code : ℕ) (m : Asked) (a : Answered) : Type 0 where
   pub to : m.address ≡ address
   pub command : m.code ≡ code
@@ -50,18 +52,20 @@ pub record MessageWritesWord (address code low high : ℕ) (m : Asked) (a : Answ
   pub content : m.out ≡ low ∷ high ∷ []
   pub went_out : GoOut 4 m a
 
--- the message is a Read Word of STATUS_WORD (PMBus 1.3 Part II, 17.2) that returned the word, while PAGE
--- was the rail's
-pub record MessageReports (b : Board) (s : BusState) (d word : ℕ) (message : Option Asked) (a : Answered) : Type 0 where
+-- the message is a Read Word of STATUS_WORD (PMBus 1.3 Part II, 17.2) that returned the word, while
+-- PAGE was the rail's
+pub record MessageReports (b : Board) (s : BusState) (d word : ℕ) (message : Option Asked)
+    (a : Answered) : Type 0 where
   pub rail : Rail
   pub target : Target
   pub at : IsRailAt b d rail target
   pub page : slice_index s.page rail.target ≡ rail.page
   pub reports : IsSomeAnd message (λ m. Reported m a target.address status_word_code word)
 
--- the message is a Write Byte to OPERATION (PMBus 1.3 Part II, 12.1) of a value that doesn't enable,
--- which went out while PAGE selected the rail
-pub record MessageWithdraws (b : Board) (s : BusState) (d : ℕ) (message : Option Asked) (a : Answered) : Type 0 where
+-- the message is a Write Byte to OPERATION (PMBus 1.3 Part II, 12.1) of a value that doesn't
+-- enable, which went out while PAGE selected the rail
+pub record MessageWithdraws (b : Board) (s : BusState) (d : ℕ) (message : Option Asked)
+    (a : Answered) : Type 0 where
   pub rail : Rail
   pub target : Target
   pub at : IsRailAt b d rail target
@@ -70,16 +74,19 @@ pub record MessageWithdraws (b : Board) (s : BusState) (d : ℕ) (message : Opti
   pub written : IsSomeAnd message (λ m. MessageWritesByte target.address operation_code value m a)
   pub off : enables value ≡ false
 
--- the samples of a step that began in a state show what its message did under the answer, and nothing
--- where it sent none
-pub record StepDoes (b : Board) (s : BusState) (message : Option Asked) (a : Answered) (e : Entry) : Type 0 where
+-- the samples of a step that began in a state show what its message did under the answer, and
+-- nothing where it sent none
+pub record StepDoes (b : Board) (s : BusState) (message : Option Asked) (a : Answered)
+    (e : Entry) : Type 0 where
   pub before : e.before ≡ s
   pub writes : (i : ℕ) (t : Target) (code : ℕ) → IsTargetAt b i t
       → WritesTo t e.samples code ↔ IsSomeAnd message (λ m. MessageWrites t.address code m a)
   -- OPERATION is written by Write Byte alone, and VOUT_COMMAND by Write Word
   pub operations : (i : ℕ) (t : Target) (value : ℕ) → IsTargetAt b i t
-      → BeginsWith e.samples (write_to t ∷ operation_code ∷ value ∷ []) ↔ IsSomeAnd message (λ m. MessageWritesByte t.address operation_code value m a)
+      → BeginsWith e.samples (write_to t ∷ operation_code ∷ value ∷ [])
+      ↔ IsSomeAnd message (λ m. MessageWritesByte t.address operation_code value m a)
   pub voltages : (i : ℕ) (t : Target) (low high : ℕ) → IsTargetAt b i t
-      → BeginsWith e.samples (write_to t ∷ vout_command_code ∷ low ∷ high ∷ []) ↔ IsSomeAnd message (λ m. MessageWritesWord t.address vout_command_code low high m a)
+      → BeginsWith e.samples (write_to t ∷ vout_command_code ∷ low ∷ high ∷ [])
+      ↔ IsSomeAnd message (λ m. MessageWritesWord t.address vout_command_code low high m a)
   pub reports : (d word : ℕ) → Reports b e d word ↔ MessageReports b s d word message a
   pub withdraws : (d : ℕ) → Withdraws b e d ↔ MessageWithdraws b s d message a

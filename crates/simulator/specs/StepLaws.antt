@@ -24,8 +24,8 @@ pub record IsReady (b : Board) (p : List (Instr ℕ)) (m : Machine) : Type 0 whe
   pub machine : IsMachine b p m
   pub words : All (λ word. word < 65536) m.regs
 
--- the samples are those of the message and the answer, which are bytes on the wire; so they have its one
--- frame, and what they are seen to do is what was asked and answered
+-- the samples are those of the message and the answer, which are bytes on the wire; so they have
+-- its one frame, and what they are seen to do is what was asked and answered
 pub record SeesMessage (s : BusState) (m : Asked) (a : Answered) (e : Entry) : Type 0 where
   pub asked : AreAsked m a
   pub samples : e.samples ≡ samples_of (alert_level s) m a
@@ -39,7 +39,8 @@ abbrev pub Sees : BusState → Option Asked → Answered → Entry → Type 0
 Sees s None a e = AreFrames (events_of e.samples) []
 Sees s (Some m) a e = SeesMessage s m a e
 
-pub record StepIsSeen (b : Board) (p : List (Instr ℕ)) (m : Machine) (a : Answered) (e : Entry) (next : Machine) : Type 0 where
+pub record StepIsSeen (b : Board) (p : List (Instr ℕ)) (m : Machine) (a : Answered) (e : Entry)
+    (next : Machine) : Type 0 where
   pub instr : Instr ℕ
   pub here : slice_get p m.place ≡ Some instr
   pub sees : Sees m.bus (message_of b instr m.regs) a e
@@ -56,7 +57,8 @@ StepsAreSeen = (b : Board) (p : List (Instr ℕ)) (m next : Machine) (a : Answer
 
 -- and where a run may start it is
 abbrev pub StartsAreReady : Type 0
-StartsAreReady = (b : Board) (p : List (Instr ℕ)) (s : BusState) → IsBoard b → IsProgram p → IsStart b s → IsReady b p (start_at s)
+StartsAreReady = (b : Board) (p : List (Instr ℕ)) (s : BusState) → IsBoard b → IsProgram p
+    → IsStart b s → IsReady b p (start_at s)
 
 -- there is such a step, and it sends a message
 pub record SomeStepIsTaken : Type 0 where

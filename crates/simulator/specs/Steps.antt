@@ -1,5 +1,6 @@
 -- Steps of a program on a board, and runs: lists of steps.
-use Rattle.std.specs.Prelude.{◌≡◌, ◌+◌, ◌==◌, ℕ, suc, Bool, List, [], ◌∷◌, length, slice_get, Option, Some, None}
+use Rattle.std.specs.Prelude.{◌≡◌, ◌+◌, ◌==◌, ℕ, suc, Bool, List, [], ◌∷◌, length, slice_get}
+use Rattle.std.specs.Prelude.{Option, Some, None}
 use Rattle.wires.specs.declared.lines.Sample.{Sample}
 use Rattle.smbus.specs.Asked.{Asked}
 use Rattle.smbus.specs.Answered.{Answered}
@@ -47,14 +48,16 @@ entry_of i message a m =
     }
 
 -- the step of an instruction that sends this message, or none, under an answer that fits
-pub record IsStepOf (b : Board) (i : Instr ℕ) (message : Option Asked) (m : Machine) (a : Answered) (e : Entry) (next : Machine) : Type 0 where
+pub record IsStepOf (b : Board) (i : Instr ℕ) (message : Option Asked) (m : Machine) (a : Answered)
+    (e : Entry) (next : Machine) : Type 0 where
   pub fits : FitsStep b m.bus message a
   pub bus : IsAfter b m.bus message a next.bus
   pub next_is : next ≡ moved i message (outcome_of message a) next.bus m
   pub entry_is : e ≡ entry_of i message a m
 
 -- a step of a machine that runs, by the instruction at its place
-pub record IsStep (b : Board) (p : List (Instr ℕ)) (m : Machine) (a : Answered) (e : Entry) (next : Machine) : Type 0 where
+pub record IsStep (b : Board) (p : List (Instr ℕ)) (m : Machine) (a : Answered) (e : Entry)
+    (next : Machine) : Type 0 where
   pub running : m.ended ≡ Running
   pub instr : Instr ℕ
   pub here : slice_get p m.place ≡ Some instr
@@ -63,7 +66,8 @@ pub record IsStep (b : Board) (p : List (Instr ℕ)) (m : Machine) (a : Answered
 -- a run: a step for each answer
 abbrev pub IsRun : Board → List (Instr ℕ) → Machine → List Answered → List Entry → Machine → Type 0
 IsRun b p m [] [] last = last ≡ m
-IsRun b p m (a ∷ answers) (e ∷ entries) last = (next : Machine) × IsStep b p m a e next × IsRun b p next answers entries last
+IsRun b p m (a ∷ answers) (e ∷ entries) last =
+    (next : Machine) × IsStep b p m a e next × IsRun b p next answers entries last
 IsRun b p m answers entries last = ⊥
 
 -- how long a run takes

@@ -28,13 +28,15 @@ ending_text Failed = codes "fail"
 -- `PLACE TICKS FRAME OUTCOME`
 abbrev pub line_of : Entry → List ℕ → List ℕ → List ℕ
 line_of e frame outcome =
-    decimal e.place ++ (codes " " ++ (decimal e.ticks ++ (codes " " ++ (frame ++ (codes " " ++ (outcome ++ codes "\n"))))))
+    decimal e.place ++ (codes " "
+    ++ (decimal e.ticks ++ (codes " " ++ (frame ++ (codes " " ++ (outcome ++ codes "\n"))))))
 
 -- with the frame that is read from the samples; without a message nothing is
 abbrev pub IsEndingLine : Entry → Option Outcome → List ℕ → Type 0
 IsEndingLine e None line = line ≡ line_of e (codes "-") (codes "-")
 IsEndingLine e (Some outcome) line =
-    (f : Shown) × AreFrames (events_of e.samples) (f ∷ []) × (line ≡ line_of e (text_of f) (outcome_text outcome))
+    (f : Shown) × AreFrames (events_of e.samples) (f ∷ [])
+    × (line ≡ line_of e (text_of f) (outcome_text outcome))
 
 abbrev pub IsLine : Entry → List ℕ → Type 0
 IsLine e line = IsEndingLine e e.outcome line
@@ -42,7 +44,9 @@ IsLine e line = IsEndingLine e e.outcome line
 -- the lines of steps in order
 abbrev pub AreLines : List Entry → List ℕ → Type 0
 AreLines [] text = text ≡ []
-AreLines (e ∷ entries) text = (line : List ℕ) × (rest : List ℕ) × IsLine e line × AreLines entries rest × (text ≡ line ++ rest)
+AreLines (e ∷ entries) text =
+    (line : List ℕ) × (rest : List ℕ) × IsLine e line × AreLines entries rest
+    × (text ≡ line ++ rest)
 
 -- how the run ended, and all its ticks
 abbrev pub last_line : Ending → ℕ → List ℕ

@@ -1,4 +1,5 @@
--- What a trace keeps by its type: each entry's samples are one frame, or none, and the run isn't too long.
+-- What a trace keeps by its type: each entry's samples are one frame, or none, and the run isn't
+-- too long.
 use Rattle.std.specs.Prelude.{◌≡◌, ◌≤◌, List, [], length, Option, Some, None, All}
 use Rattle.wires.specs.declared.event.Event.{Event}
 use Rattle.wires.specs.Events.{events_of}

@@ -33,7 +33,13 @@ impl Model for Machine {
 
     ghost Value = { Machine };
 
-    ghost view = { λ m. record { place = m.place; regs = m.regs; counters = m.counters; bus = m.bus; ended = m.ended } };
+    ghost view = { λ m. record {
+      place = m.place;
+      regs = m.regs;
+      counters = m.counters;
+      bus = m.bus;
+      ended = m.ended;
+    } };
 }
 
 /// What one step leaves to be seen.
@@ -56,7 +62,13 @@ impl Model for Entry {
 
     ghost Value = { Entry };
 
-    ghost view = { λ e. record { place = e.place; before = e.before; samples = e.samples.items; outcome = e.outcome; ticks = e.ticks } };
+    ghost view = { λ e. record {
+      place = e.place;
+      before = e.before;
+      samples = e.samples.items;
+      outcome = e.outcome;
+      ticks = e.ticks;
+    } };
 }
 
 impl Machine {

@@ -14,8 +14,9 @@ use smbus::Answer;
 use std::alloc::Global;
 use std::marker::Model;
 
-/// The steps of a run, and the machine after them. The samples of a step that sent a message are those of
-/// one frame, those of any other step of none, and all steps together have at most 1,000,000.
+/// The steps of a run, and the machine after them. The samples of a step that sent a message are
+/// those of one frame, those of any other step of none, and all steps together have at most
+/// 1,000,000.
 #[derive(Debug, Drop)]
 pub struct Trace {
     pub entries: Vec<Entry>,
@@ -32,12 +33,12 @@ impl Model for Trace {
     ghost invariant = { λ t. IsTrace (record { entries = t.entries.items; last = t.last }) };
 }
 
-/// The run of a program from a machine: a step for each answer. The program and the machine are those of
-/// the board.
+/// The run of a program from a machine: a step for each answer. The program and the machine are
+/// those of the board.
 ///
-/// The first answer that has no step is told: AfterEnd where the program has ended, then AnswerDoesNotFit,
-/// both with the answer's index, then TooLong where the run would have over 1,000,000 samples. Memory is
-/// answered where a growth was refused.
+/// The first answer that has no step is told: AfterEnd where the program has ended, then
+/// AnswerDoesNotFit, both with the answer's index, then TooLong where the run would have over
+/// 1,000,000 samples. Memory is answered where a growth was refused.
 pub fn run(
     alloc: Global,
     board: &Board,
@@ -47,8 +48,10 @@ pub fn run(
 ) -> Result<Trace, RunFault>
     requires on_board { All (λ i. IsOnBoard (length board.now.target_names) i) program.now }
     requires machine { IsMachine board.now program.now machine.now }
-    ensures run { IfOk result (λ t. IsRun board.now program.now machine.now answers.now t.entries t.last) }
-    ensures fault { IfErr result (λ e. e ≢ Memory → FailsAt board.now program.now machine.now answers.now e) }
+    ensures run { IfOk result
+        (λ t. IsRun board.now program.now machine.now answers.now t.entries t.last) }
+    ensures fault { IfErr result
+        (λ e. e ≢ Memory → FailsAt board.now program.now machine.now answers.now e) }
 {
     let mut last = machine.copied()?;
     let mut entries = Vec::new(alloc);

@@ -11,7 +11,8 @@ pub(crate) struct Stopped;
 /// Sends all of a text, or a beginning of it.
 pub(crate) fn send<W: Write>(writer: &mut W, text: &[u8]) -> Result<(), Stopped>
     ensures ok { OnOk result (Appends (W.contents writer.old) (W.contents writer.new) text.now) }
-    ensures err { OnErr result (AppendsBeginning (W.contents writer.old) (W.contents writer.new) text.now) }
+    ensures err { OnErr result
+        (AppendsBeginning (W.contents writer.old) (W.contents writer.new) text.now) }
 {
     let mut rest = text;
     while !rest.is_empty() {

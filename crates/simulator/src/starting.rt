@@ -14,8 +14,8 @@ use targets::{BusState, starts, states_belong};
 /// A machine at place 0 with registers and counters 0, whose targets keep these values of PAGE and
 /// WRITE_PROTECT, by their indices, and none alerts.
 ///
-/// BadStart is answered where a list hasn't one value for each target, or the board doesn't name the
-/// values as start values; Memory where a growth was refused.
+/// BadStart is answered where a list hasn't one value for each target, or the board doesn't name
+/// the values as start values; Memory where a growth was refused.
 pub fn start(
     alloc: Global,
     board: &Board,
@@ -25,8 +25,10 @@ pub fn start(
     ensures machine { IfOk result (λ m. m ≡ start_at (start_state pages.now protects.now)) }
     ensures may { OnOk result (IsStart board.now (start_state pages.now protects.now)) }
     // It is a machine of every program of the board.
-    ensures belongs { IfOk result (λ m. (p : List (Instr ℕ)) → IsProgram p → IsMachine board.now p m) }
-    ensures bad { IsErrOf result RunFault.BadStart → IsStart board.now (start_state pages.now protects.now) → ⊥ }
+    ensures belongs { IfOk result
+        (λ m. (p : List (Instr ℕ)) → IsProgram p → IsMachine board.now p m) }
+    ensures bad { IsErrOf result RunFault.BadStart
+        → IsStart board.now (start_state pages.now protects.now) → ⊥ }
     ensures only { IfErr result (λ e. (e ≡ RunFault.Memory) ⊎ (e ≡ RunFault.BadStart)) }
 {
     let _count = board.target_count();

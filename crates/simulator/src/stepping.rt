@@ -1,4 +1,5 @@
-ghost use Rattle.std.specs.Prelude.{◌≡◌, ◌≢◌, ◌≤◌, ◌<◌, ◌+◌, ◌↔◌, length, slice_get, option_map, All, IfOk, IfErr, Some, IsTrue};
+ghost use Rattle.std.specs.Prelude.{◌≡◌, ◌≢◌, ◌≤◌, ◌<◌, ◌+◌, ◌↔◌, length, slice_get, option_map};
+ghost use Rattle.std.specs.Prelude.{All, IfOk, IfErr, Some, IsTrue};
 ghost use Rattle.seq_program.specs.Messages.{message_of};
 ghost use Rattle.seq_program.specs.Valid.{IsInstr, IsProgram, IsOnBoard};
 ghost use Rattle.targets.specs.Fitting.{FitsStep};
@@ -56,7 +57,8 @@ fn moved(
     bus: BusState,
 ) -> Machine
     requires { machine.now.place < 1024 }
-    ensures { result ≡ moved instr.now (option_map (λ m. m.now) message.entry) outcome bus machine.now }
+    ensures { result
+        ≡ moved instr.now (option_map (λ m. m.now) message.entry) outcome bus machine.now }
 {
     match message {
         Some(_) => after_message(instr, outcome, machine, bus),
@@ -84,13 +86,17 @@ fn step_by(
     answer: &Answer,
 ) -> Result<(Machine, Entry), AllocError>
     requires instr { IsInstr instr.now }
-    requires asked { option_map (λ m. m.now) message ≡ message_of board.now instr.now machine.now.regs }
+    requires asked { option_map (λ m. m.now) message
+        ≡ message_of board.now instr.now machine.now.regs }
     requires few { machine.now.place < 1024 }
-    requires fits { FitsStep board.now machine.now.bus (option_map (λ m. m.now) message) answer.now }
+    requires fits { FitsStep board.now machine.now.bus
+        (option_map (λ m. m.now) message) answer.now }
     ensures step { IfOk result (λ r.
-        IsStepOf board.now instr.now (option_map (λ m. m.now) message.entry) machine.now answer.now r.1 r.0) }
+        IsStepOf board.now instr.now
+        (option_map (λ m. m.now) message.entry) machine.now answer.now r.1 r.0) }
     ensures seen { IfOk result (λ r. IsSeen r.1) }
-    ensures belongs { IfOk result (λ r. Belongs board.now machine.now.bus → Belongs board.now r.0.bus) }
+    ensures belongs { IfOk result
+        (λ r. Belongs board.now machine.now.bus → Belongs board.now r.0.bus) }
 {
     let _count = board.target_count();
     slots_are_one_frame();
@@ -120,14 +126,18 @@ fn step_if_fits(
     index: usize,
 ) -> Result<(Machine, Entry), RunFault>
     requires instr { IsInstr instr.now }
-    requires asked { option_map (λ m. m.now) message ≡ message_of board.now instr.now machine.now.regs }
+    requires asked { option_map (λ m. m.now) message
+        ≡ message_of board.now instr.now machine.now.regs }
     requires few { machine.now.place < 1024 }
     ensures step { IfOk result (λ r.
-        IsStepOf board.now instr.now (option_map (λ m. m.now) message.entry) machine.now answer.now r.1 r.0) }
+        IsStepOf board.now instr.now
+        (option_map (λ m. m.now) message.entry) machine.now answer.now r.1 r.0) }
     ensures seen { IfOk result (λ r. IsSeen r.1) }
-    ensures belongs { IfOk result (λ r. Belongs board.now machine.now.bus → Belongs board.now r.0.bus) }
+    ensures belongs { IfOk result
+        (λ r. Belongs board.now machine.now.bus → Belongs board.now r.0.bus) }
     ensures fault { IfErr result (λ e. e ≢ Memory → (e ≡ RunFault.AnswerDoesNotFit index)
-        × (FitsStep board.now machine.now.bus (option_map (λ m. m.now) message.entry) answer.now → ⊥)) }
+        × (FitsStep board.now machine.now.bus (option_map (λ m. m.now) message.entry) answer.now
+        → ⊥)) }
 {
     if !fits(board, &machine.bus, message, answer) {
         return Err(RunFault::AnswerDoesNotFit(index));
@@ -178,9 +188,9 @@ pub(crate) fn step_at(
 /// One step of a program: the machine after it, and what it leaves to be seen. The program and the
 /// machine are those of the board.
 ///
-/// AfterEnd is answered where the program has ended, then AnswerDoesNotFit where the targets can't answer
-/// so, then TooLong for over 1,000,000 samples; both indices are 0. Memory is answered where a growth was
-/// refused.
+/// AfterEnd is answered where the program has ended, then AnswerDoesNotFit where the targets can't
+/// answer so, then TooLong for over 1,000,000 samples; both indices are 0. Memory is answered where
+/// a growth was refused.
 pub fn step(
     alloc: Global,
     board: &Board,
@@ -194,7 +204,8 @@ pub fn step(
     ensures within { IfOk result (λ r. r.1.ticks ≤ most_ticks) }
     ensures machine { IfOk result (λ r. IsMachine board.now program.now r.0) }
     ensures seen { IfOk result (λ r. IsSeen r.1) }
-    ensures fault { IfErr result (λ e. e ≢ Memory → IsStepFault board.now program.now machine.now answer.now 0 0 e) }
+    ensures fault { IfErr result
+        (λ e. e ≢ Memory → IsStepFault board.now program.now machine.now answer.now 0 0 e) }
 {
     step_at(alloc, board, program, machine, answer, 0, 0)
 }

@@ -3,7 +3,8 @@ ghost use Rattle.simulator.specs.Faults.{most_ticks};
 ghost use Rattle.simulator.specs.Steps.{total_ticks};
 ghost use Rattle.simulator.specs.Traces.{IsSeen};
 ghost use Rattle.simulator.specs.TraceTexts.{AreLines, IsTraceText, IsWritten, IsBegun};
-ghost use Rattle.simulator.specs.declared.trace.WriteFault.TheVariants.{Memory, Write as WriteFailed};
+ghost use Rattle.simulator.specs.declared.trace.WriteFault.TheVariants.{Memory};
+ghost use Rattle.simulator.specs.declared.trace.WriteFault.TheVariants.{Write as WriteFailed};
 
 use crate::machine::Entry;
 use crate::running::Trace;
@@ -66,12 +67,15 @@ fn trace_text(alloc: Global, trace: &Trace) -> Result<String, AllocError>
     Ok(text)
 }
 
-/// Writes the text of a trace: a line for each step, with its place, its ticks, the frame that is read
-/// from its samples and how the message ended, `-` and `-` without one; and a last line with how the run
-/// ended and all its ticks. Where the writer fails, a beginning of the text may have been written.
+/// Writes the text of a trace: a line for each step, with its place, its ticks, the frame that is
+/// read from its samples and how the message ended, `-` and `-` without one; and a last line with
+/// how the run ended and all its ticks. Where the writer fails, a beginning of the text may have
+/// been written.
 pub fn write_trace<W: Write>(alloc: Global, trace: &Trace, writer: &mut W) -> Result<(), WriteFault>
-    ensures written { OnOk result (IsWritten trace.now (W.contents writer.old) (W.contents writer.new)) }
-    ensures begun { IfErr result (λ e. e ≡ WriteFailed → IsBegun trace.now (W.contents writer.old) (W.contents writer.new)) }
+    ensures written { OnOk result
+        (IsWritten trace.now (W.contents writer.old) (W.contents writer.new)) }
+    ensures begun { IfErr result
+        (λ e. e ≡ WriteFailed → IsBegun trace.now (W.contents writer.old) (W.contents writer.new)) }
     // Where memory failed, nothing was written.
     ensures silent { IfErr result (λ e. e ≡ Memory → writer.new ≡ writer.old) }
 {

@@ -7,7 +7,8 @@ ghost use Rattle.smbus.specs.OneFrame.{IsOnlyFrame};
 ghost use Rattle.smbus.specs.Shown.{Shown};
 ghost use Rattle.simulator.specs.Steps.{total_ticks};
 ghost use Rattle.simulator.specs.Traces.{IsSeen};
-ghost use Rattle.simulator.specs.TraceTexts.{outcome_text, ending_text, last_line, IsLine, AreLines, IsTraceText};
+ghost use Rattle.simulator.specs.TraceTexts.{outcome_text, ending_text, last_line, IsLine};
+ghost use Rattle.simulator.specs.TraceTexts.{AreLines, IsTraceText};
 
 use crate::machine::{Ending, Entry};
 use crate::running::Trace;

@@ -1,5 +1,7 @@
 -- A byte and its bits.
-use Rattle.std.proofs.Common.{◌≡◌, ℕ, zero, suc, ◌+◌, ◌-◌, ◌*◌, ◌/◌, ◌%◌, ◌^◌, ◌<◌, ◌≤◌, ◌==◌, inl, inr, Bool, true, false, not, if◌then◌else◌, List, [], ◌∷◌, ◌++◌, length, take, get_or, refl, sym, ap, ◌∙◌, arith}
+use Rattle.std.proofs.Common.{◌≡◌, ℕ, zero, suc, ◌+◌, ◌-◌, ◌*◌, ◌/◌, ◌%◌, ◌^◌, ◌<◌, ◌≤◌, ◌==◌, inl}
+use Rattle.std.proofs.Common.{inr, Bool, true, false, not, if◌then◌else◌, List, [], ◌∷◌, ◌++◌}
+use Rattle.std.proofs.Common.{length, take, get_or, refl, sym, ap, ◌∙◌, arith}
 use Rattle.std.proofs.lemmas.Bool.{cases_Bool, eqb-true}
 use Rattle.std.proofs.lemmas.Bool.Decides.{nat_tests}
 use Rattle.std.proofs.lemmas.List.{length-take, take_more, take_all}
@@ -28,14 +30,26 @@ number_of-bits_of (suc k) n =
     let ih = number_of-bits_of k n in
     let l = length-bits_of k n in
     elim (cases_Bool (bit n k)) [
-      | inl h ↦ let e : n / 2 ^ k % 2 ≡ 1 = eqb-true _ _ h in let t' : n % 2 ^ suc k ≡ 1 * 2 ^ k + n % 2 ^ k = rw e at t in rw (h, l) (omega arith)
-      | inr f ↦ let e : n / 2 ^ k % 2 ≡ 0 = bit_zero _ (mod_below _ 2 (omega arith)) f in let t' : n % 2 ^ suc k ≡ 0 * 2 ^ k + n % 2 ^ k = rw e at t in rw f (omega arith)
+      | inl h ↦
+          let e : n / 2 ^ k % 2 ≡ 1 = eqb-true _ _ h in
+          let t' : n % 2 ^ suc k ≡ 1 * 2 ^ k + n % 2 ^ k = rw e at t in
+          rw (h, l) (omega arith)
+      | inr f ↦
+          let e : n / 2 ^ k % 2 ≡ 0 = bit_zero _ (mod_below _ 2 (omega arith)) f in
+          let t' : n % 2 ^ suc k ≡ 0 * 2 ^ k + n % 2 ^ k = rw e at t in
+          rw f (omega arith)
     ]
 
 pub number_of-lt : (bits : List Bool) → number_of bits < 2 ^ length bits
 number_of-lt [] = omega arith
-number_of-lt (true ∷ bits) = let h = number_of-lt bits in let p : 2 ^ suc (length bits) ≡ 2 ^ length bits * 2 = simp unary_clauses in omega arith
-number_of-lt (false ∷ bits) = let h = number_of-lt bits in let p : 2 ^ suc (length bits) ≡ 2 ^ length bits * 2 = simp unary_clauses in omega arith
+number_of-lt (true ∷ bits) =
+    let h = number_of-lt bits in
+    let p : 2 ^ suc (length bits) ≡ 2 ^ length bits * 2 = simp unary_clauses in
+    omega arith
+number_of-lt (false ∷ bits) =
+    let h = number_of-lt bits in
+    let p : 2 ^ suc (length bits) ≡ 2 ^ length bits * 2 = simp unary_clauses in
+    omega arith
 
 low_bits : (j k a b : ℕ) → j ≤ k → bits_of j (a * 2 ^ k + b) ≡ bits_of j b
 low_bits zero k a b le = refl
@@ -44,23 +58,34 @@ low_bits (suc j) k a b le =
     rw (e, low_bits j k a b (omega arith)) refl
 
 high_bit : (k a b : ℕ) → b < 2 ^ k → bit_at (a * 2 ^ k + b) k ≡ a % 2
-high_bit k a b lt = let z : k - k ≡ 0 = omega arith in bit_at_cat_high a k b k lt (omega arith) ∙ rw z (let o : a / 1 ≡ a = omega arith in rw o refl)
+high_bit k a b lt =
+    let z : k - k ≡ 0 = omega arith in
+    bit_at_cat_high a k b k lt (omega arith) ∙ rw z (let o : a / 1 ≡ a = omega arith in rw o refl)
 
 pub bits_of-number_of : (bits : List Bool) → bits_of (length bits) (number_of bits) ≡ bits
 bits_of-number_of [] = refl
 bits_of-number_of (true ∷ bits) =
     let e : 2 ^ length bits + number_of bits ≡ 1 * 2 ^ length bits + number_of bits = omega arith in
-    rw (e, high_bit (length bits) 1 (number_of bits) (number_of-lt bits), low_bits (length bits) (length bits) 1 (number_of bits) (omega arith)) (ap (λ (l : List Bool). true ∷ l) (bits_of-number_of bits))
+    rw (
+      e,
+      high_bit (length bits) 1 (number_of bits) (number_of-lt bits),
+      low_bits (length bits) (length bits) 1 (number_of bits) (omega arith),
+    ) (ap (λ (l : List Bool). true ∷ l) (bits_of-number_of bits))
 bits_of-number_of (false ∷ bits) =
     let e : 0 + number_of bits ≡ 0 * 2 ^ length bits + number_of bits = omega arith in
-    rw (e, high_bit (length bits) 0 (number_of bits) (number_of-lt bits), low_bits (length bits) (length bits) 0 (number_of bits) (omega arith)) (ap (λ (l : List Bool). false ∷ l) (bits_of-number_of bits))
+    rw (
+      e,
+      high_bit (length bits) 0 (number_of bits) (number_of-lt bits),
+      low_bits (length bits) (length bits) 0 (number_of bits) (omega arith),
+    ) (ap (λ (l : List Bool). false ∷ l) (bits_of-number_of bits))
 
 -- only the lowest eight bits of a number are sent
 pub byte_bits-mod : (n : ℕ) (a : Bool) → byte_bits (n % 256, a) ≡ byte_bits (n, a)
 unfolding byte_bits
 byte_bits-mod n a =
     let e : n ≡ n / 256 * 2 ^ 8 + n % 256 = omega arith in
-    let b : bits_of 8 n ≡ bits_of 8 (n % 256) = ap (bits_of 8) e ∙ low_bits 8 8 (n / 256) (n % 256) (omega arith) in
+    let b : bits_of 8 n ≡ bits_of 8 (n % 256) =
+    ap (bits_of 8) e ∙ low_bits 8 8 (n / 256) (n % 256) (omega arith) in
     ap (λ (l : List Bool). l ++ not a ∷ []) (sym b)
 
 pub length-byte_bits : (b : ℕ × Bool) → length (byte_bits b) ≡ 9
@@ -79,11 +104,15 @@ byte_of-byte_bits b lt =
     let e : number_of (bits_of 8 b.0) ≡ b.0 = n ∙ m in
     rw (not-not b.1) (ap (λ (x : ℕ). (x, b.1)) e)
 
-nine : (bits : List Bool) → length bits ≡ 9 → bits_of 8 (number_of (take 8 bits)) ++ not (not (get_or bits 8 false)) ∷ [] ≡ bits
+nine : (bits : List Bool) → length bits ≡ 9
+    → bits_of 8 (number_of (take 8 bits)) ++ not (not (get_or bits 8 false)) ∷ [] ≡ bits
 nine bits e =
     let l : length (take 8 bits) ≡ 8 = simp length-take (omega arith) in
-    let b : bits_of 8 (number_of (take 8 bits)) ≡ take 8 bits = (rw l at (bits_of-number_of (take 8 bits))) in
-    ap (λ (l : List Bool). l ++ not (not (get_or bits 8 false)) ∷ []) b ∙ ap (λ (x : Bool). take 8 bits ++ x ∷ []) (not-not (get_or bits 8 false)) ∙ sym (take_more bits 8 false (omega arith)) ∙ take_all 9 bits (omega arith)
+    let b : bits_of 8 (number_of (take 8 bits)) ≡ take 8 bits =
+    (rw l at (bits_of-number_of (take 8 bits))) in
+    ap (λ (l : List Bool). l ++ not (not (get_or bits 8 false)) ∷ []) b
+    ∙ ap (λ (x : Bool). take 8 bits ++ x ∷ []) (not-not (get_or bits 8 false))
+    ∙ sym (take_more bits 8 false (omega arith)) ∙ take_all 9 bits (omega arith)
 
 pub byte_bits-byte_of : (bits : List Bool) → length bits ≡ 9 → byte_bits (byte_of bits) ≡ bits
 unfolding byte_bits byte_of
@@ -100,8 +129,10 @@ abbrev pub weighed : Bool → ℕ → ℕ
 weighed b n = if b then n else 0
 
 pub number_of-nine : (bits : List Bool) → length bits ≡ 9
-    → weighed (get_or bits 0 false) 128 + weighed (get_or bits 1 false) 64 + weighed (get_or bits 2 false) 32 + weighed (get_or bits 3 false) 16
-    + (weighed (get_or bits 4 false) 8 + weighed (get_or bits 5 false) 4 + weighed (get_or bits 6 false) 2 + weighed (get_or bits 7 false) 1)
+    → weighed (get_or bits 0 false) 128 + weighed (get_or bits 1 false) 64
+    + weighed (get_or bits 2 false) 32 + weighed (get_or bits 3 false) 16
+    + (weighed (get_or bits 4 false) 8 + weighed (get_or bits 5 false) 4
+    + weighed (get_or bits 6 false) 2 + weighed (get_or bits 7 false) 1)
     ≡ number_of (take 8 bits)
 number_of-nine [] e = cc
 number_of-nine (a ∷ []) e = absurd (omega arith)

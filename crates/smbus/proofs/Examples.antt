@@ -1,5 +1,7 @@
--- A message and an answer that can be put on the wire, and why the law on messages asks what it asks.
-use Rattle.std.proofs.Common.{◌≡◌, ℕ, ◌+◌, ◌*◌, ◌/◌, ◌%◌, ◌<◌, ◌≤◌, true, false, Some, List, [], ◌∷◌, refl, ap, ◌∙◌, arith}
+-- A message and an answer that can be put on the wire, and why the law on messages asks what it
+-- asks.
+use Rattle.std.proofs.Common.{◌≡◌, ℕ, ◌+◌, ◌*◌, ◌/◌, ◌%◌, ◌<◌, ◌≤◌, true, false, Some, List, []}
+use Rattle.std.proofs.Common.{◌∷◌, refl, ap, ◌∙◌, arith}
 use Rattle.std.proofs.lemmas.List.Elements.{All-nil, All-cons}
 use Rattle.smbus.specs.declared.message.Form.TheVariants.{BlockRead, BlockProcessCall}
 use Rattle.smbus.specs.Asked.{Asked}
@@ -16,7 +18,14 @@ abbrev call : Asked
 call = record { address = 0x40; form = BlockProcessCall; code = 0xD0; out = 1 ∷ [] }
 
 abbrev answer : Answered
-answer = record { holds = 5000 ∷ []; refuse = Some 1; value = 0; bytes = 2 ∷ []; took = false; alerts = 0 }
+answer = record {
+  holds = 5000 ∷ [];
+  refuse = Some 1;
+  value = 0;
+  bytes = 2 ∷ [];
+  took = false;
+  alerts = 0;
+}
 
 pub some_are_asked : SomeAreAsked
 some_are_asked = record {
@@ -51,13 +60,17 @@ abbrev block_of_one : ℕ → ℕ → Asked
 block_of_one address code = record { address = address; form = BlockRead; code = code; out = [] }
 
 abbrev pieces : ℕ → ℕ → ℕ → ℕ → List Piece
-pieces address code l h = Sent (2 * address) ∷ Sent code ∷ Repeat ∷ Sent (2 * address + 1) ∷ Got l true ∷ Got h false ∷ []
+pieces address code l h =
+    Sent (2 * address) ∷ Sent code ∷ Repeat ∷ Sent (2 * address + 1) ∷ Got l true ∷ Got h false ∷ []
 
-looks_like_word : (address code v b : ℕ) → b < 256 → marks_of (whole (block_of_one address code) v (b ∷ [])) ≡ marks_of (whole (read_word address code) (1 + 256 * b) [])
+looks_like_word : (address code v b : ℕ) → b < 256
+    → marks_of (whole (block_of_one address code) v (b ∷ []))
+    ≡ marks_of (whole (read_word address code) (1 + 256 * b) [])
 looks_like_word address code v b lt =
     let l : 1 ≡ (1 + 256 * b) % 256 = omega arith in
     let h : b ≡ (1 + 256 * b) / 256 = omega arith in
-    ap (λ (n : ℕ). marks_of (pieces address code n b)) l ∙ ap (λ (n : ℕ). marks_of (pieces address code ((1 + 256 * b) % 256) n)) h
+    ap (λ (n : ℕ). marks_of (pieces address code n b)) l
+    ∙ ap (λ (n : ℕ). marks_of (pieces address code ((1 + 256 * b) % 256) n)) h
 
 -- a code past 255 looks like the byte that is left of it
 wide_code : marks_of (whole (send_byte 0x40 256) 0 []) ≡ marks_of (whole (send_byte 0x40 0) 0 [])

@@ -1,5 +1,7 @@
 -- The front of the marks of pieces is that of pieces and a tail, with the bytes that it shows.
-use Rattle.std.proofs.Common.{◌≡◌, ℕ, zero, suc, ◌+◌, ◌-◌, ◌/◌, ◌%◌, ◌<◌, ◌≤◌, ◌==◌, inl, inr, Bool, true, false, Option, Some, None, List, [], ◌∷◌, ◌++◌, length, take, refl, sym, ap, ◌∙◌, append_assoc, arith}
+use Rattle.std.proofs.Common.{◌≡◌, ℕ, zero, suc, ◌+◌, ◌-◌, ◌/◌, ◌%◌, ◌<◌, ◌≤◌, ◌==◌, inl, inr, Bool}
+use Rattle.std.proofs.Common.{true, false, Option, Some, None, List, [], ◌∷◌, ◌++◌, length, take}
+use Rattle.std.proofs.Common.{refl, sym, ap, ◌∙◌, append_assoc, arith}
 use Rattle.std.proofs.lemmas.Bool.{cases_lt}
 use Rattle.std.proofs.lemmas.Bool.Decides.{nat_tests}
 use Rattle.std.proofs.lemmas.List.{length-take, take-append-le, take-map, length-map}
@@ -16,7 +18,9 @@ use Rattle.smbus.proofs.SmallPieces.{IsSmall, AreSmall}
 
 take_past : {X : Type 0} (a b : List X) (k : ℕ) → take (length a + k) (a ++ b) ≡ a ++ take k b
 take_past [] b k = let e : 0 + k ≡ k = omega arith in rw e refl
-take_past (x ∷ a) b k = let e : suc (length a) + k ≡ suc (length a + k) = omega arith in rw e (ap (λ l. x ∷ l) (take_past a b k))
+take_past (x ∷ a) b k =
+    let e : suc (length a) + k ≡ suc (length a + k) = omega arith in
+    rw e (ap (λ l. x ∷ l) (take_past a b k))
 
 -- what is seen of a piece: a byte with its acknowledge, or a repeated START
 abbrev pub Token : Type 0
@@ -59,9 +63,11 @@ less_than_eight n bytes lt = sym (none_taken ((n + 1) / 9) bytes (omega arith))
 one_byte : (n b : ℕ) (bytes : List ℕ) → n ≡ 8 → b ∷ [] ≡ bytes_before (Some n) (b ∷ bytes)
 one_byte n b bytes e =
     let one : (n + 1) / 9 ≡ suc zero = omega arith in
-    sym (ap (λ (k : ℕ). take k (b ∷ bytes)) one ∙ ap (λ (l : List ℕ). b ∷ l) (none_taken zero bytes refl))
+    sym (ap (λ (k : ℕ). take k (b ∷ bytes)) one
+    ∙ ap (λ (l : List ℕ). b ∷ l) (none_taken zero bytes refl))
 
-byte_more : (n b : ℕ) (later : List ℕ) → 9 ≤ n → b ∷ bytes_before (Some (n - 9)) later ≡ bytes_before (Some n) (b ∷ later)
+byte_more : (n b : ℕ) (later : List ℕ) → 9 ≤ n
+    → b ∷ bytes_before (Some (n - 9)) later ≡ bytes_before (Some n) (b ∷ later)
 byte_more n b later ge =
     let e : (n + 1) / 9 ≡ suc ((n - 9 + 1) / 9) = omega arith in
     sym (ap (λ (k : ℕ). take k (b ∷ later)) e)
@@ -80,13 +86,15 @@ eight b lt =
     let n : number_of (bits_of 8 b.0) ≡ b.0 % 256 = number_of-bits_of 8 b.0 in
     n ∙ omega arith
 
-tail_eight : (n : ℕ) (b : ℕ × Bool) → n ≡ 8 → b.0 < 256 → tail_byte (take n (byte_bits b)) ≡ b.0 ∷ []
+tail_eight : (n : ℕ) (b : ℕ × Bool) → n ≡ 8 → b.0 < 256
+    → tail_byte (take n (byte_bits b)) ≡ b.0 ∷ []
 tail_eight n b is lt =
     let l = length-byte_bits b in
     let e : length (take 8 (byte_bits b)) ≡ 8 = simp length-take (omega arith) in
     rw (is, e) (ap (λ (x : ℕ). x ∷ []) (eight b lt))
 
-short_bytes : (n : ℕ) (b : ℕ × Bool) (later : List ℕ) → b.0 < 256 → n < 9 → tail_byte (take n (byte_bits b)) ≡ bytes_before (Some n) (b.0 ∷ later)
+short_bytes : (n : ℕ) (b : ℕ × Bool) (later : List ℕ) → b.0 < 256 → n < 9
+    → tail_byte (take n (byte_bits b)) ≡ bytes_before (Some n) (b.0 ∷ later)
 short_bytes n b later small lt =
     let l = length-byte_bits b in
     elim (cases_lt n 8) [
@@ -103,27 +111,62 @@ pub record IsByte (p : Piece) (b : ℕ × Bool) : Type 0 where
   pub small : IsSmall p → b.0 < 256
   pub token : (later : List Piece) → tokens (p ∷ later) ≡ Some b ∷ tokens later
   pub first : (later : List Piece) → bytes_in (p ∷ later) ≡ b.0 ∷ bytes_in later
-  pub seen : (later : List Piece) (tail : List Bool) → IsSmall p → seen_in (p ∷ later) tail ≡ b.0 ∷ seen_in later tail
+  pub seen : (later : List Piece) (tail : List Bool) → IsSmall p
+      → seen_in (p ∷ later) tail ≡ b.0 ∷ seen_in later tail
 
-first_more : (n : ℕ) (a : Bool) (s : List (ℕ × Bool)) (later : List (List (ℕ × Bool))) (tail : List Bool) → n < 256 → bytes_among (((n % 256, a) ∷ s) ∷ later) tail ≡ n ∷ bytes_among (s ∷ later) tail
-first_more n a s [] tail lt = let e : n % 256 ≡ n = omega arith in ap (λ (k : ℕ). k ∷ bytes_among (s ∷ []) tail) e
-first_more n a s (t ∷ later) tail lt = let e : n % 256 ≡ n = omega arith in ap (λ (k : ℕ). k ∷ bytes_among (s ∷ t ∷ later) tail) e
+first_more : (n : ℕ) (a : Bool) (s : List (ℕ × Bool)) (later : List (List (ℕ × Bool)))
+    (tail : List Bool) → n < 256
+    → bytes_among (((n % 256, a) ∷ s) ∷ later) tail ≡ n ∷ bytes_among (s ∷ later) tail
+first_more n a s [] tail lt =
+    let e : n % 256 ≡ n = omega arith in
+    ap (λ (k : ℕ). k ∷ bytes_among (s ∷ []) tail) e
+first_more n a s (t ∷ later) tail lt =
+    let e : n % 256 ≡ n = omega arith in
+    ap (λ (k : ℕ). k ∷ bytes_among (s ∷ t ∷ later) tail) e
 
 pub is_sent : (b : ℕ) → IsByte (Sent b) (b, true)
-is_sent b = record { marks = refl; small = λ h. h; token = λ later. refl; first = λ later. refl; seen = λ later tail h. first_more b true (split later).0 (split later).1 tail h }
+is_sent b = record {
+  marks = refl;
+  small = λ h. h;
+  token = λ later. refl;
+  first = λ later. refl;
+  seen = λ later tail h. first_more b true (split later).0 (split later).1 tail h;
+}
 
 pub is_refused : (b : ℕ) → IsByte (Refused b) (b, false)
-is_refused b = record { marks = refl; small = λ h. h; token = λ later. refl; first = λ later. refl; seen = λ later tail h. first_more b false (split later).0 (split later).1 tail h }
+is_refused b = record {
+  marks = refl;
+  small = λ h. h;
+  token = λ later. refl;
+  first = λ later. refl;
+  seen = λ later tail h. first_more b false (split later).0 (split later).1 tail h;
+}
 
 pub is_got : (b : ℕ) (more : Bool) → IsByte (Got b more) (b, more)
-is_got b more = record { marks = refl; small = λ h. h; token = λ later. refl; first = λ later. refl; seen = λ later tail h. first_more b more (split later).0 (split later).1 tail h }
+is_got b more = record {
+  marks = refl;
+  small = λ h. h;
+  token = λ later. refl;
+  first = λ later. refl;
+  seen = λ later tail h. first_more b more (split later).0 (split later).1 tail h;
+}
 
 -- the fronts
 
 front_nil : (n : ℕ) → take n (marks_of []) ≡ [] → Front n []
-front_nil n e = record { whole = []; tail = []; few = omega arith; marks = e; rest = []; seen = refl; small = λ h. tt; bytes = λ h. of_none ((n + 1) / 9) }
+front_nil n e = record {
+  whole = [];
+  tail = [];
+  few = omega arith;
+  marks = e;
+  rest = [];
+  seen = refl;
+  small = λ h. tt;
+  bytes = λ h. of_none ((n + 1) / 9);
+}
 
-front_short : (n : ℕ) (p : Piece) (b : ℕ × Bool) (later : List Piece) → IsByte p b → n < 9 → Front n (p ∷ later)
+front_short : (n : ℕ) (p : Piece) (b : ℕ × Bool) (later : List Piece) → IsByte p b → n < 9
+    → Front n (p ∷ later)
 front_short n p b later is lt =
     let l = length-byte_bits b in
     let lm : length (bit_marks (byte_bits b)) ≡ 9 = length-map (byte_bits b) Bit ∙ l in
@@ -131,14 +174,20 @@ front_short n p b later is lt =
       whole = [];
       tail = take n (byte_bits b);
       few = simp length-take (omega arith);
-      marks = ap (λ (m : List Slot). take n (m ++ marks_of later)) is.marks ∙ take-append-le n (bit_marks (byte_bits b)) (marks_of later) (omega arith) ∙ take-map Bit n (byte_bits b);
+      marks =
+          ap (λ (m : List Slot). take n (m ++ marks_of later)) is.marks
+          ∙ take-append-le n (bit_marks (byte_bits b)) (marks_of later) (omega arith)
+          ∙ take-map Bit n (byte_bits b);
       rest = tokens (p ∷ later);
       seen = refl;
       small = λ h. tt;
-      bytes = λ h. short_bytes n b (bytes_in later) (is.small h.0) lt ∙ ap (bytes_before (Some n)) (sym (is.first later));
+      bytes = λ h.
+          short_bytes n b (bytes_in later) (is.small h.0) lt
+          ∙ ap (bytes_before (Some n)) (sym (is.first later));
     }
 
-front_byte : (n : ℕ) (p : Piece) (b : ℕ × Bool) (later : List Piece) → IsByte p b → 9 ≤ n → Front (n - 9) later → Front n (p ∷ later)
+front_byte : (n : ℕ) (p : Piece) (b : ℕ × Bool) (later : List Piece) → IsByte p b → 9 ≤ n
+    → Front (n - 9) later → Front n (p ∷ later)
 front_byte n p b later is ge f =
     let l = length-byte_bits b in
     let lm : length (bit_marks (byte_bits b)) ≡ 9 = length-map (byte_bits b) Bit ∙ l in
@@ -154,13 +203,21 @@ front_byte n p b later is ge f =
           ∙ sym (append_assoc (bit_marks (byte_bits b)) (marks_of f.whole) (bit_marks f.tail))
           ∙ ap (λ (m : List Slot). m ++ marks_of f.whole ++ bit_marks f.tail) (sym is.marks);
       rest = f.rest;
-      seen = is.token later ∙ ap (λ (l : List Token). Some b ∷ l) f.seen ∙ ap (λ (l : List Token). l ++ f.rest) (sym (is.token f.whole));
+      seen =
+          is.token later ∙ ap (λ (l : List Token). Some b ∷ l) f.seen
+          ∙ ap (λ (l : List Token). l ++ f.rest) (sym (is.token f.whole));
       small = λ h. (h.0, f.small h.1);
-      bytes = λ h. is.seen f.whole f.tail h.0 ∙ ap (λ (l : List ℕ). b.0 ∷ l) (f.bytes h.1) ∙ byte_more n b.0 (bytes_in later) ge ∙ ap (bytes_before (Some n)) (sym (is.first later));
+      bytes = λ h.
+          is.seen f.whole f.tail h.0 ∙ ap (λ (l : List ℕ). b.0 ∷ l) (f.bytes h.1)
+          ∙ byte_more n b.0 (bytes_in later) ge ∙ ap (bytes_before (Some n)) (sym (is.first later));
     }
 
-front_next : (n : ℕ) (p : Piece) (b : ℕ × Bool) (later : List Piece) → IsByte p b → Front (n - 9) later → Front n (p ∷ later)
-front_next n p b later is f = elim (cases_lt n 9) [ inl lt ↦ front_short n p b later is lt | inr ge ↦ front_byte n p b later is ge f ]
+front_next : (n : ℕ) (p : Piece) (b : ℕ × Bool) (later : List Piece) → IsByte p b
+    → Front (n - 9) later → Front n (p ∷ later)
+front_next n p b later is f = elim (cases_lt n 9) [
+  | inl lt ↦ front_short n p b later is lt
+  | inr ge ↦ front_byte n p b later is ge f
+]
 
 front_again : (n : ℕ) (later : List Piece) → Front n later → Front (suc n) (Repeat ∷ later)
 front_again n later f = record {
@@ -177,8 +234,20 @@ front_again n later f = record {
 pub front_of : (pieces : List Piece) (n : ℕ) → Front n pieces
 front_of [] zero = front_nil zero refl
 front_of [] (suc n) = front_nil (suc n) refl
-front_of (Sent b ∷ later) n = front_next n (Sent b) (b, true) later (is_sent b) (front_of later (n - 9))
-front_of (Refused b ∷ later) n = front_next n (Refused b) (b, false) later (is_refused b) (front_of later (n - 9))
-front_of (Got b more ∷ later) n = front_next n (Got b more) (b, more) later (is_got b more) (front_of later (n - 9))
-front_of (Repeat ∷ later) zero = record { whole = []; tail = []; few = omega arith; marks = refl; rest = tokens (Repeat ∷ later); seen = refl; small = λ h. tt; bytes = λ h. refl }
+front_of (Sent b ∷ later) n =
+    front_next n (Sent b) (b, true) later (is_sent b) (front_of later (n - 9))
+front_of (Refused b ∷ later) n =
+    front_next n (Refused b) (b, false) later (is_refused b) (front_of later (n - 9))
+front_of (Got b more ∷ later) n =
+    front_next n (Got b more) (b, more) later (is_got b more) (front_of later (n - 9))
+front_of (Repeat ∷ later) zero = record {
+  whole = [];
+  tail = [];
+  few = omega arith;
+  marks = refl;
+  rest = tokens (Repeat ∷ later);
+  seen = refl;
+  small = λ h. tt;
+  bytes = λ h. refl;
+}
 front_of (Repeat ∷ later) (suc n) = front_again n later (front_of later n)

@@ -1,5 +1,7 @@
--- The bytes up to the first repeated START: those of a message, those that go out, and those that are seen.
-use Rattle.std.specs.Prelude.{ℕ, ◌+◌, ◌/◌, ◌==◌, Bool, if◌then◌else◌, Option, Some, None, List, [], ◌∷◌, ◌++◌, map, length, take}
+-- The bytes up to the first repeated START: those of a message, those that go out, and those that
+-- are seen.
+use Rattle.std.specs.Prelude.{ℕ, ◌+◌, ◌/◌, ◌==◌, Bool, if◌then◌else◌, Option, Some, None, List, []}
+use Rattle.std.specs.Prelude.{◌∷◌, ◌++◌, map, length, take}
 use Rattle.wires.specs.Bits.{number_of}
 use Rattle.bit_bus.specs.Levels.{first_cut}
 use Rattle.smbus.specs.Asked.{Asked}
@@ -25,8 +27,8 @@ abbrev pub bytes_to : Option ℕ → List ℕ → List ℕ
 bytes_to None bytes = bytes
 bytes_to (Some n) bytes = take (n + 1) bytes
 
--- a byte takes nine slots, its eight bits and an acknowledge (UM10204, 3.1.5 and 3.1.6), and has gone out
--- where all eight bits stand before the slot that is cut
+-- a byte takes nine slots, its eight bits and an acknowledge (UM10204, 3.1.5 and 3.1.6), and has
+-- gone out where all eight bits stand before the slot that is cut
 abbrev pub bytes_before : Option ℕ → List ℕ → List ℕ
 bytes_before None bytes = bytes
 bytes_before (Some slot) bytes = take ((slot + 1) / 9) bytes

@@ -2,9 +2,13 @@
 use Rattle.std.specs.Prelude.{ℕ, List, Bool, true, false, Option, Some, None, codes, if◌then◌else◌}
 use Rattle.std.specs.Str.{bytes_eq}
 use Rattle.smbus.specs.declared.message.Form.{Form}
-use Rattle.smbus.specs.declared.message.Form.TheVariants.{Quick, SendByte, ReceiveByte, WriteByte, WriteWord, ReadByte, ReadWord, ProcessCall, BlockWrite, BlockRead, BlockProcessCall, Alert}
+use Rattle.smbus.specs.declared.message.Form.TheVariants.{Quick, SendByte, ReceiveByte, WriteByte}
+use Rattle.smbus.specs.declared.message.Form.TheVariants.{WriteWord, ReadByte, ReadWord}
+use Rattle.smbus.specs.declared.message.Form.TheVariants.{ProcessCall, BlockWrite, BlockRead}
+use Rattle.smbus.specs.declared.message.Form.TheVariants.{BlockProcessCall, Alert}
 
--- the forms of messages to a target, by their words in messages, boards and programs (this project's)
+-- the forms of messages to a target, by their words in messages, boards and programs (this
+-- project's)
 unfoldable pub form_named : List ℕ → Option Form
 form_named word =
     if bytes_eq word (codes "quickwrite") then Some (Quick false)

@@ -1,5 +1,6 @@
 -- The events of a frame (UM10204, 3.1.4 to 3.1.6), and of frames one after another.
-use Rattle.std.specs.Prelude.{ℕ, ◌≡◌, ◌+◌, ◌<◌, ◌≤◌, Bool, true, false, not, List, [], ◌∷◌, ◌++◌, map, length, take, All}
+use Rattle.std.specs.Prelude.{ℕ, ◌≡◌, ◌+◌, ◌<◌, ◌≤◌, Bool, true, false, not, List, [], ◌∷◌, ◌++◌}
+use Rattle.std.specs.Prelude.{map, length, take, All}
 use Rattle.std.specs.List.{flat_map}
 use Rattle.wires.specs.declared.event.Event.{Event}
 use Rattle.wires.specs.declared.event.Event.TheVariants.{Start, Stop, Rise}
@@ -23,7 +24,8 @@ rises bits = map Rise bits
 abbrev pub segment_words : List (List (ℕ × Bool)) → List Event
 segment_words [] = []
 segment_words (s ∷ []) = rises (segment_bits s)
-segment_words (s ∷ t ∷ later) = rises (segment_bits s) ++ Rise true ∷ Start ∷ segment_words (t ∷ later)
+segment_words (s ∷ t ∷ later) =
+    rises (segment_bits s) ++ Rise true ∷ Start ∷ segment_words (t ∷ later)
 
 -- before the STOP SDA is pulled low and SCL rises
 abbrev pub frame_word : Shown → List Event

@@ -1,5 +1,6 @@
 -- Reading event by event. Nothing public cites this: `Frames` says what is read.
-use Rattle.std.specs.Prelude.{ℕ, ◌==◌, Bool, true, false, not, if◌then◌else◌, Option, Some, None, List, [], ◌∷◌, ◌++◌, take, length, slice_index_or}
+use Rattle.std.specs.Prelude.{ℕ, ◌==◌, Bool, true, false, not, if◌then◌else◌, Option, Some, None}
+use Rattle.std.specs.Prelude.{List, [], ◌∷◌, ◌++◌, take, length, slice_index_or}
 use Rattle.wires.specs.declared.event.Event.{Event}
 use Rattle.wires.specs.declared.event.Event.TheVariants.{Start, Stop, Rise}
 use Rattle.wires.specs.Bits.{number_of}
@@ -9,7 +10,8 @@ use Rattle.smbus.specs.declared.observing.Reading.{Reading}
 unfoldable pub byte_of : List Bool → ℕ × Bool
 byte_of bits = (number_of (take 8 bits), not (slice_index_or bits 8 false))
 
--- the frames, and of the next frame its segments, the bytes of its last segment and the bits after them
+-- the frames, and of the next frame its segments, the bytes of its last segment and the bits after
+-- them
 pub record State : Type 0 where
   pub frames : List Shown
   pub is_open : Bool
@@ -18,17 +20,36 @@ pub record State : Type 0 where
   pub bits : List Bool
 
 abbrev pub reading_of : Reading → State
-reading_of r = record { frames = r.frames.items; is_open = r.is_open; segments = r.segments.items; bytes = r.bytes.items; bits = r.bits.items }
+reading_of r = record {
+  frames = r.frames.items;
+  is_open = r.is_open;
+  segments = r.segments.items;
+  bytes = r.bytes.items;
+  bits = r.bits.items;
+}
 
 abbrev pub grown : State → State
-grown s = record { frames = s.frames; is_open = s.is_open; segments = s.segments; bytes = s.bytes ++ byte_of s.bits ∷ []; bits = [] }
+grown s = record {
+  frames = s.frames;
+  is_open = s.is_open;
+  segments = s.segments;
+  bytes = s.bytes ++ byte_of s.bits ∷ [];
+  bits = [];
+}
 
 abbrev pub with_bits : List Bool → State → State
-with_bits bits s = record { frames = s.frames; is_open = s.is_open; segments = s.segments; bytes = s.bytes; bits = bits }
+with_bits bits s = record {
+  frames = s.frames;
+  is_open = s.is_open;
+  segments = s.segments;
+  bytes = s.bytes;
+  bits = bits;
+}
 
 -- the ninth bit of a byte may belong to the STOP, so a byte is made with the bit after it
 abbrev pub risen : Bool → State → State
-risen bit s = if length s.bits == 9 then with_bits (bit ∷ []) (grown s) else with_bits (s.bits ++ bit ∷ []) s
+risen bit s =
+    if length s.bits == 9 then with_bits (bit ∷ []) (grown s) else with_bits (s.bits ++ bit ∷ []) s
 
 abbrev pub is_again : List Bool → Bool
 is_again [] = false
@@ -48,10 +69,30 @@ all_but_last (b ∷ c ∷ bits) = b ∷ all_but_last (c ∷ bits)
 abbrev pub step : State → Event → Option State
 step s (Rise bit) = if s.is_open then Some (risen bit s) else None
 step s Start = if s.is_open
-    then (if is_again s.bits then Some (record { frames = s.frames; is_open = true; segments = s.segments ++ s.bytes ∷ []; bytes = []; bits = [] }) else None)
-    else Some (record { frames = s.frames; is_open = true; segments = s.segments; bytes = s.bytes; bits = s.bits })
+    then (if is_again s.bits then Some (record {
+      frames = s.frames;
+      is_open = true;
+      segments = s.segments ++ s.bytes ∷ [];
+      bytes = [];
+      bits = [];
+    }) else None)
+    else Some (record {
+      frames = s.frames;
+      is_open = true;
+      segments = s.segments;
+      bytes = s.bytes;
+      bits = s.bits;
+    })
 step s Stop = if s.is_open
     then (if ends_low s.bits
-    then Some (record { frames = s.frames ++ record { segments = s.segments ++ s.bytes ∷ []; tail = all_but_last s.bits } ∷ []; is_open = false; segments = []; bytes = []; bits = [] })
+    then Some (record {
+      frames =
+          s.frames ++ record { segments = s.segments ++ s.bytes ∷ []; tail = all_but_last s.bits }
+          ∷ [];
+      is_open = false;
+      segments = [];
+      bytes = [];
+      bits = [];
+    })
     else None)
     else None

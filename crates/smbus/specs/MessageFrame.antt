@@ -1,5 +1,6 @@
 -- What the one frame of a message and an answer shows of the message.
-use Rattle.std.specs.Prelude.{ℕ, ◌*◌, ◌≡◌, ◌<◌, ◌≤◌, ◌⊎◌, ◌↔◌, IfSome, Option, Some, None, List, [], ◌∷◌, ◌++◌, length, All}
+use Rattle.std.specs.Prelude.{ℕ, ◌*◌, ◌≡◌, ◌<◌, ◌≤◌, ◌⊎◌, ◌↔◌, IfSome, Option, Some, None, List, []}
+use Rattle.std.specs.Prelude.{◌∷◌, ◌++◌, length, All}
 use Rattle.bit_bus.specs.Levels.{first_cut}
 use Rattle.smbus.specs.declared.message.Form.TheVariants.{SendByte, WriteByte, ReadWord, BlockRead}
 use Rattle.smbus.specs.Asked.{Asked, IsAddressed}
@@ -43,8 +44,8 @@ pub record IsReadWord (address code value : ℕ) (m : Asked) (a : Answered) : Ty
   pub command : m.code ≡ code
   pub returns : a.value ≡ value
 
--- the data byte of a Write Byte goes out where neither the address nor the code is refused, and no slot
--- before the data byte's acknowledge is cut
+-- the data byte of a Write Byte goes out where neither the address nor the code is refused, and no
+-- slot before the data byte's acknowledge is cut
 pub record DataGoesOut (refuse cut : Option ℕ) : Type 0 where
   pub refused : IfSome refuse (λ n. 2 ≤ n)
   pub cut_late : IfSome cut (λ slot. 26 ≤ slot)
@@ -53,8 +54,8 @@ pub record DataGoesOut (refuse cut : Option ℕ) : Type 0 where
 abbrev pub IsCutLate : Option ℕ → ℕ → Type 0
 IsCutLate cut marks = (cut ≡ None) ⊎ (cut ≡ Some marks)
 
--- A block of one byte that is read has the marks of a word whose low byte is 1: a Read Word of a code is
--- seen only where no block is read by that code.
+-- A block of one byte that is read has the marks of a word whose low byte is 1: a Read Word of a
+-- code is seen only where no block is read by that code.
 abbrev pub ReadsNoBlock : ℕ → Asked → Type 0
 ReadsNoBlock code m = m.form ≡ BlockRead → m.code ≡ code → ⊥
 
@@ -65,12 +66,16 @@ pub record ShowsMessage (m : Asked) (a : Answered) : Type 0 where
   pub went_out : bytes_seen one.frame ≡ bytes_out m a
   pub begins : (rest : List ℕ) × (message_bytes m a ≡ bytes_seen one.frame ++ rest)
   pub writes : (value : ℕ) → m.form ≡ WriteByte → m.out ≡ value ∷ []
-      → (bytes_seen one.frame ≡ 2 * m.address ∷ m.code ∷ value ∷ []) ↔ DataGoesOut a.refuse (first_cut (plan_of m a))
+      → (bytes_seen one.frame ≡ 2 * m.address ∷ m.code ∷ value ∷ [])
+      ↔ DataGoesOut a.refuse (first_cut (plan_of m a))
   -- a frame that is a whole Send Byte or Read Word is that message's, with nothing refused
-  pub sends : (address code value : ℕ) (read : List ℕ) → address ≤ 127 → code < 256 → IsWhole (send_byte address code) value read one.frame → first_cut (plan_of m a) ≡ None
+  pub sends : (address code value : ℕ) (read : List ℕ) → address ≤ 127 → code < 256
+      → IsWhole (send_byte address code) value read one.frame → first_cut (plan_of m a) ≡ None
       → IsSendByte address code m × (a.refuse ≡ None)
-  pub reports : (address code value : ℕ) (read : List ℕ) → address ≤ 127 → code < 256 → value < 65536 → ReadsNoBlock code m → IsWhole (read_word address code) value read one.frame
-      → IsReadWord address code value m a × (a.refuse ≡ None) × IsCutLate (first_cut (plan_of m a)) (length (marks_of (whole m a.value a.bytes)))
+  pub reports : (address code value : ℕ) (read : List ℕ) → address ≤ 127 → code < 256
+      → value < 65536 → ReadsNoBlock code m → IsWhole (read_word address code) value read one.frame
+      → IsReadWord address code value m a × (a.refuse ≡ None)
+      × IsCutLate (first_cut (plan_of m a)) (length (marks_of (whole m a.value a.bytes)))
 
 abbrev pub MessagesHaveOneFrame : Type 0
 MessagesHaveOneFrame = (m : Asked) (a : Answered) → AreAsked m a → ShowsMessage m a

@@ -23,20 +23,25 @@ pub record IsOnlyFrame (events : List Event) (f : Shown) : Type 0 where
   pub is : AreFrames events (f ∷ [])
   pub only : (others : List Shown) → AreFrames events others → others ≡ f ∷ []
 
--- the slots can be driven, and their event word is that of one frame: whole where nothing was refused
--- or cut, else broken off; and where End is cut both
+-- the slots can be driven, and their event word is that of one frame: whole where nothing was
+-- refused or cut, else broken off; and where End is cut both
 pub record HasOneFrame (m : Asked) (a : Answered) : Type 0 where
   pub plan : IsPlan (plan_of m a)
   pub frame : Shown
   pub is_only : IsOnlyFrame (event_word (plan_of m a)) frame
   pub done : a.refuse ≡ None → first_cut (plan_of m a) ≡ None → IsWhole m a.value a.bytes frame
-  pub cut_in_end : a.refuse ≡ None → first_cut (plan_of m a) ≡ Some (length (marks_of (whole m a.value a.bytes))) → IsWhole m a.value a.bytes frame
-  pub refused : (n : ℕ) → a.refuse ≡ Some n → IsBrokenOff m a.value a.bytes (is_some (first_cut (plan_of m a))) frame
-  pub cut : (slot : ℕ) → first_cut (plan_of m a) ≡ Some slot → IsBrokenOff m a.value a.bytes (is_some (first_cut (plan_of m a))) frame
+  pub cut_in_end : a.refuse ≡ None
+      → first_cut (plan_of m a) ≡ Some (length (marks_of (whole m a.value a.bytes)))
+      → IsWhole m a.value a.bytes frame
+  pub refused : (n : ℕ) → a.refuse ≡ Some n
+      → IsBrokenOff m a.value a.bytes (is_some (first_cut (plan_of m a))) frame
+  pub cut : (slot : ℕ) → first_cut (plan_of m a) ≡ Some slot
+      → IsBrokenOff m a.value a.bytes (is_some (first_cut (plan_of m a))) frame
 
 abbrev pub SlotsAreOneFrame : Type 0
 SlotsAreOneFrame = (m : Asked) (a : Answered) → CanBeSent m a → HasOneFrame m a
 
 -- events are those of one list of frames at most
 abbrev pub FramesAreUnique : Type 0
-FramesAreUnique = (events : List Event) (frames others : List Shown) → AreFrames events frames → AreFrames events others → others ≡ frames
+FramesAreUnique = (events : List Event) (frames others : List Shown) → AreFrames events frames
+    → AreFrames events others → others ≡ frames

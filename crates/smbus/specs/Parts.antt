@@ -1,9 +1,13 @@
--- What `frame_slots` works with: the frame of each form as the bytes that the controller sends first,
--- a repeated START where the form has one, and the bytes that a target returns. Nothing public cites
--- this: `Protocol` says what a frame is.
-use Rattle.std.specs.Prelude.{ℕ, ◌≤◌, ◌+◌, ◌*◌, Bool, true, false, Option, Some, None, List, [], ◌∷◌, length}
+-- What `frame_slots` works with: the frame of each form as the bytes that the controller sends
+-- first, a repeated START where the form has one, and the bytes that a target returns. Nothing
+-- public cites this: `Protocol` says what a frame is.
+use Rattle.std.specs.Prelude.{ℕ, ◌≤◌, ◌+◌, ◌*◌, Bool, true, false, Option, Some, None, List, []}
+use Rattle.std.specs.Prelude.{◌∷◌, length}
 use Rattle.smbus.specs.declared.message.Form.{Form}
-use Rattle.smbus.specs.declared.message.Form.TheVariants.{Quick, SendByte, ReceiveByte, WriteByte, WriteWord, ReadByte, ReadWord, ProcessCall, BlockWrite, BlockRead, BlockProcessCall, Alert}
+use Rattle.smbus.specs.declared.message.Form.TheVariants.{Quick, SendByte, ReceiveByte, WriteByte}
+use Rattle.smbus.specs.declared.message.Form.TheVariants.{WriteWord, ReadByte, ReadWord}
+use Rattle.smbus.specs.declared.message.Form.TheVariants.{ProcessCall, BlockWrite, BlockRead}
+use Rattle.smbus.specs.declared.message.Form.TheVariants.{BlockProcessCall, Alert}
 use Rattle.smbus.specs.Asked.{Asked}
 use Rattle.smbus.specs.Protocol.{Piece, low, high, direction_bit, got}
 use Rattle.smbus.specs.Protocol.Piece.{Sent, Refused, Repeat}

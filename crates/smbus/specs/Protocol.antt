@@ -1,11 +1,15 @@
 -- The bus protocols (SMBus 3.2, 6.5.1 to 6.5.8, and the alert response of appendix A): what a whole
 -- frame of each form is made of, and where a refused byte ends it.
-use Rattle.std.specs.Prelude.{ℕ, zero, suc, ◌≡◌, ◌+◌, ◌*◌, ◌/◌, ◌%◌, ◌<◌, ◌≤◌, Bool, true, false, if◌then◌else◌, Option, Some, None, List, [], ◌∷◌, ◌++◌, map, length}
+use Rattle.std.specs.Prelude.{ℕ, zero, suc, ◌≡◌, ◌+◌, ◌*◌, ◌/◌, ◌%◌, ◌<◌, ◌≤◌, Bool, true, false}
+use Rattle.std.specs.Prelude.{if◌then◌else◌, Option, Some, None, List, [], ◌∷◌, ◌++◌, map, length}
 use Rattle.std.specs.List.{flat_map}
 use Rattle.bit_bus.specs.declared.plan.Slot.{Slot}
 use Rattle.bit_bus.specs.declared.plan.Slot.TheVariants.{Bit, Again}
 use Rattle.smbus.specs.declared.message.Form.{Form}
-use Rattle.smbus.specs.declared.message.Form.TheVariants.{Quick, SendByte, ReceiveByte, WriteByte, WriteWord, ReadByte, ReadWord, ProcessCall, BlockWrite, BlockRead, BlockProcessCall, Alert}
+use Rattle.smbus.specs.declared.message.Form.TheVariants.{Quick, SendByte, ReceiveByte, WriteByte}
+use Rattle.smbus.specs.declared.message.Form.TheVariants.{WriteWord, ReadByte, ReadWord}
+use Rattle.smbus.specs.declared.message.Form.TheVariants.{ProcessCall, BlockWrite, BlockRead}
+use Rattle.smbus.specs.declared.message.Form.TheVariants.{BlockProcessCall, Alert}
 use Rattle.smbus.specs.Asked.{Asked}
 use Rattle.smbus.specs.Frames.{byte_bits}
 
@@ -43,7 +47,8 @@ high value = value / 256
 abbrev pub direction_bit : Bool → ℕ
 direction_bit is_read = if is_read then 1 else 0
 
--- the whole frame of each form at address a, where value or block is returned; words go low byte first
+-- the whole frame of each form at address a, where value or block is returned; words go low byte
+-- first
 abbrev pub whole_of : Form → ℕ → ℕ → List ℕ → ℕ → List ℕ → List Piece
 whole_of (Quick is_read) a code out value block = Sent (2 * a + direction_bit is_read) ∷ []
 whole_of SendByte a code out value block = written a (code ∷ [])
@@ -51,11 +56,15 @@ whole_of ReceiveByte a code out value block = read a (low value ∷ [])
 whole_of WriteByte a code out value block = written a (code ∷ out)
 whole_of WriteWord a code out value block = written a (code ∷ out)
 whole_of ReadByte a code out value block = written a (code ∷ []) ++ Repeat ∷ read a (low value ∷ [])
-whole_of ReadWord a code out value block = written a (code ∷ []) ++ Repeat ∷ read a (low value ∷ high value ∷ [])
-whole_of ProcessCall a code out value block = written a (code ∷ out) ++ Repeat ∷ read a (low value ∷ high value ∷ [])
+whole_of ReadWord a code out value block =
+    written a (code ∷ []) ++ Repeat ∷ read a (low value ∷ high value ∷ [])
+whole_of ProcessCall a code out value block =
+    written a (code ∷ out) ++ Repeat ∷ read a (low value ∷ high value ∷ [])
 whole_of BlockWrite a code out value block = written a (code ∷ length out ∷ out)
-whole_of BlockRead a code out value block = written a (code ∷ []) ++ Repeat ∷ read a (length block ∷ block)
-whole_of BlockProcessCall a code out value block = written a (code ∷ length out ∷ out) ++ Repeat ∷ read a (length block ∷ block)
+whole_of BlockRead a code out value block =
+    written a (code ∷ []) ++ Repeat ∷ read a (length block ∷ block)
+whole_of BlockProcessCall a code out value block =
+    written a (code ∷ length out ∷ out) ++ Repeat ∷ read a (length block ∷ block)
 whole_of Alert a code out value block = read a (low value ∷ [])
 
 abbrev pub whole : Asked → ℕ → List ℕ → List Piece

@@ -7,7 +7,8 @@ pub record Shown : Type 0 where
   -- the bits left over before the STOP
   pub tail : List Bool
 
--- the first byte after a START is the address in its upper seven bits, and the direction in its lowest
+-- the first byte after a START is the address in its upper seven bits, and the direction in its
+-- lowest
 abbrev pub address_of : List (ℕ × Bool) → Option ℕ
 address_of [] = None
 address_of (b ∷ later) = Some (b.0 / 2)

@@ -1,10 +1,13 @@
 -- How many slots the frame of a message has at most.
 use Rattle.std.specs.Prelude.{ℕ, ◌+◌, ◌*◌}
 use Rattle.smbus.specs.declared.message.Form.{Form}
-use Rattle.smbus.specs.declared.message.Form.TheVariants.{Quick, SendByte, ReceiveByte, WriteByte, WriteWord, ReadByte, ReadWord, ProcessCall, BlockWrite, BlockRead, BlockProcessCall, Alert}
+use Rattle.smbus.specs.declared.message.Form.TheVariants.{Quick, SendByte, ReceiveByte, WriteByte}
+use Rattle.smbus.specs.declared.message.Form.TheVariants.{WriteWord, ReadByte, ReadWord}
+use Rattle.smbus.specs.declared.message.Form.TheVariants.{ProcessCall, BlockWrite, BlockRead}
+use Rattle.smbus.specs.declared.message.Form.TheVariants.{BlockProcessCall, Alert}
 
--- nine for each byte (UM10204, 3.1.5 and 3.1.6), one for a repeated START, and one for the STOP, where
--- so many bytes of a block are sent and read
+-- nine for each byte (UM10204, 3.1.5 and 3.1.6), one for a repeated START, and one for the STOP,
+-- where so many bytes of a block are sent and read
 abbrev pub most_slots : Form → ℕ → ℕ → ℕ
 most_slots (Quick is_read) sent read = 10
 most_slots SendByte sent read = 19

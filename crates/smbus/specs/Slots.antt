@@ -1,11 +1,13 @@
--- The slots of a message and an answer: the marks of the whole frame up to the refused byte, and End.
+-- The slots of a message and an answer: the marks of the whole frame up to the refused byte, and
+-- End.
 use Rattle.std.specs.Prelude.{ℕ, Option, List, [], ◌∷◌, ◌++◌, length}
 use Rattle.bit_bus.specs.declared.plan.Slot.{Slot}
 use Rattle.bit_bus.specs.declared.plan.Slot.TheVariants.{End}
 use Rattle.bit_bus.specs.Planned.{planned}
 use Rattle.smbus.specs.Asked.{Asked}
 use Rattle.smbus.specs.Answered.{Answered}
-use Rattle.smbus.specs.Protocol.{whole, up_to_refused, marks_of, sent_count, HasLength, AreGoodCounts, IsNumbered}
+use Rattle.smbus.specs.Protocol.{whole, up_to_refused, marks_of, sent_count, HasLength}
+use Rattle.smbus.specs.Protocol.{AreGoodCounts, IsNumbered}
 
 abbrev pub marks_sent : Asked → Option ℕ → ℕ → List ℕ → List Slot
 marks_sent m refuse value block = marks_of (up_to_refused refuse (whole m value block))

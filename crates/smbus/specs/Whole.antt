@@ -33,4 +33,6 @@ pub record IsFrontOf (marks all : List Slot) : Type 0 where
 
 -- the frame was broken off: in a refused byte, or where the clock was held low for too long
 abbrev pub IsBrokenOff : Asked → ℕ → List ℕ → Bool → Shown → Type 0
-IsBrokenOff m value block held_low f = IsRefused m value block f ⊎ (IsTrue held_low × IsFrontOf (shown_marks f) (marks_of (whole m value block)))
+IsBrokenOff m value block held_low f =
+    IsRefused m value block f
+    ⊎ (IsTrue held_low × IsFrontOf (shown_marks f) (marks_of (whole m value block)))

@@ -28,7 +28,8 @@ impl Segment {
         }
     }
 
-    /// Whether the direction bit, the lowest of the first byte, is to read; None where no byte stands.
+    /// Whether the direction bit, the lowest of the first byte, is to read; None where no byte
+    /// stands.
     pub fn read(&self) -> Option<bool>
         ensures { result ≡ is_read_of self.now }
     {

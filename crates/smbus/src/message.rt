@@ -35,7 +35,12 @@ impl Model for Message {
 
     ghost Value = { Asked };
 
-    ghost view = { λ m. record { address = m.address; form = m.form; code = m.code; out = m.out.items } };
+    ghost view = { λ m. record {
+      address = m.address;
+      form = m.form;
+      code = m.code;
+      out = m.out.items;
+    } };
 
     ghost invariant = { λ m. IsAddressed m.address m.form };
 }
@@ -63,5 +68,12 @@ impl Model for Answer {
 
     ghost Value = { Answered };
 
-    ghost view = { λ a. record { holds = a.holds.items; refuse = a.refuse; value = a.value; bytes = a.bytes.items; took = a.took; alerts = a.alerts } };
+    ghost view = { λ a. record {
+      holds = a.holds.items;
+      refuse = a.refuse;
+      value = a.value;
+      bytes = a.bytes.items;
+      took = a.took;
+      alerts = a.alerts;
+    } };
 }

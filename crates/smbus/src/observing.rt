@@ -1,4 +1,5 @@
-ghost use Rattle.std.specs.Prelude.{◌≡◌, ◌≤◌, if◌then◌else◌, ◌∷◌, ◌++◌, [], List, length, IfOk, IfErr, IsTrue, OnOk, MatchOption, MatchResult, MatchBool};
+ghost use Rattle.std.specs.Prelude.{◌≡◌, ◌≤◌, if◌then◌else◌, ◌∷◌, ◌++◌, [], List, length, IfOk};
+ghost use Rattle.std.specs.Prelude.{IfErr, IsTrue, OnOk, MatchOption, MatchResult, MatchBool};
 ghost use Rattle.smbus.specs.Shown.{Shown};
 ghost use Rattle.smbus.specs.Frames.{AreFrames, FaultIs};
 ghost use Rattle.smbus.specs.Machine.{byte_of, reading_of, risen, step};
@@ -53,7 +54,8 @@ impl Reading {
     }
 
     fn start(&mut self, alloc: Global) -> Result<bool, AllocError>
-        ensures { IfOk result (λ taken. MatchBool taken (step (reading_of self.old) Event.Start ≡ Some (reading_of self.new)) (step (reading_of self.old) Event.Start ≡ None)) }
+        ensures { IfOk result (λ taken. MatchBool taken (step (reading_of self.old) Event.Start
+            ≡ Some (reading_of self.new)) (step (reading_of self.old) Event.Start ≡ None)) }
     {
         if !self.is_open {
             self.is_open = true;
@@ -72,7 +74,8 @@ impl Reading {
     }
 
     fn stop(&mut self, alloc: Global) -> Result<bool, AllocError>
-        ensures { IfOk result (λ taken. MatchBool taken (step (reading_of self.old) Event.Stop ≡ Some (reading_of self.new)) (step (reading_of self.old) Event.Stop ≡ None)) }
+        ensures { IfOk result (λ taken. MatchBool taken (step (reading_of self.old) Event.Stop
+            ≡ Some (reading_of self.new)) (step (reading_of self.old) Event.Stop ≡ None)) }
     {
         if !self.is_open {
             return Ok(false);
@@ -93,7 +96,8 @@ impl Reading {
     }
 
     fn take(&mut self, alloc: Global, event: Event) -> Result<bool, AllocError>
-        ensures { IfOk result (λ taken. MatchBool taken (step (reading_of self.old) event ≡ Some (reading_of self.new)) (step (reading_of self.old) event ≡ None)) }
+        ensures { IfOk result (λ taken. MatchBool taken (step (reading_of self.old) event
+            ≡ Some (reading_of self.new)) (step (reading_of self.old) event ≡ None)) }
     {
         match event {
             Event::Start => self.start(alloc),
@@ -113,7 +117,8 @@ impl Reading {
 pub fn observe(alloc: Global, events: &[Event]) -> Result<Vec<Frame>, ObserveFault>
     ensures frames { IfOk result (λ frames. AreFrames events.now frames.items) }
     // They are the events of no other frames.
-    ensures only { IfOk result (λ frames. (others : List Shown) → AreFrames events.now others → others ≡ frames.items) }
+    ensures only { IfOk result
+        (λ frames. (others : List Shown) → AreFrames events.now others → others ≡ frames.items) }
     ensures fault { IfErr result (FaultIs events.now) }
 {
     let mut reading = Reading {

@@ -1,7 +1,9 @@
-ghost use Rattle.std.specs.Prelude.{◌≡◌, ◌<◌, ◌^◌, ◌++◌, ◌↔◌, false, is_none, length, take, slice_index, IfOk, OnOk, IfSome, IfNone, IsTrue, IsErrOf};
+ghost use Rattle.std.specs.Prelude.{◌≡◌, ◌<◌, ◌^◌, ◌++◌, ◌↔◌, false, is_none, length, take};
+ghost use Rattle.std.specs.Prelude.{slice_index, IfOk, OnOk, IfSome, IfNone, IsTrue, IsErrOf};
 ghost use Rattle.smbus.specs.Protocol.{sent, got, byte_marks, marks_of, HasLength, AreGoodCounts};
 ghost use Rattle.smbus.specs.Protocol.{low, high, sent_count, whole, IsNumbered};
-ghost use Rattle.smbus.specs.Parts.{first_bytes, has_repeat, returned_bytes, controller_bytes, rest_of, IsAfter};
+ghost use Rattle.smbus.specs.Parts.{first_bytes, has_repeat, returned_bytes, controller_bytes};
+ghost use Rattle.smbus.specs.Parts.{rest_of, IsAfter};
 ghost use Rattle.smbus.specs.Slots.{marks_sent, slots_of, IsGoodData, IsGoodBlock};
 
 use crate::fault::SmbusFault;
@@ -116,7 +118,8 @@ fn push_got(slots: &mut Vec<Slot>, bytes: &[u8]) -> Result<(), AllocError>
 fn push_refused(slots: &mut Vec<Slot>, bytes: &[u8], number: usize) -> Result<(), AllocError>
     requires { number < length bytes.now }
     ensures { OnOk result (slots.new.items
-        ≡ slots.old.items ++ marks_of (sent (take number bytes.now)) ++ byte_marks (slice_index bytes.now number) false) }
+        ≡ slots.old.items ++ marks_of (sent (take number bytes.now))
+        ++ byte_marks (slice_index bytes.now number) false) }
 {
     push_sent(slots, &bytes[..number])?;
     push_byte(slots, bytes[number], false)
@@ -142,7 +145,8 @@ fn push_rest(
 ) -> Result<(), AllocError>
     requires { IsGoodBlock message.now answer.now }
     ensures { OnOk result (slots.new.items ≡ slots.old.items
-        ++ marks_of (rest_of (has_repeat message.now.form) (is_none answer.now.refuse) message.now.address
+        ++ marks_of
+        (rest_of (has_repeat message.now.form) (is_none answer.now.refuse) message.now.address
         (returned_bytes message.now.form answer.now.value answer.now.bytes))) }
 {
     if has_repeat(message.form) {
@@ -164,10 +168,12 @@ fn push_frame(
     message: &Message,
     answer: &Answer,
 ) -> Result<(), AllocError>
-    requires numbered { IsNumbered answer.now.refuse (sent_count (whole message.now answer.now.value answer.now.bytes)) }
+    requires numbered { IsNumbered answer.now.refuse
+        (sent_count (whole message.now answer.now.value answer.now.bytes)) }
     requires counted { IsGoodBlock message.now answer.now }
     ensures { OnOk result (slots.new.items
-        ≡ slots.old.items ++ marks_sent message.now answer.now.refuse answer.now.value answer.now.bytes) }
+        ≡ slots.old.items
+        ++ marks_sent message.now answer.now.refuse answer.now.value answer.now.bytes) }
 {
     let first = first_bytes(alloc, message)?;
     match refused_among(answer.refuse, first.len()) {
@@ -233,8 +239,8 @@ fn is_good_block(form: Form, written: usize, returned: usize) -> bool
     }
 }
 
-/// The slots of a message under an answer: the whole frame, or its beginning up to the byte that the
-/// answer refuses, and then `End`. The holds of the answer aren't looked at.
+/// The slots of a message under an answer: the whole frame, or its beginning up to the byte that
+/// the answer refuses, and then `End`. The holds of the answer aren't looked at.
 ///
 /// BadData comes before BadBlock, and neither with want of memory.
 pub fn frame_slots(

@@ -1,13 +1,15 @@
 ghost use Rattle.std.specs.Prelude.{◌≡◌, ◌++◌, ◌∷◌, OnOk, IfOk, map, string_bytes};
 ghost use Rattle.std.specs.List.{flat_map};
-ghost use Rattle.smbus.specs.Text.{byte_word, bytes_words, repeated_words, segments_words, tail_words, bit_digit, spaced, text_of};
+ghost use Rattle.smbus.specs.Text.{byte_word, bytes_words, repeated_words, segments_words};
+ghost use Rattle.smbus.specs.Text.{tail_words, bit_digit, spaced, text_of};
 
 use crate::frame::{Frame, Segment};
 use std::alloc::{AllocError, Global};
 use texts::push_pair;
 
 fn push_byte(text: &mut String, byte: u8, acknowledged: bool) -> Result<(), AllocError>
-    ensures { OnOk result (string_bytes text.new ≡ string_bytes text.old ++ 32 ∷ byte_word (byte, acknowledged)) }
+    ensures { OnOk result
+        (string_bytes text.new ≡ string_bytes text.old ++ 32 ∷ byte_word (byte, acknowledged)) }
 {
     let mark = if acknowledged { 'A' } else { 'N' };
     text.push(' ')?;
@@ -16,7 +18,8 @@ fn push_byte(text: &mut String, byte: u8, acknowledged: bool) -> Result<(), Allo
 }
 
 fn push_bytes(text: &mut String, bytes: &[(u8, bool)]) -> Result<(), AllocError>
-    ensures { OnOk result (string_bytes text.new ≡ string_bytes text.old ++ spaced (bytes_words bytes.now)) }
+    ensures { OnOk result
+        (string_bytes text.new ≡ string_bytes text.old ++ spaced (bytes_words bytes.now)) }
 {
     for (byte, acknowledged) in bytes {
         push_byte(text, *byte, *acknowledged)?;
@@ -25,7 +28,8 @@ fn push_bytes(text: &mut String, bytes: &[(u8, bool)]) -> Result<(), AllocError>
 }
 
 fn push_repeated(text: &mut String, segments: &[Segment]) -> Result<(), AllocError>
-    ensures { OnOk result (string_bytes text.new ≡ string_bytes text.old ++ spaced (flat_map repeated_words segments.now)) }
+    ensures { OnOk result (string_bytes text.new
+        ≡ string_bytes text.old ++ spaced (flat_map repeated_words segments.now)) }
 {
     for segment in segments {
         text.push_str(" Sr")?;
@@ -35,7 +39,8 @@ fn push_repeated(text: &mut String, segments: &[Segment]) -> Result<(), AllocErr
 }
 
 fn push_segments(text: &mut String, segments: &[Segment]) -> Result<(), AllocError>
-    ensures { OnOk result (string_bytes text.new ≡ string_bytes text.old ++ spaced (segments_words segments.now)) }
+    ensures { OnOk result
+        (string_bytes text.new ≡ string_bytes text.old ++ spaced (segments_words segments.now)) }
 {
     if let [first, later @ ..] = segments {
         push_bytes(text, &first.bytes)?;
@@ -45,7 +50,8 @@ fn push_segments(text: &mut String, segments: &[Segment]) -> Result<(), AllocErr
 }
 
 fn push_bits(text: &mut String, bits: &[bool]) -> Result<(), AllocError>
-    ensures { OnOk result (string_bytes text.new ≡ string_bytes text.old ++ map bit_digit bits.now) }
+    ensures { OnOk result
+        (string_bytes text.new ≡ string_bytes text.old ++ map bit_digit bits.now) }
 {
     for bit in bits {
         text.push(if *bit { '1' } else { '0' })?;
@@ -54,7 +60,8 @@ fn push_bits(text: &mut String, bits: &[bool]) -> Result<(), AllocError>
 }
 
 fn push_tail(text: &mut String, tail: &[bool]) -> Result<(), AllocError>
-    ensures { OnOk result (string_bytes text.new ≡ string_bytes text.old ++ spaced (tail_words tail.now)) }
+    ensures { OnOk result
+        (string_bytes text.new ≡ string_bytes text.old ++ spaced (tail_words tail.now)) }
 {
     if tail.is_empty() {
         return Ok(());

@@ -3,8 +3,8 @@ ghost use Rattle.smbus.specs.FormWords.{form_named, carries_code};
 
 use crate::message::Form;
 
-/// The form of a word such as `writebyte`, as messages and board files have it: of each protocol to a
-/// target, and so not of the alert response.
+/// The form of a word such as `writebyte`, as messages and board files have it: of each protocol to
+/// a target, and so not of the alert response.
 #[tactic(auto, unfolding(crate::specs::FormWords::form_named))]
 pub fn form_named(word: &str) -> Option<Form>
     ensures value { result ≡ form_named word.now }

@@ -1,5 +1,7 @@
 -- The bytes of the targets that alert, target by target; the least of them is the wire's.
-use Rattle.std.proofs.Common.{◌≡◌, ◌≢◌, ◌≤◌, ◌<◌, ◌+◌, ◌⊎◌, inl, inr, ℕ, zero, suc, true, false, IsTrue, Option, Some, None, MatchOption, IfSome, List, [], ◌∷◌, map, filter, drop, slice_get, refl, sym, ap, ◌∙◌, min, arith}
+use Rattle.std.proofs.Common.{◌≡◌, ◌≢◌, ◌≤◌, ◌<◌, ◌+◌, ◌⊎◌, inl, inr, ℕ, zero, suc, true, false}
+use Rattle.std.proofs.Common.{IsTrue, Option, Some, None, MatchOption, IfSome, List, [], ◌∷◌, map}
+use Rattle.std.proofs.Common.{filter, drop, slice_get, refl, sym, ap, ◌∙◌, min, arith}
 use Rattle.std.specs.List.{enumerate_from, Contains, AllByRecursion}
 use Rattle.std.proofs.lemmas.List.Elements.{All-from_recursion, recursion_from_All}
 use Rattle.std.proofs.lemmas.Bool.{cases_Bool}
@@ -15,15 +17,21 @@ use Rattle.targets.specs.Least.{lesser, least_with}
 
 -- those of targets numbered from i on
 abbrev pub bytes_from : BusState → ℕ → List Target → List ℕ
-bytes_from s i ts = map (λ (t : ℕ × Target). address_byte t.1) (filter (λ (t : ℕ × Target). bit s.alerting t.0) (enumerate_from i ts))
+bytes_from s i ts =
+    map (λ (t : ℕ × Target). address_byte t.1)
+    (filter (λ (t : ℕ × Target). bit s.alerting t.0) (enumerate_from i ts))
 
-drop_suc : {X : Type 0} (xs : List X) (i : ℕ) (x : X) → Some x ≡ slice_get xs i → drop i xs ≡ x ∷ drop (suc i) xs
+drop_suc : {X : Type 0} (xs : List X) (i : ℕ) (x : X) → Some x ≡ slice_get xs i
+    → drop i xs ≡ x ∷ drop (suc i) xs
 drop_suc [] i x e = cc
 drop_suc (y ∷ xs) zero x e = let h : x ≡ y = cc in rw h refl
 drop_suc (y ∷ xs) (suc i) x e = drop_suc xs i x e
 
-pub drop_at : {X : Type 0} (xs : List X) (i : ℕ) (x : X) → Some x ≡ slice_get xs i → drop i xs ≡ x ∷ drop (i + 1) xs
-drop_at xs i x e = let n : suc i ≡ i + 1 = omega arith in drop_suc xs i x e ∙ ap (λ k. x ∷ drop k xs) n
+pub drop_at : {X : Type 0} (xs : List X) (i : ℕ) (x : X) → Some x ≡ slice_get xs i
+    → drop i xs ≡ x ∷ drop (i + 1) xs
+drop_at xs i x e =
+    let n : suc i ≡ i + 1 = omega arith in
+    drop_suc xs i x e ∙ ap (λ k. x ∷ drop k xs) n
 
 pub drop_none : {X : Type 0} (xs : List X) (i : ℕ) → None ≡ slice_get xs i → drop i xs ≡ []
 drop_none [] zero e = refl
@@ -31,24 +39,30 @@ drop_none [] (suc i) e = refl
 drop_none (y ∷ xs) zero e = cc
 drop_none (y ∷ xs) (suc i) e = drop_none xs i e
 
-pub sent_at : (s : BusState) (o : Option ℕ) (i : ℕ) (t : Target) (ts : List Target) → bit s.alerting i ≡ true
-    → least_with o (bytes_from s i (t ∷ ts)) ≡ least_with (Some (lesser o (address_byte t))) (bytes_from s (i + 1) ts)
+pub sent_at : (s : BusState) (o : Option ℕ) (i : ℕ) (t : Target) (ts : List Target)
+    → bit s.alerting i ≡ true
+    → least_with o (bytes_from s i (t ∷ ts))
+    ≡ least_with (Some (lesser o (address_byte t))) (bytes_from s (i + 1) ts)
 sent_at s o i t ts e = rw e refl
 
-pub quiet_at : (s : BusState) (o : Option ℕ) (i : ℕ) (t : Target) (ts : List Target) → bit s.alerting i ≡ false
+pub quiet_at : (s : BusState) (o : Option ℕ) (i : ℕ) (t : Target) (ts : List Target)
+    → bit s.alerting i ≡ false
     → least_with o (bytes_from s i (t ∷ ts)) ≡ least_with o (bytes_from s (i + 1) ts)
 quiet_at s o i t ts e = rw e refl
 
 -- the least of a byte and others is below all, and one of them
-least_from : (n : ℕ) (bs : List ℕ) (m : ℕ) → least_with (Some n) bs ≡ Some m → (m ≤ n) × AllByRecursion (λ b. m ≤ b) bs × ((m ≡ n) ⊎ Contains bs m)
+least_from : (n : ℕ) (bs : List ℕ) (m : ℕ) → least_with (Some n) bs ≡ Some m
+    → (m ≤ n) × AllByRecursion (λ b. m ≤ b) bs × ((m ≡ n) ⊎ Contains bs m)
 least_from n [] m e = let h : n ≡ m = cc in (omega arith, tt, inl (sym h))
 least_from n (b ∷ bs) m e =
     let r = least_from (min b n) bs m e in
     let le : m ≤ min b n = r.0 in
     (omega arith, (omega arith, r.1), from_rest b n bs m r.2)
   where
-    from_rest : (b n : ℕ) (bs : List ℕ) (m : ℕ) → (m ≡ min b n) ⊎ Contains bs m → (m ≡ n) ⊎ Contains (b ∷ bs) m
-    from_rest b n bs m (inl e) = elim (least_two b n m e) [ inl h ↦ inr (0, omega arith, sym h) | inr h ↦ inl h ]
+    from_rest : (b n : ℕ) (bs : List ℕ) (m : ℕ) → (m ≡ min b n) ⊎ Contains bs m
+        → (m ≡ n) ⊎ Contains (b ∷ bs) m
+    from_rest b n bs m (inl e) =
+        elim (least_two b n m e) [ inl h ↦ inr (0, omega arith, sym h) | inr h ↦ inl h ]
       where
         least_two : (b n m : ℕ) → m ≡ min b n → (m ≡ b) ⊎ (m ≡ n)
         least_two b n m e = grind arith
@@ -63,40 +77,58 @@ contained b bs m (inl e) = (0, omega arith, sym e)
 contained b bs m (inr h) = (suc h.0, omega arith, h.2)
 
 -- the wire carries the least
-least_is_wire : (bs : List ℕ) (o : Option ℕ) → AllByRecursion (λ b. b < 256) bs → o ≡ least_with None bs
+least_is_wire : (bs : List ℕ) (o : Option ℕ) → AllByRecursion (λ b. b < 256) bs
+    → o ≡ least_with None bs
     → MatchOption o (bs ≡ []) (λ byte. (bs ≢ []) × (byte ≡ wire_byte bs))
 least_is_wire [] None small e = refl
 least_is_wire [] (Some m) small e = cc
 least_is_wire (b ∷ bs) None small e = let s = some_least b bs in cc
 least_is_wire (b ∷ bs) (Some m) small e =
     let l = least_from b bs m (sym e) in
-    let le : AllByRecursion (λ c. m ≤ c) (b ∷ bs) = (l.0, l.1) in
-    (λ q. cc, (is_wire_byte (b ∷ bs) m (All-from_recursion (λ c. c < 256) (b ∷ bs) small) (All-from_recursion (λ c. m ≤ c) (b ∷ bs) le) (contained b bs m l.2)).0)
+    let le : AllByRecursion (λ c. m ≤ c) (b ∷ bs) = (l.0, l.1) in (
+      λ q. cc,
+      (is_wire_byte (b ∷ bs) m (All-from_recursion (λ c. c < 256) (b ∷ bs) small)
+          (All-from_recursion (λ c. m ≤ c) (b ∷ bs) le) (contained b bs m l.2)).0,
+    )
 
 pub small_address : (t : Target) → IsTarget t → t.address ≤ 127
-small_address t is = let a : IsTrue (is_target_address t.address) = is.address in grind (arith, nat_tests)
+small_address t is =
+    let a : IsTrue (is_target_address t.address) = is.address in
+    grind (arith, nat_tests)
 
-bytes_small : (s : BusState) (i : ℕ) (ts : List Target) → AllByRecursion IsTarget ts → AllByRecursion (λ b. b < 256) (bytes_from s i ts)
+bytes_small : (s : BusState) (i : ℕ) (ts : List Target) → AllByRecursion IsTarget ts
+    → AllByRecursion (λ b. b < 256) (bytes_from s i ts)
 bytes_small s i [] all = tt
 bytes_small s i (t ∷ ts) all =
     let a = small_address t all.0 in
-    elim (cases_Bool (bit s.alerting i)) [ inl e ↦ rw e (omega arith, bytes_small s (i + 1) ts all.1) | inr e ↦ rw e (bytes_small s (i + 1) ts all.1) ]
+    elim (cases_Bool (bit s.alerting i)) [
+      | inl e ↦ rw e (omega arith, bytes_small s (i + 1) ts all.1)
+      | inr e ↦ rw e (bytes_small s (i + 1) ts all.1)
+    ]
 
-pub wire_is_least : (b : Board) (s : BusState) (o : Option ℕ) → IsBoard b → o ≡ least_with None (bytes_from s 0 b.targets)
-    → MatchOption o (alert_bytes b s ≡ []) (λ byte. (alert_bytes b s ≢ []) × (byte ≡ wire_byte (alert_bytes b s)))
+pub wire_is_least : (b : Board) (s : BusState) (o : Option ℕ) → IsBoard b
+    → o ≡ least_with None (bytes_from s 0 b.targets)
+    → MatchOption o (alert_bytes b s ≡ [])
+    (λ byte. (alert_bytes b s ≢ []) × (byte ≡ wire_byte (alert_bytes b s)))
 unfolding alert_bytes
-wire_is_least b s o is e = least_is_wire _ o (bytes_small s 0 b.targets (recursion_from_All IsTarget b.targets is.targets)) e
+wire_is_least b s o is e =
+    least_is_wire _ o
+    (bytes_small s 0 b.targets (recursion_from_All IsTarget b.targets is.targets)) e
 
-least_is_sent : (bs : List ℕ) (o : Option ℕ) → o ≡ least_with None bs → IfSome o (λ byte. Contains bs byte)
+least_is_sent : (bs : List ℕ) (o : Option ℕ) → o ≡ least_with None bs
+    → IfSome o (λ byte. Contains bs byte)
 least_is_sent bs None e = tt
 least_is_sent [] (Some m) e = cc
 least_is_sent (b ∷ bs) (Some m) e = contained b bs m (least_from b bs m (sym e)).2
 
-pub wire_is_sent : (b : Board) (s : BusState) (o : Option ℕ) → o ≡ least_with None (bytes_from s 0 b.targets) → IfSome o (λ byte. Contains (alert_bytes b s) byte)
+pub wire_is_sent : (b : Board) (s : BusState) (o : Option ℕ)
+    → o ≡ least_with None (bytes_from s 0 b.targets)
+    → IfSome o (λ byte. Contains (alert_bytes b s) byte)
 unfolding alert_bytes
 wire_is_sent b s o e = least_is_sent _ o e
 
-least_small : (bs : List ℕ) (x : ℕ) (later : List ℕ) → bs ≡ x ∷ later → AllByRecursion (λ b. b < 256) bs → wire_byte bs < 65536
+least_small : (bs : List ℕ) (x : ℕ) (later : List ℕ) → bs ≡ x ∷ later
+    → AllByRecursion (λ b. b < 256) bs → wire_byte bs < 65536
 least_small [] x later e small = cc
 least_small (b ∷ bs) x later e small =
     let s = some_least b bs in
@@ -107,16 +139,23 @@ least_small (b ∷ bs) x later e small =
     let lt : b < 256 = small.0 in
     omega arith
 
-pub wire_small : (b : Board) (s : BusState) (x : ℕ) (later : List ℕ) → IsBoard b → alert_bytes b s ≡ x ∷ later → wire_byte (alert_bytes b s) < 65536
+pub wire_small : (b : Board) (s : BusState) (x : ℕ) (later : List ℕ) → IsBoard b
+    → alert_bytes b s ≡ x ∷ later → wire_byte (alert_bytes b s) < 65536
 unfolding alert_bytes
-wire_small b s x later is e = least_small _ x later e (bytes_small s 0 b.targets (recursion_from_All IsTarget b.targets is.targets))
+wire_small b s x later is e =
+    least_small _ x later e
+    (bytes_small s 0 b.targets (recursion_from_All IsTarget b.targets is.targets))
 
 below_all : (bs : List ℕ) (x m : ℕ) → AllByRecursion (λ b. m ≤ b) bs → Contains bs x → m ≤ x
 below_all [] x m all (k, lt, e) = absurd (omega arith)
-below_all (b ∷ bs) x m all (zero, lt, e) = let le : m ≤ b = all.0 in let same : b ≡ x = e in omega arith
+below_all (b ∷ bs) x m all (zero, lt, e) =
+    let le : m ≤ b = all.0 in
+    let same : b ≡ x = e in
+    omega arith
 below_all (b ∷ bs) x m all (suc k, lt, e) = below_all bs x m all.1 (k, omega arith, e)
 
-wire_among : (bs : List ℕ) (x : ℕ) → AllByRecursion (λ b. b < 256) bs → Contains bs x → (wire_byte bs ≤ x) × Contains bs (wire_byte bs)
+wire_among : (bs : List ℕ) (x : ℕ) → AllByRecursion (λ b. b < 256) bs → Contains bs x
+    → (wire_byte bs ≤ x) × Contains bs (wire_byte bs)
 wire_among [] x small c = absurd (omega (arith, c.1))
 wire_among (b ∷ bs) x small c =
     let s = some_least b bs in
@@ -126,6 +165,8 @@ wire_among (b ∷ bs) x small c =
     (omega arith, rw same at (contained b bs s.0 l.2))
 
 -- the wire's byte is one of those that are sent, and the least
-pub wire_lowest : (b : Board) (s : BusState) (x : ℕ) → IsBoard b → Contains (alert_bytes b s) x → (wire_byte (alert_bytes b s) ≤ x) × Contains (alert_bytes b s) (wire_byte (alert_bytes b s))
+pub wire_lowest : (b : Board) (s : BusState) (x : ℕ) → IsBoard b → Contains (alert_bytes b s) x
+    → (wire_byte (alert_bytes b s) ≤ x) × Contains (alert_bytes b s) (wire_byte (alert_bytes b s))
 unfolding alert_bytes
-wire_lowest b s x is c = wire_among _ x (bytes_small s 0 b.targets (recursion_from_All IsTarget b.targets is.targets)) c
+wire_lowest b s x is c =
+    wire_among _ x (bytes_small s 0 b.targets (recursion_from_All IsTarget b.targets is.targets)) c

@@ -8,14 +8,17 @@ use Rattle.targets.specs.States.{BusState}
 use Rattle.targets.specs.Effects.{StopsAlerting, AlertsAfter}
 
 -- the others go on, and some begin
-pub alerting_after : (b : Board) (s : BusState) (m : Option Asked) (a : Answered) (stops : Option ℕ) (kept joined : ℕ)
-    → IfSome stops (λ i. StopsAlerting b s m a i) → ((i : ℕ) → StopsAlerting b s m a i → stops ≡ Some i)
+pub alerting_after : (b : Board) (s : BusState) (m : Option Asked) (a : Answered) (stops : Option ℕ)
+    (kept joined : ℕ)
+    → IfSome stops (λ i. StopsAlerting b s m a i)
+    → ((i : ℕ) → StopsAlerting b s m a i → stops ≡ Some i)
     → ((i : ℕ) → IsTrue (bit kept i) ↔ (IsTrue (bit s.alerting i) × (stops ≢ Some i)))
     → ((i : ℕ) → IsTrue (bit joined i) ↔ (IsTrue (bit a.alerts i) ⊎ IsTrue (bit kept i)))
     → (i : ℕ) → IsTrue (bit joined i) ↔ AlertsAfter b s m a i
 alerting_after b s m a stops kept joined is only k j i = (from, to)
   where
-    some : (stops : Option ℕ) (i : ℕ) → IfSome stops (λ i. StopsAlerting b s m a i) → stops ≡ Some i → StopsAlerting b s m a i
+    some : (stops : Option ℕ) (i : ℕ) → IfSome stops (λ i. StopsAlerting b s m a i) → stops ≡ Some i
+        → StopsAlerting b s m a i
     some None i is e = cc
     some (Some n) i is e = let same : n ≡ i = cc in rw (← same) is
 

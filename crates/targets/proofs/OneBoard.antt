@@ -1,22 +1,38 @@
 -- A board with one target, to which a block process call may be sent.
-use Rattle.std.proofs.Common.{◌≡◌, ℕ, zero, suc, true, Some, [], ◌∷◌, slice_get, slice_index, codes, pos, rules, refl, arith, lit≤, lit<}
+use Rattle.std.proofs.Common.{◌≡◌, ℕ, zero, suc, true, Some, [], ◌∷◌, slice_get, slice_index, codes}
+use Rattle.std.proofs.Common.{pos, rules, refl, arith, lit≤, lit<}
 use Rattle.std.specs.List.{All, AllPairs, Contains}
 use Rattle.std.proofs.lemmas.List.Elements.{All-nil, All-from_recursion}
 use Rattle.smbus.specs.declared.message.Form.TheVariants as form
 use Rattle.smbus.specs.Asked.{Asked}
 use Rattle.pmbus_table.specs.Protect.{is_protection}
 use Rattle.board.specs.Boards.{Allow, Target, Rail, Board}
-use Rattle.board.specs.Valid.{IsEntry, IsTarget, IsRail, IsBoard, DifferInUse, DifferInPage, is_page_value, full_values, full_length}
+use Rattle.board.specs.Valid.{IsEntry, IsTarget, IsRail, IsBoard, DifferInUse, DifferInPage}
+use Rattle.board.specs.Valid.{is_page_value, full_values, full_length}
 use Rattle.targets.specs.States.{BusState, IsTargetAt, MayStart, IsStart}
 use Rattle.targets.specs.SomeAnswer.{IsMessage, SomeCase}
 use Rattle.targets.proofs.StateLawProofs.{starts_belong}
 
 -- a manufacturer command
 abbrev call : Allow
-call = record { form = form.BlockProcessCall; code = 0xD0; values = full_values form.BlockProcessCall; length = full_length }
+call = record {
+  form = form.BlockProcessCall;
+  code = 0xD0;
+  values = full_values form.BlockProcessCall;
+  length = full_length;
+}
 
 abbrev target : Target
-target = record { address = 0x40; pages = 1; exponent = pos 0; stretch = 0; alerts = true; start_pages = 0 ∷ []; start_protects = 0 ∷ []; allow = call ∷ [] }
+target = record {
+  address = 0x40;
+  pages = 1;
+  exponent = pos 0;
+  stretch = 0;
+  alerts = true;
+  start_pages = 0 ∷ [];
+  start_protects = 0 ∷ [];
+  allow = call ∷ [];
+}
 
 abbrev board : Board
 board = record { targets = target ∷ []; target_names = codes "a" ∷ []; rails = []; rail_names = [] }
@@ -82,7 +98,8 @@ is_board = record {
   apart_rail_names = λ i j d lt few. absurd (omega arith);
 }
 
-may_start : (i : ℕ) (t : Target) → IsTargetAt board i t → MayStart t (slice_index state.page i) (slice_index state.protect i)
+may_start : (i : ℕ) (t : Target) → IsTargetAt board i t
+    → MayStart t (slice_index state.page i) (slice_index state.protect i)
 may_start zero t at =
     let same : target ≡ t = cc in
     let zeros : Contains (0 ∷ []) 0 = (0, lit< tt, refl) in

@@ -1,6 +1,8 @@
--- The eight bits of a Write Byte's value went out exactly where neither address nor code was refused
--- and no slot up to the last of them was cut.
-use Rattle.std.proofs.Common.{◌≡◌, ◌≤◌, ◌<◌, ◌+◌, ◌*◌, ◌-◌, ◌↔◌, ◌&&◌, inl, inr, ℕ, zero, suc, nat_lt, Bool, true, false, not, IsTrue, Option, Some, None, List, [], ◌∷◌, ◌++◌, length, take, refl, sym, ap, ◌∙◌, lit≤, arith}
+-- The eight bits of a Write Byte's value went out exactly where neither address nor code was
+-- refused and no slot up to the last of them was cut.
+use Rattle.std.proofs.Common.{◌≡◌, ◌≤◌, ◌<◌, ◌+◌, ◌*◌, ◌-◌, ◌↔◌, ◌&&◌, inl, inr, ℕ, zero, suc}
+use Rattle.std.proofs.Common.{nat_lt, Bool, true, false, not, IsTrue, Option, Some, None, List, []}
+use Rattle.std.proofs.Common.{◌∷◌, ◌++◌, length, take, refl, sym, ap, ◌∙◌, lit≤, arith}
 use Rattle.std.proofs.lemmas.Bool.Decides.{nat_tests}
 use Rattle.std.proofs.lemmas.Bool.{cases_Bool, lt-ltb, ltb-true}
 use Rattle.std.proofs.Math.Seq.{take-append-add, take-append_seam}
@@ -26,18 +28,24 @@ abbrev pieces : ℕ → ℕ → ℕ → List Piece
 pieces address code value = Sent (2 * address) ∷ Sent code ∷ Sent value ∷ []
 
 abbrev slots : Option ℕ → ℕ → ℕ → ℕ → List Slot
-slots refuse address code value = marks_of (up_to_refused refuse (pieces address code value)) ++ End ∷ []
+slots refuse address code value =
+    marks_of (up_to_refused refuse (pieces address code value)) ++ End ∷ []
 
-frame_of : (m : Asked) (a : Answered) (value : ℕ) → m.form ≡ WriteByte → m.out ≡ value ∷ [] → slots_of m a ≡ slots a.refuse m.address m.code value
+frame_of : (m : Asked) (a : Answered) (value : ℕ) → m.form ≡ WriteByte → m.out ≡ value ∷ []
+    → slots_of m a ≡ slots a.refuse m.address m.code value
 frame_of m a value form content =
-    ap (λ f. marks_of (up_to_refused a.refuse (whole_of f m.address m.code m.out a.value a.bytes)) ++ End ∷ []) form
-    ∙ ap (λ o. marks_of (up_to_refused a.refuse (whole_of WriteByte m.address m.code o a.value a.bytes)) ++ End ∷ []) content
+    ap (λ f. marks_of (up_to_refused a.refuse (whole_of f m.address m.code m.out a.value a.bytes))
+    ++ End ∷ []) form
+    ∙ ap (λ o. marks_of (up_to_refused a.refuse
+    (whole_of WriteByte m.address m.code o a.value a.bytes)) ++ End ∷ []) content
 
 length_byte : (b : ℕ) (acknowledged : Bool) → length (byte_marks b acknowledged) ≡ 9
-length_byte b acknowledged = length-map (byte_bits (b, acknowledged)) Bit ∙ length-byte_bits (b, acknowledged)
+length_byte b acknowledged =
+    length-map (byte_bits (b, acknowledged)) Bit ∙ length-byte_bits (b, acknowledged)
 
 -- a byte's marks are its bits and the acknowledge
-byte_split : (b : ℕ) (acknowledged : Bool) → byte_marks b acknowledged ≡ bit_marks (bits_of 8 b) ++ Bit (not acknowledged) ∷ []
+byte_split : (b : ℕ) (acknowledged : Bool)
+    → byte_marks b acknowledged ≡ bit_marks (bits_of 8 b) ++ Bit (not acknowledged) ∷ []
 unfolding byte_bits
 byte_split b acknowledged = map-append Bit (bits_of 8 b) (not acknowledged ∷ [])
 
@@ -46,7 +54,9 @@ unfolding byte_bits
 length_front address code value = refl
 
 -- where address and code are accepted, the frame begins with the value's bits
-begins : (refuse : Option ℕ) (address code value : ℕ) → reaches_value refuse ≡ true → (later : List Slot) × (slots refuse address code value ≡ marks_to_value address code value ++ later)
+begins : (refuse : Option ℕ) (address code value : ℕ) → reaches_value refuse ≡ true
+    → (later : List Slot)
+    × (slots refuse address code value ≡ marks_to_value address code value ++ later)
 unfolding byte_bits
 begins None address code value e = (Bit false ∷ End ∷ [], refl)
 begins (Some zero) address code value e = cc
@@ -55,7 +65,8 @@ begins (Some (suc (suc zero))) address code value e = (Bit true ∷ End ∷ [], 
 begins (Some (suc (suc (suc n)))) address code value e = (Bit false ∷ End ∷ [], refl)
 
 -- where one of them is refused, there are fewer slots
-too_short : (refuse : Option ℕ) (address code value : ℕ) → reaches_value refuse ≡ false → length (slots refuse address code value) ≤ 19
+too_short : (refuse : Option ℕ) (address code value : ℕ) → reaches_value refuse ≡ false
+    → length (slots refuse address code value) ≤ 19
 unfolding byte_bits
 too_short None address code value e = cc
 too_short (Some zero) address code value e = lit≤ tt
@@ -66,7 +77,8 @@ too_short (Some (suc (suc n))) address code value e = absurd (more (suc (suc n))
     more n lt e = grind (arith, nat_tests)
 
 -- what goes out is no longer than the frame, and ends at the cut
-bounded : (all sent : List Slot) (cut : Option ℕ) → IsOut 0 all sent cut → 26 ≤ length sent → (26 ≤ length all) × (cuts_after_value cut ≡ true)
+bounded : (all sent : List Slot) (cut : Option ℕ) → IsOut 0 all sent cut → 26 ≤ length sent
+    → (26 ≤ length all) × (cuts_after_value cut ≡ true)
 bounded all sent None o le = let l = ap length o in (omega arith, refl)
 bounded all sent (Some c) o le =
     let l = ap length o.1 ∙ length-take (c - 0) all in
@@ -74,12 +86,17 @@ bounded all sent (Some c) o le =
     (omega arith, lt-ltb 25 c lt)
 
 -- where it goes on after the value's bits, they are its front
-front_of : (front later all sent : List Slot) (cut : Option ℕ) → length front ≡ 26 → all ≡ front ++ later → IsOut 0 all sent cut → cuts_after_value cut ≡ true → (rest : List Slot) × (sent ≡ front ++ rest)
+front_of : (front later all sent : List Slot) (cut : Option ℕ) → length front ≡ 26
+    → all ≡ front ++ later → IsOut 0 all sent cut → cuts_after_value cut ≡ true
+    → (rest : List Slot) × (sent ≡ front ++ rest)
 front_of front later all sent None l e o t = (later, o ∙ e)
 front_of front later all sent (Some c) l e o t =
     let lt : 25 < c = ltb-true 25 c t in
-    let n : c - 0 ≡ length front + (c - 26) = omega arith in
-    (take (c - 26) later, o.1 ∙ (ap (λ k. take k all) n ∙ (ap (take (length front + (c - 26))) e ∙ take-append-add front later (c - 26))))
+    let n : c - 0 ≡ length front + (c - 26) = omega arith in (
+      take (c - 26) later,
+      o.1 ∙ (ap (λ k. take k all) n
+          ∙ (ap (take (length front + (c - 26))) e ∙ take-append-add front later (c - 26))),
+    )
 
 and_both : (a b : Bool) → (a && b) ≡ true → (a ≡ true) × (b ≡ true)
 and_both true true e = (refl, refl)
@@ -103,12 +120,20 @@ value_out m a value form content = (went, reached)
     went t =
         let both = and_both (reaches_value a.refuse) (cuts_after_value (cut_of m a)) t in
         let b = begins a.refuse m.address m.code value both.0 in
-        let f = front_of (marks_to_value m.address m.code value) b.0 (slots_of m a) (slots_out m a) (cut_of m a) (length_front m.address m.code value) (frame ∙ b.1) goes both.1 in
-        record { count = length (marks_to_value m.address m.code value); front = sym (ap (take (length (marks_to_value m.address m.code value))) f.1 ∙ take-append_seam (marks_to_value m.address m.code value) f.0) }
+        let f = front_of (marks_to_value m.address m.code value) b.0 (slots_of m a) (slots_out m a)
+        (cut_of m a) (length_front m.address m.code value) (frame ∙ b.1) goes both.1 in
+        record {
+          count = length (marks_to_value m.address m.code value);
+          front =
+              sym (ap (take (length (marks_to_value m.address m.code value))) f.1
+              ∙ take-append_seam (marks_to_value m.address m.code value) f.0);
+        }
 
-    reached : ValueWentOut value m a → IsTrue (reaches_value a.refuse && cuts_after_value (cut_of m a))
+    reached : ValueWentOut value m a
+        → IsTrue (reaches_value a.refuse && cuts_after_value (cut_of m a))
     reached g =
-        let l = sym (length_front m.address m.code value) ∙ (ap length g.front ∙ length-take g.count (slots_out m a)) in
+        let l = sym (length_front m.address m.code value)
+        ∙ (ap length g.front ∙ length-take g.count (slots_out m a)) in
         let b = bounded (slots_of m a) (slots_out m a) (cut_of m a) goes (omega arith) in
         elim (cases_Bool (reaches_value a.refuse)) [
           | inl t ↦ rw (t, b.1) refl

@@ -9,20 +9,33 @@ use Rattle.targets.specs.Effects.{IsByteWrite, TakesEffect, IsPermitted, Writes}
 abbrev pub Test : Type 0
 Test = Target → ℕ → Bool
 
-pub writes : (code : ℕ) (is_value : Test) (b : Board) (s : BusState) (m : Asked) (a : Answered) (i value : ℕ) (t : Target)
-    → IsTargetAt b i t → IsByteWrite t.address code value m → is_value t value ≡ true → IsPermitted s i code × TakesEffect value m a
+pub writes : (code : ℕ) (is_value : Test) (b : Board) (s : BusState) (m : Asked) (a : Answered)
+    (i value : ℕ) (t : Target)
+    → IsTargetAt b i t → IsByteWrite t.address code value m → is_value t value ≡ true
+    → IsPermitted s i code × TakesEffect value m a
     → Writes code is_value b s (Some m) a i value
 writes code is_value b s m a i value t at w valid taken =
-    record { asked = m; sent = refl; target = t; at = at; is_write = w; valid = valid; permitted = taken.0; effective = taken.1 }
+    record {
+      asked = m;
+      sent = refl;
+      target = t;
+      at = at;
+      is_write = w;
+      valid = valid;
+      permitted = taken.0;
+      effective = taken.1;
+    }
 
-pub record Seen (code : ℕ) (is_value : Test) (b : Board) (s : BusState) (m : Asked) (a : Answered) (i value : ℕ) : Type 0 where
+pub record Seen (code : ℕ) (is_value : Test) (b : Board) (s : BusState) (m : Asked) (a : Answered)
+    (i value : ℕ) : Type 0 where
   pub target : Target
   pub at : IsTargetAt b i target
   pub is_write : IsByteWrite target.address code value m
   pub valid : is_value target value ≡ true
   pub taken : IsPermitted s i code × TakesEffect value m a
 
-pub seen : (code : ℕ) (is_value : Test) (b : Board) (s : BusState) (m : Asked) (a : Answered) (i value : ℕ)
+pub seen : (code : ℕ) (is_value : Test) (b : Board) (s : BusState) (m : Asked) (a : Answered)
+    (i value : ℕ)
     → Writes code is_value b s (Some m) a i value → Seen code is_value b s m a i value
 seen code is_value b s m a i value w =
     let same : m ≡ w.asked = cc in
@@ -35,21 +48,29 @@ seen code is_value b s m a i value w =
     }
 
 -- the only write to the target of index, which is t, of the value
-pub record IsOnly (code : ℕ) (b : Board) (m : Asked) (index : ℕ) (t : Target) (value : ℕ) : Type 0 where
+pub record IsOnly (code : ℕ) (b : Board) (m : Asked) (index : ℕ) (t : Target)
+    (value : ℕ) : Type 0 where
   pub at : IsTargetAt b index t
-  pub only : (i : ℕ) (u : Target) (v : ℕ) → IsTargetAt b i u → IsByteWrite u.address code v m → (i ≡ index) × (v ≡ value)
+  pub only : (i : ℕ) (u : Target) (v : ℕ) → IsTargetAt b i u → IsByteWrite u.address code v m
+      → (i ≡ index) × (v ≡ value)
 
-pub record Same (is_value : Test) (s : BusState) (code : ℕ) (m : Asked) (a : Answered) (index : ℕ) (t : Target) (value i v : ℕ) : Type 0 where
+pub record Same (is_value : Test) (s : BusState) (code : ℕ) (m : Asked) (a : Answered) (index : ℕ)
+    (t : Target) (value i v : ℕ) : Type 0 where
   pub place : i ≡ index
   pub number : v ≡ value
   pub valid : is_value t value ≡ true
   pub taken : IsPermitted s index code × TakesEffect value m a
 
-same_target : (b : Board) (i j : ℕ) (t u : Target) → i ≡ j → IsTargetAt b i t → IsTargetAt b j u → t ≡ u
-same_target b i j t u e ti uj = let h : Some t ≡ Some u = sym ti ∙ (ap (λ k. slice_get b.targets k) e ∙ uj) in cc
+same_target : (b : Board) (i j : ℕ) (t u : Target) → i ≡ j → IsTargetAt b i t → IsTargetAt b j u
+    → t ≡ u
+same_target b i j t u e ti uj =
+    let h : Some t ≡ Some u = sym ti ∙ (ap (λ k. slice_get b.targets k) e ∙ uj) in
+    cc
 
-pub is_same : (code : ℕ) (is_value : Test) (b : Board) (s : BusState) (m : Asked) (a : Answered) (index : ℕ) (t : Target) (value : ℕ)
-    → IsOnly code b m index t value → (i v : ℕ) → Writes code is_value b s (Some m) a i v → Same is_value s code m a index t value i v
+pub is_same : (code : ℕ) (is_value : Test) (b : Board) (s : BusState) (m : Asked) (a : Answered)
+    (index : ℕ) (t : Target) (value : ℕ)
+    → IsOnly code b m index t value → (i v : ℕ) → Writes code is_value b s (Some m) a i v
+    → Same is_value s code m a index t value i v
 is_same code is_value b s m a index t value o i v w =
     let x = seen code is_value b s m a i v w in
     let e = o.only i x.target v x.at x.is_write in

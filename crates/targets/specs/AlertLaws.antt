@@ -11,12 +11,15 @@ pub record SomeWinner (b : Board) (s : BusState) : Type 0 where
   pub wins : WinsAlert b s index
 
 abbrev pub SomeTargetWins : Type 0
-SomeTargetWins = (b : Board) (s : BusState) (i : ℕ) (t : Target) → IsBoard b → IsTargetAt b i t → Alerts s i → SomeWinner b s
+SomeTargetWins = (b : Board) (s : BusState) (i : ℕ) (t : Target) → IsBoard b → IsTargetAt b i t
+    → Alerts s i → SomeWinner b s
 
 -- no other one does
 abbrev pub OneTargetWins : Type 0
-OneTargetWins = (b : Board) (s : BusState) (i j : ℕ) → IsBoard b → WinsAlert b s i → WinsAlert b s j → i ≡ j
+OneTargetWins = (b : Board) (s : BusState) (i j : ℕ) → IsBoard b → WinsAlert b s i → WinsAlert b s j
+    → i ≡ j
 
 -- and its address is the lowest of those that alert
 abbrev pub LowestAddressWins : Type 0
-LowestAddressWins = (b : Board) (s : BusState) (i j : ℕ) (t u : Target) → IsBoard b → WinsAlert b s i → IsTargetAt b i t → IsTargetAt b j u → Alerts s j → t.address ≤ u.address
+LowestAddressWins = (b : Board) (s : BusState) (i j : ℕ) (t u : Target) → IsBoard b
+    → WinsAlert b s i → IsTargetAt b i t → IsTargetAt b j u → Alerts s j → t.address ≤ u.address

@@ -13,7 +13,9 @@ address_byte t = 2 * t.address
 
 -- what the targets that alert send
 unfoldable pub alert_bytes : Board → BusState → List ℕ
-alert_bytes b s = map (λ (t : ℕ × Target). address_byte t.1) (filter (λ (t : ℕ × Target). bit s.alerting t.0) (enumerate_from 0 b.targets))
+alert_bytes b s =
+    map (λ (t : ℕ × Target). address_byte t.1)
+    (filter (λ (t : ℕ × Target). bit s.alerting t.0) (enumerate_from 0 b.targets))
 
 -- the target sends what the wire carries
 pub record WinsAlert (b : Board) (s : BusState) (i : ℕ) : Type 0 where

@@ -18,7 +18,8 @@ bytes_up_to None sent returned = sent + returned
 bytes_up_to (Some n) sent returned = if nat_lt n sent then n + 1 else sent + returned
 
 abbrev pub byte_count : Asked → Answered → ℕ
-byte_count m a = bytes_up_to a.refuse (controller_count m) (length (returned_bytes m.form a.value a.bytes))
+byte_count m a =
+    bytes_up_to a.refuse (controller_count m) (length (returned_bytes m.form a.value a.bytes))
 
 -- nine for each byte, one for a repeated START if it goes out, and the STOP
 abbrev pub slots_for : ℕ → ℕ → ℕ → ℕ

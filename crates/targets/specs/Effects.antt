@@ -1,5 +1,7 @@
 -- What a message does to the targets.
-use Rattle.std.specs.Prelude.{◌≡◌, ◌<◌, ◌⊎◌, ◌↔◌, ℕ, Bool, true, not, List, [], ◌∷◌, ◌++◌, length, slice_get, slice_index, take_while, Option, Some, IsTrue, option_and_then}
+use Rattle.std.specs.Prelude.{◌≡◌, ◌<◌, ◌⊎◌, ◌↔◌, ℕ, Bool, true, not, List, [], ◌∷◌, ◌++◌, length}
+use Rattle.std.specs.Prelude.{slice_get, slice_index, take_while, Option, Some, IsTrue}
+use Rattle.std.specs.Prelude.{option_and_then}
 use Rattle.wires.specs.Bits.{bit, bits_of}
 use Rattle.bit_bus.specs.declared.plan.Slot.{Slot}
 use Rattle.bit_bus.specs.Planned.{slots_in}
@@ -29,26 +31,30 @@ pub record IsByteWrite (address code value : ℕ) (m : Asked) : Type 0 where
   pub command : m.code ≡ code
   pub content : m.out ≡ value ∷ []
 
--- its frame up to the last bit of the value: address and code, which were acknowledged, and eight bits
+-- its frame up to the last bit of the value: address and code, which were acknowledged, and eight
+-- bits
 abbrev pub marks_to_value : ℕ → ℕ → ℕ → List Slot
-marks_to_value address code value = marks_of (written address (code ∷ [])) ++ bit_marks (bits_of 8 value)
+marks_to_value address code value =
+    marks_of (written address (code ∷ [])) ++ bit_marks (bits_of 8 value)
 
 abbrev pub ValueWentOut : ℕ → Asked → Answered → Type 0
 ValueWentOut value m a = IsFrontOf (marks_to_value m.address m.code value) (slots_out m a)
 
--- A write of a value takes effect where it is done. Where the value went out and the frame isn't done,
--- the byte wasn't acknowledged, or the frame was cut in its acknowledge or in the STOP: the target
--- may have taken the value or not (this profile's).
+-- A write of a value takes effect where it is done. Where the value went out and the frame isn't
+-- done, the byte wasn't acknowledged, or the frame was cut in its acknowledge or in the STOP: the
+-- target may have taken the value or not (this profile's).
 abbrev pub TakesEffect : ℕ → Asked → Answered → Type 0
 TakesEffect value m a = IsDone m a ⊎ (ValueWentOut value m a × IsTrue a.took)
 
 -- what the target stores in WRITE_PROTECT permits a write of the code (PMBus 1.3 Part II, 11.1)
 abbrev pub IsPermitted : BusState → ℕ → ℕ → Type 0
-IsPermitted s i code = option_and_then (λ protect. permits protect code) (slice_get s.protect i) ≡ Some true
+IsPermitted s i code =
+    option_and_then (λ protect. permits protect code) (slice_get s.protect i) ≡ Some true
 
 -- the message writes a value to a command of target i, which is a value of the target's and is
 -- permitted, and the write takes effect
-pub record Writes (code : ℕ) (is_value : Target → ℕ → Bool) (b : Board) (s : BusState) (m : Option Asked) (a : Answered) (i value : ℕ) : Type 0 where
+pub record Writes (code : ℕ) (is_value : Target → ℕ → Bool) (b : Board) (s : BusState)
+    (m : Option Asked) (a : Answered) (i value : ℕ) : Type 0 where
   pub asked : Asked
   pub sent : m ≡ Some asked
   pub target : Target
@@ -69,7 +75,8 @@ abbrev pub IsStored : (ℕ → Type 0) → ℕ → ℕ → Type 0
 IsStored WritesIt before now = WritesIt now ⊎ (((value : ℕ) → WritesIt value → ⊥) × (now ≡ before))
 
 -- the target wins an alert response that is done, and stops alerting
-pub record StopsAlerting (b : Board) (s : BusState) (m : Option Asked) (a : Answered) (i : ℕ) : Type 0 where
+pub record StopsAlerting (b : Board) (s : BusState) (m : Option Asked) (a : Answered)
+    (i : ℕ) : Type 0 where
   pub asked : Asked
   pub sent : m ≡ Some asked
   pub is_response : asked.form ≡ Alert
@@ -81,9 +88,12 @@ abbrev pub AlertsAfter : Board → BusState → Option Asked → Answered → �
 AlertsAfter b s m a i = IsTrue (bit a.alerts i) ⊎ (Alerts s i × (StopsAlerting b s m a i → ⊥))
 
 -- the state after a message, or after a step that sends none, target by target
-pub record IsAfter (b : Board) (s : BusState) (m : Option Asked) (a : Answered) (new : BusState) : Type 0 where
+pub record IsAfter (b : Board) (s : BusState) (m : Option Asked) (a : Answered)
+    (new : BusState) : Type 0 where
   pub pages : length new.page ≡ length s.page
   pub protects : length new.protect ≡ length s.protect
-  pub page : (i : ℕ) → i < length s.page → IsStored (WritesPage b s m a i) (slice_index s.page i) (slice_index new.page i)
-  pub protect : (i : ℕ) → i < length s.protect → IsStored (WritesProtect b s m a i) (slice_index s.protect i) (slice_index new.protect i)
+  pub page : (i : ℕ) → i < length s.page
+      → IsStored (WritesPage b s m a i) (slice_index s.page i) (slice_index new.page i)
+  pub protect : (i : ℕ) → i < length s.protect
+      → IsStored (WritesProtect b s m a i) (slice_index s.protect i) (slice_index new.protect i)
   pub alerting : (i : ℕ) → Alerts new i ↔ AlertsAfter b s m a i

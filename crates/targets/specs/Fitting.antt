@@ -1,7 +1,11 @@
 -- Which answers the targets of a board may give.
-use Rattle.std.specs.Prelude.{◌≡◌, ◌≢◌, ◌≤◌, ◌+◌, ℕ, false, List, [], length, slice_get, Option, Some, None, unwrap_or, option_map, option_and_then, All}
+use Rattle.std.specs.Prelude.{◌≡◌, ◌≢◌, ◌≤◌, ◌+◌, ℕ, false, List, [], length, slice_get, Option}
+use Rattle.std.specs.Prelude.{Some, None, unwrap_or, option_map, option_and_then, All}
 use Rattle.smbus.specs.declared.message.Form.{Form}
-use Rattle.smbus.specs.declared.message.Form.TheVariants.{Quick, SendByte, ReceiveByte, WriteByte, WriteWord, ReadByte, ReadWord, ProcessCall, BlockWrite, BlockRead, BlockProcessCall, Alert}
+use Rattle.smbus.specs.declared.message.Form.TheVariants.{Quick, SendByte, ReceiveByte, WriteByte}
+use Rattle.smbus.specs.declared.message.Form.TheVariants.{WriteWord, ReadByte, ReadWord}
+use Rattle.smbus.specs.declared.message.Form.TheVariants.{ProcessCall, BlockWrite, BlockRead}
+use Rattle.smbus.specs.declared.message.Form.TheVariants.{BlockProcessCall, Alert}
 use Rattle.smbus.specs.Asked.{Asked}
 use Rattle.smbus.specs.Answered.{Answered}
 use Rattle.smbus.specs.Protocol.{whole, sent_count, IsNumbered}
@@ -40,7 +44,8 @@ lengths_for b m = unwrap_or (option_map (λ e. e.length) (entry_for b m)) full_l
 abbrev pub IsStoredBy : Board → List ℕ → Asked → ℕ → Type 0
 IsStoredBy b stored m value = option_and_then (slice_get stored) (place_of b m) ≡ Some value
 
--- a Read Byte: of PAGE and WRITE_PROTECT (PMBus 1.3 Part II, 11.10 and 11.1) it returns what is stored
+-- a Read Byte: of PAGE and WRITE_PROTECT (PMBus 1.3 Part II, 11.10 and 11.1) it returns what is
+-- stored
 pub record FitsRead (b : Board) (s : BusState) (m : Asked) (value : ℕ) : Type 0 where
   pub page : m.code ≡ page_code → IsStoredBy b s.page m value
   pub protect : m.code ≡ write_protect_code → IsStoredBy b s.protect m value

@@ -1,4 +1,5 @@
--- The least of some bytes. No public contract cites this: the wire's byte is that of the arbitration.
+-- The least of some bytes. No public contract cites this: the wire's byte is that of the
+-- arbitration.
 use Rattle.std.specs.Prelude.{ℕ, Option, Some, None, List, [], ◌∷◌, min}
 
 abbrev pub lesser : Option ℕ → ℕ → ℕ

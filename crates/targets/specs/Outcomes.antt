@@ -2,7 +2,9 @@
 use Rattle.std.specs.Prelude.{◌≡◌, ◌%◌, ℕ, List, Option, Some, None, slice_index}
 use Rattle.bit_bus.specs.Levels.{first_cut}
 use Rattle.smbus.specs.declared.message.Form.{Form}
-use Rattle.smbus.specs.declared.message.Form.TheVariants.{ReceiveByte, ReadByte, ReadWord, ProcessCall, BlockRead, BlockProcessCall, Alert}
+use Rattle.smbus.specs.declared.message.Form.TheVariants.{ReceiveByte, ReadByte, ReadWord}
+use Rattle.smbus.specs.declared.message.Form.TheVariants.{ProcessCall, BlockRead, BlockProcessCall}
+use Rattle.smbus.specs.declared.message.Form.TheVariants.{Alert}
 use Rattle.smbus.specs.Asked.{Asked}
 use Rattle.smbus.specs.Answered.{Answered}
 use Rattle.smbus.specs.Slots.{plan_of}

@@ -9,8 +9,8 @@ use Rattle.board.specs.Valid.{IsBoard}
 use Rattle.targets.specs.States.{BusState, IsStart, Belongs}
 use Rattle.targets.specs.Fitting.{place_of, lengths_for, FitsStep}
 
--- An alert response, or a message to a target of the board, whose block leaves room for the shortest one
--- that the target may return: both have at most 255 bytes together.
+-- An alert response, or a message to a target of the board, whose block leaves room for the
+-- shortest one that the target may return: both have at most 255 bytes together.
 pub record IsMessage (b : Board) (m : Asked) : Type 0 where
   pub goes : m.form ≢ Alert → IsSome (place_of b m)
   pub counts : AreGoodCounts m.form (length m.out) (lengths_for b m).low
@@ -30,7 +30,8 @@ pub record HasAnswer (b : Board) (s : BusState) (m : Option Asked) : Type 0 wher
 
 -- to every message, in every state of the board
 abbrev pub MessagesHaveAnswers : Type 0
-MessagesHaveAnswers = (b : Board) (s : BusState) (m : Asked) → IsBoard b → Belongs b s → IsMessage b m → HasAnswer b s (Some m)
+MessagesHaveAnswers = (b : Board) (s : BusState) (m : Asked) → IsBoard b → Belongs b s
+    → IsMessage b m → HasAnswer b s (Some m)
 
 -- and to a step that sends nothing
 abbrev pub SilenceHasAnswers : Type 0

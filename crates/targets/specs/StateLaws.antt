@@ -14,4 +14,5 @@ StartsBelong = (b : Board) (s : BusState) → IsBoard b → IsStart b s → Belo
 
 -- and so does the state after an answer that fits
 abbrev pub StepsBelong : Type 0
-StepsBelong = (b : Board) (s new : BusState) (m : Option Asked) (a : Answered) → Belongs b s → FitsStep b s m a → IsAfter b s m a new → Belongs b new
+StepsBelong = (b : Board) (s new : BusState) (m : Option Asked) (a : Answered) → Belongs b s
+    → FitsStep b s m a → IsAfter b s m a new → Belongs b new

@@ -1,5 +1,6 @@
 -- What the targets of a board keep between two messages.
-use Rattle.std.specs.Prelude.{◌≡◌, ◌<◌, ℕ, List, length, slice_get, slice_index, Some, IsTrue, Contains}
+use Rattle.std.specs.Prelude.{◌≡◌, ◌<◌, ℕ, List, length, slice_get, slice_index, Some, IsTrue}
+use Rattle.std.specs.Prelude.{Contains}
 use Rattle.wires.specs.Bits.{bit}
 use Rattle.pmbus_table.specs.Protect.{is_protection}
 use Rattle.board.specs.Boards.{Target, Board}
@@ -28,10 +29,12 @@ pub record MayStart (t : Target) (page protect : ℕ) : Type 0 where
 pub record IsStart (b : Board) (s : BusState) : Type 0 where
   pub pages : length s.page ≡ length b.targets
   pub protects : length s.protect ≡ length b.targets
-  pub targets : (i : ℕ) (t : Target) → IsTargetAt b i t → MayStart t (slice_index s.page i) (slice_index s.protect i)
+  pub targets : (i : ℕ) (t : Target) → IsTargetAt b i t
+      → MayStart t (slice_index s.page i) (slice_index s.protect i)
   pub quiet : s.alerting ≡ 0
 
--- a target may store these: a PAGE that it has (PMBus 1.3 Part II, 11.10) and a valid WRITE_PROTECT (11.1)
+-- a target may store these: a PAGE that it has (PMBus 1.3 Part II, 11.10) and a valid WRITE_PROTECT
+-- (11.1)
 pub record MayStore (t : Target) (page protect : ℕ) : Type 0 where
   pub page_valid : IsTrue (is_page_value t.pages page)
   pub protect_valid : IsTrue (is_protection protect)
@@ -40,5 +43,6 @@ pub record MayStore (t : Target) (page protect : ℕ) : Type 0 where
 pub record Belongs (b : Board) (s : BusState) : Type 0 where
   pub pages : length s.page ≡ length b.targets
   pub protects : length s.protect ≡ length b.targets
-  pub targets : (i : ℕ) (t : Target) → IsTargetAt b i t → MayStore t (slice_index s.page i) (slice_index s.protect i)
+  pub targets : (i : ℕ) (t : Target) → IsTargetAt b i t
+      → MayStore t (slice_index s.page i) (slice_index s.protect i)
   pub alerting : (i : ℕ) → Alerts s i → i < length b.targets

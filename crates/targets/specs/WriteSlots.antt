@@ -1,5 +1,6 @@
--- The slots of a Write Byte by their numbers, as the code looks at them: address and code are bytes 0
--- and 1, the value is in slots 18 to 25, and its acknowledge is slot 26. No public contract cites this.
+-- The slots of a Write Byte by their numbers, as the code looks at them: address and code are bytes
+-- 0 and 1, the value is in slots 18 to 25, and its acknowledge is slot 26. No public contract cites
+-- this.
 use Rattle.std.specs.Prelude.{ℕ, nat_lt, Bool, true, Option, Some, None}
 
 -- neither the address nor the code is refused

@@ -1,4 +1,5 @@
-ghost use Rattle.std.specs.Prelude.{◌≡◌, ◌≢◌, ◌<◌, ◌↔◌, ℕ, [], Some, Contains, IfSome, IsTrue, MatchOption};
+ghost use Rattle.std.specs.Prelude.{◌≡◌, ◌≢◌, ◌<◌, ◌↔◌, ℕ, [], Some, Contains, IfSome, IsTrue};
+ghost use Rattle.std.specs.Prelude.{MatchOption};
 ghost use Rattle.wires.specs.Bits.{bit};
 ghost use Rattle.wires.specs.Arbitration.{wire_byte};
 ghost use Rattle.board.specs.Valid.{IsBoard};
@@ -49,7 +50,8 @@ fn lesser(known: Option<u8>, byte: u8) -> u8
 /// The byte that the wire carries in an alert response, if any target alerts.
 pub(crate) fn alert_byte(board: &Board, state: &BusState) -> Option<u8>
     ensures byte { MatchOption result (alert_bytes board.now state.now ≡ [])
-        (λ byte. (alert_bytes board.now state.now ≢ []) × (byte ≡ wire_byte (alert_bytes board.now state.now))) }
+        (λ byte. (alert_bytes board.now state.now ≢ [])
+        × (byte ≡ wire_byte (alert_bytes board.now state.now))) }
     ensures sent { IfSome result (λ byte. Contains (alert_bytes board.now state.now) byte) }
     ensures board { IsBoard board.now }
 {

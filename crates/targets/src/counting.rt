@@ -50,7 +50,8 @@ fn returned_count(message: &Message, answer: &Answer) -> usize
 #[tactic(auto, using(crate::proofs::SlotCounts::controller_count_sent))]
 pub(crate) fn controller_count(message: &Message) -> usize
     ensures count { result ≡ controller_count message.now }
-    ensures sent { (value : ℕ) (block : List ℕ) → sent_count (whole message.now value block) ≡ result }
+    ensures sent { (value : ℕ) (block : List ℕ)
+        → sent_count (whole message.now value block) ≡ result }
 {
     first_count(message) + repeat_count(message.form)
 }

@@ -1,13 +1,15 @@
 //! What a message does to PAGE and WRITE_PROTECT of the target that it goes to.
 
-ghost use Rattle.std.specs.Prelude.{◌≡◌, ◌↔◌, ◌&&◌, ℕ, ◌∷◌, [], Some, IfSome, IfNone, IsTrue, option_map};
+ghost use Rattle.std.specs.Prelude.{◌≡◌, ◌↔◌, ◌&&◌, ℕ, ◌∷◌, [], Some, IfSome, IfNone, IsTrue};
+ghost use Rattle.std.specs.Prelude.{option_map};
 ghost use Rattle.board.specs.Boards.{Target};
 ghost use Rattle.pmbus_table.specs.Protect.{is_protection};
 ghost use Rattle.board.specs.Valid.{IsBoard, is_page_value};
 ghost use Rattle.targets.specs.States.{IsTargetAt};
 ghost use Rattle.targets.specs.Outcomes.{IsDone, cut_of};
 ghost use Rattle.targets.specs.WriteSlots.{reaches_value, cuts_after_value};
-ghost use Rattle.targets.specs.Effects.{IsByteWrite, ValueWentOut, TakesEffect, IsPermitted, WritesPage, WritesProtect};
+ghost use Rattle.targets.specs.Effects.{IsByteWrite, ValueWentOut, TakesEffect, IsPermitted};
+ghost use Rattle.targets.specs.Effects.{WritesPage, WritesProtect};
 
 use crate::outcome::cut_of;
 use crate::state::BusState;
@@ -23,8 +25,8 @@ pub(crate) fn is_done(message: &Message, answer: &Answer) -> bool
     answer.refuse.is_none() && cut_of(message, answer).is_none()
 }
 
-/// The last slot of a Write Byte's value: address and code have nine slots each, and the value eight
-/// before its acknowledge.
+/// The last slot of a Write Byte's value: address and code have nine slots each, and the value
+/// eight before its acknowledge.
 const LAST_VALUE_SLOT: usize = 25;
 
 fn reaches_value(refuse: Option<u16>) -> bool
@@ -47,7 +49,8 @@ fn cuts_after_value(cut: Option<usize>) -> bool
 
 /// Whether a frame goes on past the slots of a Write Byte's value.
 fn goes_past_value(message: &Message, answer: &Answer) -> bool
-    ensures { result ≡ (reaches_value answer.now.refuse && cuts_after_value (cut_of message.now answer.now)) }
+    ensures { result
+        ≡ (reaches_value answer.now.refuse && cuts_after_value (cut_of message.now answer.now)) }
 {
     reaches_value(answer.refuse) && cuts_after_value(cut_of(message, answer))
 }
@@ -71,7 +74,8 @@ fn takes_effect(message: &Message, answer: &Answer) -> bool
 /// The value that a message writes to a command by a Write Byte.
 fn written_byte(message: &Message, code: u8) -> Option<u8>
     ensures some { IfSome result (λ value. IsByteWrite message.now.address code value message.now) }
-    ensures none { IfNone result ((address value : ℕ) → IsByteWrite address code value message.now → ⊥) }
+    ensures none { IfNone result
+        ((address value : ℕ) → IsByteWrite address code value message.now → ⊥) }
 {
     match (message.form, message.out.as_slice()) {
         (Form::WriteByte, [value]) if message.code == code => Some(*value),
@@ -90,10 +94,12 @@ fn is_permitted(state: &BusState, index: usize, code: u8) -> bool
 
 /// The target of an address, and its index.
 fn target_at(board: &Board, address: u8) -> Option<(usize, &Target)>
-    ensures some { IfSome result (λ found. IsTargetAt board.now found.0 found.1.now × (found.1.now.address ≡ address)) }
+    ensures some { IfSome result
+        (λ found. IsTargetAt board.now found.0 found.1.now × (found.1.now.address ≡ address)) }
     ensures only { IfSome result (λ found. IsBoard board.now
         → (i : ℕ) (t : Target) → IsTargetAt board.now i t → t.address ≡ address → i ≡ found.0) }
-    ensures none { IfNone result ((i : ℕ) (t : Target) → IsTargetAt board.now i t → t.address ≡ address → ⊥) }
+    ensures none { IfNone result
+        ((i : ℕ) (t : Target) → IsTargetAt board.now i t → t.address ≡ address → ⊥) }
 {
     let index = board.target_at(address)?;
     let target = board.target(index)?;
@@ -102,8 +108,10 @@ fn target_at(board: &Board, address: u8) -> Option<(usize, &Target)>
 
 /// The index and the target that a message writes a command of, and the value.
 fn write_to<'a>(board: &'a Board, message: &Message, code: u8) -> Option<(usize, &'a Target, u8)>
-    ensures some { IfSome result (λ w. IsTargetAt board.now w.0 w.1.now × IsByteWrite w.1.now.address code w.2 message.now) }
-    ensures only { IfSome result (λ w. IsBoard board.now → (i : ℕ) (t : Target) (value : ℕ) → IsTargetAt board.now i t
+    ensures some { IfSome result
+        (λ w. IsTargetAt board.now w.0 w.1.now × IsByteWrite w.1.now.address code w.2 message.now) }
+    ensures only { IfSome result
+        (λ w. IsBoard board.now → (i : ℕ) (t : Target) (value : ℕ) → IsTargetAt board.now i t
         → IsByteWrite t.address code value message.now → (i ≡ w.0) × (value ≡ w.2)) }
     ensures none { IfNone result ((i : ℕ) (t : Target) (value : ℕ) → IsTargetAt board.now i t
         → IsByteWrite t.address code value message.now → ⊥) }
@@ -128,7 +136,8 @@ fn is_protection(value: u8) -> bool
 /// Whether the target of an index permits a write of a code, and the write takes effect.
 fn is_taken(state: &BusState, index: usize, code: u8, message: &Message, answer: &Answer) -> bool
     ensures { (address value : ℕ) → IsByteWrite address code value message.now
-        → IsTrue result ↔ (IsPermitted state.now index code × TakesEffect value message.now answer.now) }
+        → IsTrue result
+        ↔ (IsPermitted state.now index code × TakesEffect value message.now answer.now) }
 {
     is_permitted(state, index, code) && takes_effect(message, answer)
 }
@@ -140,8 +149,10 @@ fn page_write_of(
     message: &Message,
     answer: &Answer,
 ) -> Option<(usize, u8)>
-    ensures some { IfSome result (λ w. WritesPage board.now state.now (Some message.now) answer.now w.0 w.1) }
-    ensures only { IsBoard board.now → (i value : ℕ) → WritesPage board.now state.now (Some message.now) answer.now i value
+    ensures some { IfSome result
+        (λ w. WritesPage board.now state.now (Some message.now) answer.now w.0 w.1) }
+    ensures only { IsBoard board.now → (i value : ℕ)
+        → WritesPage board.now state.now (Some message.now) answer.now i value
         → result ≡ Some (i, value) }
 {
     let (index, target, value) = write_to(board, message, PAGE)?;
@@ -160,8 +171,10 @@ fn protect_write_of(
     message: &Message,
     answer: &Answer,
 ) -> Option<(usize, u8)>
-    ensures some { IfSome result (λ w. WritesProtect board.now state.now (Some message.now) answer.now w.0 w.1) }
-    ensures only { IsBoard board.now → (i value : ℕ) → WritesProtect board.now state.now (Some message.now) answer.now i value
+    ensures some { IfSome result
+        (λ w. WritesProtect board.now state.now (Some message.now) answer.now w.0 w.1) }
+    ensures only { IsBoard board.now → (i value : ℕ)
+        → WritesProtect board.now state.now (Some message.now) answer.now i value
         → result ≡ Some (i, value) }
 {
     let (index, _, value) = write_to(board, message, WRITE_PROTECT)?;
@@ -199,9 +212,11 @@ pub(crate) fn protect_write(
     answer: &Answer,
 ) -> Option<(usize, u8)>
     ensures some { IfSome result (λ w.
-        WritesProtect board.now state.now (option_map (λ m. m.now) message.entry) answer.now w.0 w.1) }
+        WritesProtect board.now state.now
+        (option_map (λ m. m.now) message.entry) answer.now w.0 w.1) }
     ensures only { IsBoard board.now → (i value : ℕ)
-        → WritesProtect board.now state.now (option_map (λ m. m.now) message.entry) answer.now i value
+        → WritesProtect board.now state.now
+        (option_map (λ m. m.now) message.entry) answer.now i value
         → result ≡ Some (i, value) }
 {
     match message {

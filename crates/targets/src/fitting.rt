@@ -3,7 +3,9 @@ ghost use Rattle.smbus.specs.Protocol.{sent_count, whole, IsNumbered};
 ghost use Rattle.smbus.specs.Slots.{slots_of};
 ghost use Rattle.board.specs.Boards.{largest_stretch};
 ghost use Rattle.board.specs.Valid.{full_values, full_length};
-ghost use Rattle.targets.specs.Fitting.{IsIn, entry_for, values_for, lengths_for, place_of, target_of, IsStoredBy, FitsRead, FitsBlock, FitsAlert, ReadsNothing, FitsForm, Fits, FitsSilence, FitsStep};
+ghost use Rattle.targets.specs.Fitting.{IsIn, entry_for, values_for, lengths_for, place_of};
+ghost use Rattle.targets.specs.Fitting.{target_of, IsStoredBy, FitsRead, FitsBlock, FitsAlert};
+ghost use Rattle.targets.specs.Fitting.{ReadsNothing, FitsForm, Fits, FitsSilence, FitsStep};
 
 use crate::alerting::{alert_byte, may_all_alert};
 use crate::counting::{controller_count, slot_count};
@@ -170,10 +172,11 @@ fn fits_silence(board: &Board, answer: &Answer) -> bool
         && !answer.took
 }
 
-/// Whether the targets of a board may give an answer to a message in a state, or to a step that sends
-/// nothing. Takes no memory.
+/// Whether the targets of a board may give an answer to a message in a state, or to a step that
+/// sends nothing. Takes no memory.
 pub fn fits(board: &Board, state: &BusState, message: Option<&Message>, answer: &Answer) -> bool
-    ensures { IsTrue result ↔ FitsStep board.now state.now (option_map (λ m. m.now) message.entry) answer.now }
+    ensures { IsTrue result
+        ↔ FitsStep board.now state.now (option_map (λ m. m.now) message.entry) answer.now }
 {
     match message {
         Some(message) => fits_message(board, state, message, answer),

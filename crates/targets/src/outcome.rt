@@ -34,7 +34,8 @@ fn first_cut_in(holds: &[u16]) -> Option<usize>
 
 /// The first slot that is cut, of as many slots.
 fn first_cut_of(slot_count: usize, holds: &[u16]) -> Option<usize>
-    ensures first { result ≡ position_from is_cut 0 (take (min slot_count (length holds.now)) holds.now) }
+    ensures first { result
+        ≡ position_from is_cut 0 (take (min slot_count (length holds.now)) holds.now) }
     ensures few { length holds.now < 2 ^ 64 }
 {
     first_cut_in(&holds[..slot_count.min(holds.len())])
@@ -62,7 +63,8 @@ fn returned_by(form: Form, answer: &Answer) -> u16
     }
 }
 
-/// How a message ends: timed out where a slot is cut, else not acknowledged where a byte is refused.
+/// How a message ends: timed out where a slot is cut, else not acknowledged where a byte is
+/// refused.
 pub(crate) fn outcome_of(message: Option<&Message>, answer: &Answer) -> Outcome
     ensures { result ≡ outcome_of (option_map (λ m. m.now) message.entry) answer.now }
 {

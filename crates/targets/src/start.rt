@@ -34,8 +34,8 @@ fn each_may_start(board: &Board, state: &BusState) -> bool
     true
 }
 
-/// Whether a run on the board may start in a state: each target has a start value of PAGE and one of
-/// WRITE_PROTECT, and none alerts.
+/// Whether a run on the board may start in a state: each target has a start value of PAGE and one
+/// of WRITE_PROTECT, and none alerts.
 pub fn starts(board: &Board, state: &BusState) -> bool
     ensures { IsTrue result ↔ IsStart board.now state.now }
 {

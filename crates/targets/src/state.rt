@@ -16,5 +16,9 @@ impl Model for BusState {
 
     ghost Value = { BusState };
 
-    ghost view = { λ s. record { page = s.page.items; protect = s.protect.items; alerting = s.alerting } };
+    ghost view = { λ s. record {
+      page = s.page.items;
+      protect = s.protect.items;
+      alerting = s.alerting;
+    } };
 }

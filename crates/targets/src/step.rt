@@ -1,4 +1,5 @@
-ghost use Rattle.std.specs.Prelude.{◌≡◌, ◌≢◌, ◌<◌, ◌⊎◌, ◌↔◌, ℕ, false, Some, IfOk, IfSome, IsTrue, option_map};
+ghost use Rattle.std.specs.Prelude.{◌≡◌, ◌≢◌, ◌<◌, ◌⊎◌, ◌↔◌, ℕ, false, Some, IfOk, IfSome, IsTrue};
+ghost use Rattle.std.specs.Prelude.{option_map};
 ghost use Rattle.wires.specs.Bits.{bit};
 ghost use Rattle.board.specs.Valid.{IsBoard};
 ghost use Rattle.targets.specs.Outcomes.{outcome_of};
@@ -65,8 +66,10 @@ fn stops_alerting(
     answer: &Answer,
 ) -> Option<usize>
     ensures some { IfSome result (λ index.
-        StopsAlerting board.now state.now (option_map (λ m. m.now) message.entry) answer.now index) }
-    ensures only { (i : ℕ) → StopsAlerting board.now state.now (option_map (λ m. m.now) message.entry) answer.now i
+        StopsAlerting board.now state.now
+        (option_map (λ m. m.now) message.entry) answer.now index) }
+    ensures only { (i : ℕ)
+        → StopsAlerting board.now state.now (option_map (λ m. m.now) message.entry) answer.now i
         → result ≡ Some i }
     ensures few { IfSome result (λ index. index < 16) }
     ensures board { IsBoard board.now }
@@ -78,8 +81,8 @@ fn stops_alerting(
     }
 }
 
-/// The state and the outcome after a message and an answer of the targets, or after a step that sends
-/// nothing. Fails only for want of memory.
+/// The state and the outcome after a message and an answer of the targets, or after a step that
+/// sends nothing. Fails only for want of memory.
 pub fn after(
     alloc: Global,
     board: &Board,
@@ -89,7 +92,8 @@ pub fn after(
 ) -> Result<(BusState, Outcome), AllocError>
     ensures state { IfOk result (λ r.
         IsAfter board.now state.now (option_map (λ m. m.now) message.entry) answer.now r.0) }
-    ensures outcome { IfOk result (λ r. r.1 ≡ outcome_of (option_map (λ m. m.now) message.entry) answer.now) }
+    ensures outcome { IfOk result
+        (λ r. r.1 ≡ outcome_of (option_map (λ m. m.now) message.entry) answer.now) }
 {
     let stops = stops_alerting(board, state, message, answer);
     let page_write = page_write(board, state, message, answer);

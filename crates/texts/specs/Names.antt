@@ -1,5 +1,6 @@
 -- Names of targets, rails and labels.
-use Rattle.std.specs.Prelude.{◌≤◌, ◌<◌, ℕ, List, length, slice_index, Bool, ◌&&◌, ◌||◌, nat_le, nat_lt, ◌==◌, IsTrue}
+use Rattle.std.specs.Prelude.{◌≤◌, ◌<◌, ℕ, List, length, slice_index, Bool, ◌&&◌, ◌||◌, nat_le}
+use Rattle.std.specs.Prelude.{nat_lt, ◌==◌, IsTrue}
 use Rattle.std.specs.List.{list_all, AllPass}
 
 -- a to z

@@ -1,8 +1,10 @@
-ghost use Rattle.std.specs.Prelude.{◌≡◌, ◌<◌, ◌≤◌, ◌+◌, ◌++◌, ℕ, List, [], ◌∷◌, All, IsTrue, IsOk, IfOk, OnOk, OnErr, IfSome, Some, option_map};
+ghost use Rattle.std.specs.Prelude.{◌≡◌, ◌<◌, ◌≤◌, ◌+◌, ◌++◌, ℕ, List, [], ◌∷◌, All, IsTrue, IsOk};
+ghost use Rattle.std.specs.Prelude.{IfOk, OnOk, OnErr, IfSome, Some, option_map};
 ghost use Rattle.std.specs.Prelude.{string_bytes, string_len, string_capacity};
 ghost use Rattle.std.specs.List.{list_all};
 ghost use Rattle.std.specs.Char.{digit_value};
-ghost use Rattle.texts.specs.Hex.{is_digit, digit_of, pair_of, pair_text, pairs_of, pairs_text, hex_number, word_text};
+ghost use Rattle.texts.specs.Hex.{is_digit, digit_of, pair_of, pair_text, pairs_of, pairs_text};
+ghost use Rattle.texts.specs.Hex.{hex_number, word_text};
 
 use std::alloc::{AllocError, Global};
 

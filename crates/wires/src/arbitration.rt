@@ -1,16 +1,19 @@
-ghost use Rattle.std.specs.Prelude.{◌≡◌, ◌≤◌, ◌↔◌, IfOk, IfSome, IsNone, MatchOption, [], All, Contains};
+ghost use Rattle.std.specs.Prelude.{◌≡◌, ◌≤◌, ◌↔◌, IfOk, IfSome, IsNone, MatchOption, [], All};
+ghost use Rattle.std.specs.Prelude.{Contains};
 ghost use Rattle.wires.specs.Arbitration.{wire_byte, winners_of};
 
 use std::alloc::{AllocError, Global};
 
 fn least_of(sent: &[u8]) -> Option<u8>
-    ensures { MatchOption result (sent.now ≡ []) (λ least. Contains sent.now least × All (λ byte. least ≤ byte) sent.now) }
+    ensures { MatchOption result (sent.now ≡ [])
+        (λ least. Contains sent.now least × All (λ byte. least ≤ byte) sent.now) }
 {
     sent.iter().copied().min()
 }
 
-/// The byte on the wire when these bytes are sent together, and the indexes of the senders that win the
-/// arbitration, ascending; None where nobody sends (UM10204, 3.1.8). Fails only for want of memory.
+/// The byte on the wire when these bytes are sent together, and the indexes of the senders that win
+/// the arbitration, ascending; None where nobody sends (UM10204, 3.1.8). Fails only for want of
+/// memory.
 pub fn arbitrate(alloc: Global, sent: &[u8]) -> Result<Option<(u8, Vec<usize>)>, AllocError>
     ensures none { IfOk result (λ won. IsNone won ↔ (sent.now ≡ [])) }
     // Bit by bit the wire is the AND of what those that still send drive.

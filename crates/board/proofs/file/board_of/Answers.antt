@@ -8,4 +8,5 @@ new-requires c = board_valid (table_view c.args.table.now) _ c.in_ok-targets.ens
 
 pub returns-in_err-targets-clause-tree : goal.returns-in_err-targets-clause-tree
 returns-in_err-targets-clause-tree c =
-    passed_on c.from_residual.result c.in_err-targets.field-0.0 (table_view c.args.table.now) c.from_residual.ensures.1 c.in_err-targets.ensures
+    passed_on c.from_residual.result c.in_err-targets.field-0.0
+    (table_view c.args.table.now) c.from_residual.ensures.1 c.in_err-targets.ensures

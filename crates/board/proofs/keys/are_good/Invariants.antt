@@ -6,4 +6,6 @@ use Rattle.board.specs.KeyViews.{key_views}
 use Rattle.board.proofs.keys.are_good.Given as goal
 
 abbrev pub invariant-loop-name : goal.invariant-loop-name
-invariant-loop-name l = list_all (is_good_at (table_view l.table)) (key_views (drop l.name-index l.keys)) ≡ list_all (is_good_at (table_view l.table)) (key_views l.keys)
+invariant-loop-name l =
+    list_all (is_good_at (table_view l.table)) (key_views (drop l.name-index l.keys))
+    ≡ list_all (is_good_at (table_view l.table)) (key_views l.keys)

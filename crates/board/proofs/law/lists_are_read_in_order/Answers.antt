@@ -1,4 +1,6 @@
-use Rattle.board.proofs.ListsInOrder.{targets_in_order, entries_in_order, bytes_in_order, seats_in_order, needs_in_order, rails_in_order, some_lists_in_order}
+use Rattle.board.proofs.ListsInOrder.{targets_in_order, entries_in_order, bytes_in_order}
+use Rattle.board.proofs.ListsInOrder.{seats_in_order, needs_in_order, rails_in_order}
+use Rattle.board.proofs.ListsInOrder.{some_lists_in_order}
 use Rattle.board.proofs.law.lists_are_read_in_order.Goals as goal
 
 pub returns-clause-targets : goal.returns-clause-targets

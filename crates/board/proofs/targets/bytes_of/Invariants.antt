@@ -4,4 +4,6 @@ use Rattle.board.specs.Targets.{bytes_of}
 use Rattle.board.proofs.targets.bytes_of.Given as goal
 
 abbrev pub invariant-loop-value : goal.invariant-loop-value
-invariant-loop-value l = bytes_of l.bytes.items (items_view (drop l.value-index l.values)) ≡ bytes_of [] (items_view l.values)
+invariant-loop-value l =
+    bytes_of l.bytes.items (items_view (drop l.value-index l.values))
+    ≡ bytes_of [] (items_view l.values)

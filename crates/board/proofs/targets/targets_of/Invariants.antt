@@ -5,4 +5,6 @@ use Rattle.board.specs.Targets.{targets_of}
 use Rattle.board.proofs.targets.targets_of.Given as goal
 
 abbrev pub invariant-loop-value : goal.invariant-loop-value
-invariant-loop-value l = targets_of (named_view l.targets) (items_view (drop l.value-index l.values)) ≡ targets_of none (items_view l.values)
+invariant-loop-value l =
+    targets_of (named_view l.targets) (items_view (drop l.value-index l.values))
+    ≡ targets_of none (items_view l.values)

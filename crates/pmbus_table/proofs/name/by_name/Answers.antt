@@ -5,10 +5,12 @@ use Rattle.pmbus_table.proofs.name.by_name.Goals as goal
 
 pub returns-in-Some : goal.returns-in-Some
 returns-in-Some c =
-    let read : c.by_code.result ≡ command_named c.args.name.now = c.by_code.ensures.value ∙ row_command _ _ c.in-Some.ensures in
+    let read : c.by_code.result ≡ command_named c.args.name.now =
+    c.by_code.ensures.value ∙ row_command _ _ c.in-Some.ensures in
     record { value = read; spelled = name_spelled _ _ read; only = name_only _ _ read }
 
 pub returns-in-None : goal.returns-in-None
 returns-in-None c =
-    let read : c.manufacturer_named.result ≡ command_named c.args.name.now = c.manufacturer_named.ensures ∙ ap (command_in c.args.name.now) c.in-None.ensures in
+    let read : c.manufacturer_named.result ≡ command_named c.args.name.now =
+    c.manufacturer_named.ensures ∙ ap (command_in c.args.name.now) c.in-None.ensures in
     record { value = read; spelled = name_spelled _ _ read; only = name_only _ _ read }

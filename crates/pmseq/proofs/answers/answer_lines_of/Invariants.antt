@@ -6,6 +6,7 @@ use Rattle.pmseq.proofs.answers.answer_lines_of.Given as goal
 
 abbrev pub invariant-loop-number : goal.invariant-loop-number
 invariant-loop-number l = record {
-  value : (answer_lines_of (numbered_texts_of (drop l.number-index l.lines)) >>= λ more. Ok (l.answers.items ++ more)) ≡ answer_lines_of (numbered_texts_of l.lines);
+  value : (answer_lines_of (numbered_texts_of (drop l.number-index l.lines)) >>= λ more.
+      Ok (l.answers.items ++ more)) ≡ answer_lines_of (numbered_texts_of l.lines);
   held : All (λ answer. All (λ hold. hold ≤ 6999) answer.holds) l.answers.items;
 }

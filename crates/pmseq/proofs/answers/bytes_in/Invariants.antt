@@ -3,4 +3,6 @@ use Rattle.pmseq.specs.Answers.{bytes_in}
 use Rattle.pmseq.proofs.answers.bytes_in.Given as goal
 
 abbrev pub invariant-loop-part : goal.invariant-loop-part
-invariant-loop-part l = option_map (λ more. l.bytes.items ++ more) (bytes_in (map (λ x. x.now) (drop l.part-index l.parts))) ≡ bytes_in (map (λ x. x.now) l.parts)
+invariant-loop-part l =
+    option_map (λ more. l.bytes.items ++ more)
+    (bytes_in (map (λ x. x.now) (drop l.part-index l.parts))) ≡ bytes_in (map (λ x. x.now) l.parts)

@@ -5,7 +5,9 @@ use Rattle.pmseq.proofs.bundle.headers_among.Given as goal
 
 abbrev pub invariant-loop-place : goal.invariant-loop-place
 invariant-loop-place l = record {
-  rest : find (is_unexpected l.headers (map (λ x. x.now) l.lines)) (enumerate_from l.place (map (λ x. x.now) (drop l.place l.lines))) ≡ first_unexpected l.headers (map (λ x. x.now) l.lines);
+  rest : find (is_unexpected l.headers (map (λ x. x.now) l.lines))
+      (enumerate_from l.place (map (λ x. x.now) (drop l.place l.lines)))
+      ≡ first_unexpected l.headers (map (λ x. x.now) l.lines);
   count : l.above ≡ count_by starts_section (take l.place (map (λ x. x.now) l.lines));
   most : l.above ≤ length l.headers;
 }

@@ -6,7 +6,9 @@ use Rattle.pmseq.proofs.bundle.sections_of.Given as goal
 
 abbrev pub invariant-loop-part : goal.invariant-loop-part
 invariant-loop-part l = record {
-  sections : map section_view l.sections.items ++ numbered l.first_line (slice_split starts_section (map (λ x. x.now) l.rest)) ≡ sections_of (map (λ x. x.now) l.fn.lines);
+  sections : map section_view l.sections.items
+      ++ numbered l.first_line (slice_split starts_section (map (λ x. x.now) l.rest))
+      ≡ sections_of (map (λ x. x.now) l.fn.lines);
   few : l.first_line + length l.rest ≤ length l.fn.lines + 3;
 }
 

@@ -6,4 +6,6 @@ use Rattle.pmseq.proofs.counted.counted_lines.Given as goal
 
 abbrev pub invariant-loop-place : goal.invariant-loop-place
 invariant-loop-place l =
-    map (λ x. (x.0, x.1.now)) l.counted.items ++ filter (λ x. is_counted x.1) (enumerate_from (l.section.first_line + l.place) (map (λ x. x.now) (drop l.place l.section.lines.now))) ≡ counted_lines (section_view l.section)
+    map (λ x. (x.0, x.1.now)) l.counted.items
+    ++ filter (λ x. is_counted x.1) (enumerate_from (l.section.first_line + l.place)
+    (map (λ x. x.now) (drop l.place l.section.lines.now))) ≡ counted_lines (section_view l.section)

@@ -3,7 +3,11 @@ use Rattle.pmseq.proofs.Transfers.{keep_front, keep_all}
 use Rattle.pmseq.proofs.intake.keep.Goals as goal
 
 pub returns-then-count-piece : goal.returns-then-count-piece
-returns-then-count-piece c = λ all front. keep_front _ all _ _ _ c.min-count.result front (omega arith) c.in_ok-extend_from_slice.ensures.items c.if-count-piece.true
+returns-then-count-piece c = λ all front.
+    keep_front _ all _ _ _ c.min-count.result front
+    (omega arith) c.in_ok-extend_from_slice.ensures.items c.if-count-piece.true
 
 pub returns-else-count-piece : goal.returns-else-count-piece
-returns-else-count-piece c = λ all front. keep_all _ all _ _ _ c.min-count.result front (omega arith) c.in_ok-extend_from_slice.ensures.items c.if-count-piece.false
+returns-else-count-piece c = λ all front.
+    keep_all _ all _ _ _ c.min-count.result front
+    (omega arith) c.in_ok-extend_from_slice.ensures.items c.if-count-piece.false

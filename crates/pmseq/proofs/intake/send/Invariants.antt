@@ -3,7 +3,8 @@ use Rattle.pmseq.proofs.Transfers.{HasSent}
 use Rattle.pmseq.proofs.intake.send.Given as goal
 
 abbrev pub invariant-loop-rest : goal.invariant-loop-rest
-invariant-loop-rest g l = HasSent (g.W.Write.contents l.initial.writer) (g.W.Write.contents l.writer) l.text l.rest
+invariant-loop-rest g l =
+    HasSent (g.W.Write.contents l.initial.writer) (g.W.Write.contents l.writer) l.text l.rest
 
 abbrev pub decreases-loop-rest : goal.decreases-loop-rest
 decreases-loop-rest g l = length l.rest

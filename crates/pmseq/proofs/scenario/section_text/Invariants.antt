@@ -7,4 +7,5 @@ use Rattle.pmseq.proofs.scenario.section_text.Given as goal
 
 abbrev pub invariant-loop-line : goal.invariant-loop-line
 invariant-loop-line l =
-    string_bytes l.text ++ flat_map (λ (line : Line). line ++ 10 ∷ []) (map (λ x. x.now) (drop l.line-index l.section.lines.now)) ≡ section_text (section_view l.section)
+    string_bytes l.text ++ flat_map (λ (line : Line). line ++ 10 ∷ []) (map (λ x. x.now)
+    (drop l.line-index l.section.lines.now)) ≡ section_text (section_view l.section)

@@ -3,4 +3,6 @@ use Rattle.pmseq.proofs.Fronts.{replies_to}
 use Rattle.pmseq.proofs.session.received.Goals as goal
 
 pub returns-clause-replies : goal.returns-clause-replies
-returns-clause-replies g c = replies_to _ _ _ (reply_view c.in_ok-reply.reply) c.in_ok-input.ensures.kept c.in_ok-reply.ensures.replies
+returns-clause-replies g c =
+    replies_to _ _ _
+    (reply_view c.in_ok-reply.reply) c.in_ok-input.ensures.kept c.in_ok-reply.ensures.replies

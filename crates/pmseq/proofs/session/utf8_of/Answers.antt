@@ -12,7 +12,8 @@ not_text bytes isnt = elim (cases_Bool (is_utf8 bytes)) [
 ]
 
 pub returns-in-Ok : goal.returns-in-Ok
-returns-in-Ok c = rw (is_utf8-from_IsUtf8 c.args.bytes.now c.in-Ok.ensures.cases.1, c.in-Ok.ensures.cases.0)
+returns-in-Ok c =
+    rw (is_utf8-from_IsUtf8 c.args.bytes.now c.in-Ok.ensures.cases.1, c.in-Ok.ensures.cases.0)
 
 pub returns-in-Err : goal.returns-in-Err
 returns-in-Err c = sym (not_text c.args.bytes.now c.in-Err.ensures.cases.0)

@@ -10,6 +10,11 @@ use Rattle.seq_program.proofs.pass.add_label.Goals as goal
 pub returns-clause-added : goal.returns-clause-added
 returns-clause-added c =
     let k = c.in_ok-from_str.field-0 in
-    let has : has_label (string_bytes k) (labels_view c.args.labels.now) ≡ false = rw c.in_ok-from_str.ensures.ok c.requires in
-    let none : get string_eq c.args.labels.now k ≡ None = absent_label (string_bytes k) c.args.labels.now.entries has in
-    ap (map label_view) (c.in_ok-insert.ensures.entries ∙ insert_entry-new string_eq c.args.labels.now k c.args.place none) ∙ label_view-push c.args.labels.now.entries k c.args.name.now c.args.place c.in_ok-from_str.ensures.ok
+    let has : has_label (string_bytes k) (labels_view c.args.labels.now) ≡ false =
+    rw c.in_ok-from_str.ensures.ok c.requires in
+    let none : get string_eq c.args.labels.now k ≡ None =
+    absent_label (string_bytes k) c.args.labels.now.entries has in
+    ap (map label_view) (c.in_ok-insert.ensures.entries
+    ∙ insert_entry-new string_eq c.args.labels.now k c.args.place none)
+    ∙ label_view-push c.args.labels.now.entries k c.args.name.now c.args.place
+    c.in_ok-from_str.ensures.ok

@@ -3,7 +3,9 @@ use Rattle.seq_program.proofs.Labels.{cut_comment}
 use Rattle.seq_program.proofs.pass.without_comment.Goals as goal
 
 pub returns-in-Some : goal.returns-in-Some
-returns-in-Some c = cut_comment c.args.line.now (Some (c.in-Some.said, c.in-Some.field-0-1)) c.in-Some.ensures.cases (lit< tt)
+returns-in-Some c =
+    cut_comment c.args.line.now (Some (c.in-Some.said, c.in-Some.field-0-1)) c.in-Some.ensures.cases
+    (lit< tt)
 
 pub returns-in-None : goal.returns-in-None
 returns-in-None c = cut_comment c.args.line.now None c.in-None.ensures.cases (lit< tt)

@@ -4,4 +4,7 @@ use Rattle.seq_program.specs.Programs.{all_resolved}
 use Rattle.seq_program.proofs.program.all_resolved.Given as goal
 
 abbrev pub invariant-loop-instr : goal.invariant-loop-instr
-invariant-loop-instr l = all_resolved l.instrs.items (labels_view l.labels) (map placed_view (drop l.instr-index l.placed)) ≡ all_resolved [] (labels_view l.labels) (map placed_view l.placed)
+invariant-loop-instr l =
+    all_resolved l.instrs.items (labels_view l.labels)
+    (map placed_view (drop l.instr-index l.placed))
+    ≡ all_resolved [] (labels_view l.labels) (map placed_view l.placed)

@@ -3,10 +3,13 @@ use Rattle.simulator.proofs.TakenStep.{some_step_is_taken}
 use Rattle.simulator.proofs.law.steps_are_seen.Goals as goal
 
 pub returns-clause-steps : goal.returns-clause-steps
-returns-clause-steps c = steps_are_seen c.entries_read_back.ensures.one c.entries_read_back.ensures.does c.entries_read_back.ensures.none c.states_belong.ensures.steps
+returns-clause-steps c =
+    steps_are_seen c.entries_read_back.ensures.one c.entries_read_back.ensures.does
+    c.entries_read_back.ensures.none c.states_belong.ensures.steps
 
 pub returns-clause-starts : goal.returns-clause-starts
 returns-clause-starts c = starts_are_ready c.states_belong.ensures.starts
 
 pub returns-clause-some : goal.returns-clause-some
-returns-clause-some c = some_step_is_taken c.states_belong.ensures.starts c.some_answer_fits.ensures.case
+returns-clause-some c =
+    some_step_is_taken c.states_belong.ensures.starts c.some_answer_fits.ensures.case

@@ -7,4 +7,6 @@ unfolding idle_samples
 loop-init c = c.new-samples.ensures.items
 
 pub loop-preserved : goal.loop-preserved
-loop-preserved c = one_idle_more c.args.alert c.loop.counter c.idle.result _ _ c.idle.ensures c.loop.invariant c.in_ok-push.ensures.items
+loop-preserved c =
+    one_idle_more c.args.alert c.loop.counter c.idle.result _ _ c.idle.ensures c.loop.invariant
+    c.in_ok-push.ensures.items

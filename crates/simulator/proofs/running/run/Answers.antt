@@ -1,30 +1,44 @@
 use Rattle.std.proofs.Common.{ap}
 use Rattle.simulator.specs.Faults.{FailsAt}
 use Rattle.simulator.specs.Machines.{Entry}
-use Rattle.simulator.proofs.Runs.{fails_here, passed_on, out_of_memory, next_run, seen_more, sum_more, still_within}
+use Rattle.simulator.proofs.Runs.{fails_here, passed_on, out_of_memory, next_run, seen_more}
+use Rattle.simulator.proofs.Runs.{sum_more, still_within}
 use Rattle.simulator.proofs.running.run.Goals as goal
 
 pub returns-in_err-next-clause-fault : goal.returns-in_err-next-clause-fault
 returns-in_err-next-clause-fault c =
-    passed_on c.from_residual-in_err-next.result c.in_err-next.field-0.0 (λ e. FailsAt c.args.board.now c.args.program.now c.args.machine.now c.args.answers.now e) c.from_residual-in_err-next.ensures.1
+    passed_on c.from_residual-in_err-next.result c.in_err-next.field-0.0
+    (λ e. FailsAt c.args.board.now c.args.program.now c.args.machine.now c.args.answers.now e)
+    c.from_residual-in_err-next.ensures.1
     (λ real.
-    fails_here c.args.board.now c.args.program.now c.args.machine.now c.loop-index.last c.args.answers.now c.loop-index.entries.items c.loop-index.index c.loop-index.ticks c.index-answers-index.result c.in_err-next.field-0.0
-    c.loop-index.invariant.0 c.loop-index.invariant.3 c.loop-index.invariant.4 c.loop-index-test.true c.index-answers-index.is (c.in_err-next.ensures.fault real))
+    fails_here c.args.board.now c.args.program.now c.args.machine.now c.loop-index.last
+    c.args.answers.now c.loop-index.entries.items c.loop-index.index c.loop-index.ticks
+    c.index-answers-index.result c.in_err-next.field-0.0
+    c.loop-index.invariant.0 c.loop-index.invariant.3 c.loop-index.invariant.4
+    c.loop-index-test.true c.index-answers-index.is (c.in_err-next.ensures.fault real))
 
 pub returns-in_err-push-clause-fault : goal.returns-in_err-push-clause-fault
 returns-in_err-push-clause-fault c =
-    out_of_memory c.from_residual-in_err-push.result (λ e. FailsAt c.args.board.now c.args.program.now c.args.machine.now c.args.answers.now e) c.from_residual-in_err-push.ensures.1
+    out_of_memory c.from_residual-in_err-push.result
+    (λ e. FailsAt c.args.board.now c.args.program.now c.args.machine.now c.args.answers.now e)
+    c.from_residual-in_err-push.ensures.1
 
 pub loop-index-preserved : goal.loop-index-preserved
 loop-index-preserved c =
     let run =
-    next_run c.args.board.now c.args.program.now c.args.machine.now c.loop-index.last c.in_ok-next.next c.args.answers.now c.loop-index.entries.items c.loop-index.index c.index-answers-index.result c.in_ok-next.entry
-    c.loop-index-test.true c.index-answers-index.is c.loop-index.invariant.0 c.in_ok-next.ensures.step in
+    next_run c.args.board.now c.args.program.now c.args.machine.now c.loop-index.last
+    c.in_ok-next.next c.args.answers.now c.loop-index.entries.items c.loop-index.index
+    c.index-answers-index.result c.in_ok-next.entry
+    c.loop-index-test.true c.index-answers-index.is c.loop-index.invariant.0
+    c.in_ok-next.ensures.step in
     let same = ap (λ (e : Entry). e.ticks) c.entry.view_is in
     rw (c.in_ok-push.ensures.items) (
       run,
       c.in_ok-next.ensures.machine,
-      seen_more c.loop-index.entries.items c.in_ok-next.entry c.loop-index.invariant.2 c.in_ok-next.ensures.seen,
-      sum_more c.loop-index.entries.items c.in_ok-next.entry c.loop-index.ticks c.entry.inside.ticks c.loop-index.invariant.3 same,
-      still_within c.in_ok-next.entry c.loop-index.ticks c.entry.inside.ticks same c.in_ok-next.ensures.within,
+      seen_more c.loop-index.entries.items c.in_ok-next.entry c.loop-index.invariant.2
+          c.in_ok-next.ensures.seen,
+      sum_more c.loop-index.entries.items c.in_ok-next.entry c.loop-index.ticks c.entry.inside.ticks
+          c.loop-index.invariant.3 same,
+      still_within c.in_ok-next.entry c.loop-index.ticks c.entry.inside.ticks same
+          c.in_ok-next.ensures.within,
     )

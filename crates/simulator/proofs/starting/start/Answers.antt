@@ -4,5 +4,7 @@ use Rattle.simulator.proofs.starting.start.Goals as goal
 pub returns-clause-belongs : goal.returns-clause-belongs
 returns-clause-belongs c = λ p is. record {
   place = is.some;
-  bus = c.states_belong.ensures.starts c.args.board.now _ c.target_count-count.ensures.board (c.if-not-starts.ensures.0 refl);
+  bus =
+      c.states_belong.ensures.starts c.args.board.now _ c.target_count-count.ensures.board
+      (c.if-not-starts.ensures.0 refl);
 }

@@ -5,7 +5,11 @@ use Rattle.simulator.proofs.stepping.step_at.Goals as goal
 
 pub returns-clause-machine : goal.returns-clause-machine
 returns-clause-machine c = record {
-  place = stepped_place c.args.board.now c.args.program.now c.instr_of-instr.result.now _ c.args.machine.now c.args.answer.now c.in_ok-next.entry c.in_ok-next.next c.instr_of-instr.ensures.program c.instr_of-instr.ensures.at (search rules) c.in_ok-next.ensures.step;
+  place =
+      stepped_place c.args.board.now c.args.program.now c.instr_of-instr.result.now _
+      c.args.machine.now c.args.answer.now c.in_ok-next.entry c.in_ok-next.next
+      c.instr_of-instr.ensures.program c.instr_of-instr.ensures.at
+      (search rules) c.in_ok-next.ensures.step;
   bus = c.in_ok-next.ensures.belongs c.requires.machine.bus;
 }
 
@@ -14,5 +18,7 @@ returns-then-entry-before-clause-fault c = λ real. record {
   entry = c.in_ok-next.entry;
   next = c.in_ok-next.next;
   step = search rules;
-  long = past c.args.before c.entry.inside.ticks c.in_ok-next.entry.ticks c.if-entry-before.true (ap (λ (e : Entry). e.ticks) c.entry.view_is);
+  long =
+      past c.args.before c.entry.inside.ticks c.in_ok-next.entry.ticks c.if-entry-before.true
+      (ap (λ (e : Entry). e.ticks) c.entry.view_is);
 }

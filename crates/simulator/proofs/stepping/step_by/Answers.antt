@@ -10,34 +10,58 @@ use Rattle.simulator.proofs.stepping.step_by.Goals as goal
 
 pub step_samples-requires-clause-sendable : goal.step_samples-requires-clause-sendable
 step_samples-requires-clause-sendable c =
-    sendable c.args.board.now c.args.machine.now.bus c.args.instr.now c.args.machine.now.regs _ c.args.answer.now c.target_count-count.ensures.board c.requires.instr c.requires.asked c.requires.fits
+    sendable c.args.board.now c.args.machine.now.bus c.args.instr.now c.args.machine.now.regs _
+    c.args.answer.now c.target_count-count.ensures.board c.requires.instr c.requires.asked
+    c.requires.fits
 
 pub returns-clause-step : goal.returns-clause-step
 returns-clause-step c =
     let bus = ap (λ (m : Machine). m.bus) c.machine.view_is in
-    let after = subst (λ (s : BusState). IsAfter c.args.board.now s (option_map (λ m. m.now) c.args.message) c.args.answer.now c.in_ok-bus.bus) bus c.in_ok-bus.ensures.state in
+    let after =
+    subst (λ (s : BusState). IsAfter c.args.board.now s (option_map (λ m. m.now) c.args.message)
+    c.args.answer.now c.in_ok-bus.bus) bus c.in_ok-bus.ensures.state in
     let entry =
-    same_entry c.args.instr.now (option_map (λ m. m.now) c.args.message) c.args.answer.now c.args.machine.now c.machine.inside.place c.in_ok-before.before c.in_ok-samples.samples.items c.sent_outcome.result (length c.as_slice.result.now)
+    same_entry c.args.instr.now (option_map (λ m. m.now) c.args.message) c.args.answer.now
+    c.args.machine.now c.machine.inside.place c.in_ok-before.before c.in_ok-samples.samples.items
+    c.sent_outcome.result (length c.as_slice.result.now)
     (ap (λ (m : Machine). m.place) c.machine.view_is) (c.in_ok-before.ensures ∙ bus)
-    (c.in_ok-samples.ensures ∙ ap (λ (s : BusState). step_samples s c.args.instr.now (option_map (λ m. m.now) c.args.message) c.args.answer.now) bus)
-    (c.sent_outcome.ensures ∙ outcome_if (λ m. m.now) c.args.message c.in_ok-bus.outcome c.args.answer.now c.in_ok-bus.ensures.outcome) (ap length c.as_slice.ensures.value) in
-    made_step c.args.board.now c.args.instr.now (option_map (λ m. m.now) c.args.message) c.args.machine.now c.args.answer.now c.in_ok-bus.bus c.in_ok-bus.outcome c.moved.result _ c.requires.fits after c.in_ok-bus.ensures.outcome c.moved.ensures entry
+    (c.in_ok-samples.ensures ∙ ap (λ (s : BusState).
+    step_samples s c.args.instr.now (option_map (λ m. m.now) c.args.message) c.args.answer.now) bus)
+    (c.sent_outcome.ensures ∙ outcome_if (λ m. m.now) c.args.message c.in_ok-bus.outcome
+    c.args.answer.now c.in_ok-bus.ensures.outcome) (ap length c.as_slice.ensures.value) in
+    made_step c.args.board.now c.args.instr.now (option_map (λ m. m.now) c.args.message)
+    c.args.machine.now c.args.answer.now c.in_ok-bus.bus c.in_ok-bus.outcome c.moved.result _
+    c.requires.fits after c.in_ok-bus.ensures.outcome c.moved.ensures entry
 
 pub returns-clause-seen : goal.returns-clause-seen
 returns-clause-seen c =
     let bus = ap (λ (m : Machine). m.bus) c.machine.view_is in
     let entry =
-    same_entry c.args.instr.now (option_map (λ m. m.now) c.args.message) c.args.answer.now c.args.machine.now c.machine.inside.place c.in_ok-before.before c.in_ok-samples.samples.items c.sent_outcome.result (length c.as_slice.result.now)
+    same_entry c.args.instr.now (option_map (λ m. m.now) c.args.message) c.args.answer.now
+    c.args.machine.now c.machine.inside.place c.in_ok-before.before c.in_ok-samples.samples.items
+    c.sent_outcome.result (length c.as_slice.result.now)
     (ap (λ (m : Machine). m.place) c.machine.view_is) (c.in_ok-before.ensures ∙ bus)
-    (c.in_ok-samples.ensures ∙ ap (λ (s : BusState). step_samples s c.args.instr.now (option_map (λ m. m.now) c.args.message) c.args.answer.now) bus)
-    (c.sent_outcome.ensures ∙ outcome_if (λ m. m.now) c.args.message c.in_ok-bus.outcome c.args.answer.now c.in_ok-bus.ensures.outcome) (ap length c.as_slice.ensures.value) in
-    let can = sendable c.args.board.now c.args.machine.now.bus c.args.instr.now c.args.machine.now.regs (option_map (λ m. m.now) c.args.message) c.args.answer.now c.target_count-count.ensures.board c.requires.instr c.requires.asked c.requires.fits in
-    subst IsSeen (sym entry) (seen_entry c.args.instr.now (option_map (λ m. m.now) c.args.message) c.args.answer.now c.args.machine.now c.reads_back.ensures.word c.slots_are_one_frame.ensures.one can)
+    (c.in_ok-samples.ensures ∙ ap (λ (s : BusState).
+    step_samples s c.args.instr.now (option_map (λ m. m.now) c.args.message) c.args.answer.now) bus)
+    (c.sent_outcome.ensures ∙ outcome_if (λ m. m.now) c.args.message c.in_ok-bus.outcome
+    c.args.answer.now c.in_ok-bus.ensures.outcome) (ap length c.as_slice.ensures.value) in
+    let can =
+    sendable c.args.board.now c.args.machine.now.bus c.args.instr.now c.args.machine.now.regs
+    (option_map (λ m. m.now) c.args.message) c.args.answer.now c.target_count-count.ensures.board
+    c.requires.instr c.requires.asked c.requires.fits in
+    subst IsSeen (sym entry)
+    (seen_entry c.args.instr.now (option_map (λ m. m.now) c.args.message) c.args.answer.now
+    c.args.machine.now c.reads_back.ensures.word c.slots_are_one_frame.ensures.one can)
 
 pub returns-clause-belongs : goal.returns-clause-belongs
 returns-clause-belongs c = λ belongs.
     let bus = ap (λ (m : Machine). m.bus) c.machine.view_is in
-    let after = subst (λ (s : BusState). IsAfter c.args.board.now s (option_map (λ m. m.now) c.args.message) c.args.answer.now c.in_ok-bus.bus) bus c.in_ok-bus.ensures.state in
-    let same = ap (λ (m : Machine). m.bus) c.moved.ensures ∙ moved_bus c.args.instr.now (option_map (λ m. m.now) c.args.message) c.in_ok-bus.outcome c.in_ok-bus.bus c.args.machine.now in
+    let after =
+    subst (λ (s : BusState). IsAfter c.args.board.now s (option_map (λ m. m.now) c.args.message)
+    c.args.answer.now c.in_ok-bus.bus) bus c.in_ok-bus.ensures.state in
+    let same = ap (λ (m : Machine). m.bus) c.moved.ensures
+    ∙ moved_bus c.args.instr.now (option_map (λ m. m.now) c.args.message) c.in_ok-bus.outcome
+    c.in_ok-bus.bus c.args.machine.now in
     subst (λ (s : BusState). Belongs c.args.board.now s) (sym same)
-    (c.states_belong.ensures.steps c.args.board.now c.args.machine.now.bus c.in_ok-bus.bus (option_map (λ m. m.now) c.args.message) c.args.answer.now belongs c.requires.fits after)
+    (c.states_belong.ensures.steps c.args.board.now c.args.machine.now.bus c.in_ok-bus.bus
+    (option_map (λ m. m.now) c.args.message) c.args.answer.now belongs c.requires.fits after)

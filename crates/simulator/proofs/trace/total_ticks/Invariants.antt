@@ -4,4 +4,5 @@ use Rattle.simulator.proofs.trace.total_ticks.Given as goal
 
 -- what is added, and what is left
 abbrev pub invariant-loop-entry : goal.invariant-loop-entry
-invariant-loop-entry l = l.ticks + total_ticks (drop l.entry-index l.entries) ≡ total_ticks l.entries
+invariant-loop-entry l =
+    l.ticks + total_ticks (drop l.entry-index l.entries) ≡ total_ticks l.entries

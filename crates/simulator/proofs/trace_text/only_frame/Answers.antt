@@ -7,5 +7,6 @@ use Rattle.simulator.proofs.trace_text.only_frame.Goals as goal
 pub unreachable-requires-in-Err-NotFrames : goal.unreachable-requires-in-Err-NotFrames
 unreachable-requires-in-Err-NotFrames c =
     let fails = rw c.in-Err-NotFrames.field-0-is at c.in-Err-NotFrames.ensures.fault in
-    let is = subst (λ (events : List Event). AreFrames events (c.requires.0 ∷ [])) (sym (c.deref.ensures.value ∙ c.in_ok-events.ensures)) c.requires.1.is in
+    let is = subst (λ (events : List Event). AreFrames events (c.requires.0 ∷ []))
+    (sym (c.deref.ensures.value ∙ c.in_ok-events.ensures)) c.requires.1.is in
     never_fails _ _ c.in-Err-NotFrames.field-0-0 is fails

@@ -1,26 +1,34 @@
 use Rattle.std.proofs.lemmas.Bool.{MatchBool-at_true, MatchBool-at_false}
 use Rattle.smbus.specs.Machine.{reading_of}
-use Rattle.smbus.proofs.EventByEvent.{read_on, read_all, fails_here, fails_open, frames_read, only_read}
+use Rattle.smbus.proofs.EventByEvent.{read_on, read_all, fails_here, fails_open, frames_read}
+use Rattle.smbus.proofs.EventByEvent.{only_read}
 use Rattle.smbus.proofs.observing.observe.Goals as goal
 
 pub loop-place-preserved : goal.loop-place-preserved
 loop-place-preserved c =
-    read_on c.args.events.now c.loop-place.place (reading_of c.loop-place.reading) (reading_of c.take.new.self) _ c.loop-place-test.true c.loop-place.invariant
+    read_on c.args.events.now c.loop-place.place (reading_of c.loop-place.reading)
+    (reading_of c.take.new.self) _ c.loop-place-test.true c.loop-place.invariant
     (MatchBool-at_true _ _ c.if-not-branch.false c.in_ok-take.ensures)
 
 pub returns-then-not-branch-clause-fault : goal.returns-then-not-branch-clause-fault
 returns-then-not-branch-clause-fault c =
-    fails_here c.args.events.now c.loop-place.place (reading_of c.loop-place.reading) _ c.loop-place-test.true c.loop-place.invariant
+    fails_here c.args.events.now c.loop-place.place
+    (reading_of c.loop-place.reading) _ c.loop-place-test.true c.loop-place.invariant
     (MatchBool-at_false _ _ c.if-not-branch.true c.in_ok-take.ensures)
 
 pub returns-then-reading-clause-fault : goal.returns-then-reading-clause-fault
 returns-then-reading-clause-fault c =
-    fails_open c.args.events.now (reading_of c.loop-place.reading) (read_all c.args.events.now c.loop-place.place _ c.loop-place-test.false c.loop-place.invariant) c.if-reading.true
+    fails_open c.args.events.now (reading_of c.loop-place.reading)
+    (read_all c.args.events.now c.loop-place.place _ c.loop-place-test.false c.loop-place.invariant)
+    c.if-reading.true
 
 pub returns-clause-frames : goal.returns-clause-frames
 returns-clause-frames c =
-    frames_read c.args.events.now (reading_of c.loop-place.reading) (read_all c.args.events.now c.loop-place.place _ c.loop-place-test.false c.loop-place.invariant) c.if-reading.false
+    frames_read c.args.events.now (reading_of c.loop-place.reading)
+    (read_all c.args.events.now c.loop-place.place _ c.loop-place-test.false c.loop-place.invariant)
+    c.if-reading.false
 
 pub returns-clause-only : goal.returns-clause-only
 returns-clause-only c =
-    only_read c.args.events.now (reading_of c.loop-place.reading) (read_all c.args.events.now c.loop-place.place _ c.loop-place-test.false c.loop-place.invariant)
+    only_read c.args.events.now (reading_of c.loop-place.reading)
+    (read_all c.args.events.now c.loop-place.place _ c.loop-place-test.false c.loop-place.invariant)

@@ -5,7 +5,8 @@ use Rattle.board.specs.Boards.{Target}
 use Rattle.targets.specs.States.{BusState}
 use Rattle.targets.specs.Alerting.{address_byte}
 use Rattle.targets.specs.Least.{lesser, least_with}
-use Rattle.targets.proofs.AlertBytes.{bytes_from, drop_at, drop_none, sent_at, quiet_at, wire_is_least, wire_is_sent}
+use Rattle.targets.proofs.AlertBytes.{bytes_from, drop_at, drop_none, sent_at, quiet_at}
+use Rattle.targets.proofs.AlertBytes.{wire_is_least, wire_is_sent}
 use Rattle.targets.proofs.alerting.alert_byte.Goals as goal
 use Rattle.targets.proofs.alerting.alert_byte.Goals.{then-is_set, else-is_set}
 
@@ -16,32 +17,43 @@ loop-index-preserved c =
     let later : List Target = drop (i + 1) c.args.board.now.targets in
     let d = drop_at c.args.board.now.targets i c.in-Some.target.now c.in-Some.ensures in
     let kept = rw d at c.loop-index.invariant in
-    let seen : c.state.inside.alerting ≡ s.alerting = ap (λ (s : BusState). s.alerting) c.state.view_is in
-    let tested : bit s.alerting i ≡ c.is_set.result = ap (λ n. bit n i) (sym seen) ∙ sym c.is_set.ensures in
+    let seen : c.state.inside.alerting ≡ s.alerting =
+    ap (λ (s : BusState). s.alerting) c.state.view_is in
+    let tested : bit s.alerting i ≡ c.is_set.result =
+    ap (λ n. bit n i) (sym seen) ∙ sym c.is_set.ensures in
     elim c.if-is_set.branch [
       | then-is_set w ↦
-          let e : c.if-is_set.least ≡ Some (lesser c.loop-index.least (address_byte c.in-Some.target.now)) = cc in
-          ap (λ o. least_with o (bytes_from s (i + 1) later)) e ∙ (sym (sent_at s c.loop-index.least i c.in-Some.target.now later (tested ∙ w.if-is_set.true)) ∙ kept)
+          let e : c.if-is_set.least
+          ≡ Some (lesser c.loop-index.least (address_byte c.in-Some.target.now)) = cc in
+          ap (λ o. least_with o (bytes_from s (i + 1) later)) e ∙ (sym (sent_at s c.loop-index.least
+          i c.in-Some.target.now later (tested ∙ w.if-is_set.true)) ∙ kept)
       | else-is_set w ↦
-          ap (λ o. least_with o (bytes_from s (i + 1) later)) w.least-is ∙ (sym (quiet_at s c.loop-index.least i c.in-Some.target.now later (tested ∙ w.if-is_set.false)) ∙ kept)
+          ap (λ o. least_with o (bytes_from s (i + 1) later)) w.least-is ∙ (sym (quiet_at s
+          c.loop-index.least i c.in-Some.target.now later (tested ∙ w.if-is_set.false)) ∙ kept)
     ]
 
 pub returns-after-loop-index : goal.returns-after-loop-index
 returns-after-loop-index c =
-    let d : drop c.loop-index.index c.args.board.now.targets ≡ [] = drop_all c.loop-index.index c.args.board.now.targets (omega arith) in
+    let d : drop c.loop-index.index c.args.board.now.targets ≡ [] =
+    drop_all c.loop-index.index c.args.board.now.targets (omega arith) in
     let least = rw d at c.loop-index.invariant in
     record {
-      byte = wire_is_least c.args.board.now c.args.state.now c.loop-index.least c.target_count-index-end.ensures.board least;
+      byte =
+          wire_is_least c.args.board.now c.args.state.now c.loop-index.least
+          c.target_count-index-end.ensures.board least;
       sent = wire_is_sent c.args.board.now c.args.state.now c.loop-index.least least;
       board = c.target_count-index-end.ensures.board;
     }
 
 pub returns-in_default : goal.returns-in_default
 returns-in_default c =
-    let d : drop c.loop-index.index c.args.board.now.targets ≡ [] = drop_none c.args.board.now.targets c.loop-index.index c.in_default.ensures in
+    let d : drop c.loop-index.index c.args.board.now.targets ≡ [] =
+    drop_none c.args.board.now.targets c.loop-index.index c.in_default.ensures in
     let least = rw d at c.loop-index.invariant in
     record {
-      byte = wire_is_least c.args.board.now c.args.state.now c.loop-index.least c.target_count-index-end.ensures.board least;
+      byte =
+          wire_is_least c.args.board.now c.args.state.now c.loop-index.least
+          c.target_count-index-end.ensures.board least;
       sent = wire_is_sent c.args.board.now c.args.state.now c.loop-index.least least;
       board = c.target_count-index-end.ensures.board;
     }

@@ -4,7 +4,8 @@ use Rattle.texts.proofs.hex.pairs_of.Given as goal
 
 -- the bytes so far and those of the rest are the bytes of all
 abbrev pub invariant-loop-rest : goal.invariant-loop-rest
-invariant-loop-rest l = option_map (λ more. l.bytes.items ++ more) (pairs_of l.rest) ≡ pairs_of l.text
+invariant-loop-rest l =
+    option_map (λ more. l.bytes.items ++ more) (pairs_of l.rest) ≡ pairs_of l.text
 
 abbrev pub decreases-loop-rest : goal.decreases-loop-rest
 decreases-loop-rest l = length l.rest

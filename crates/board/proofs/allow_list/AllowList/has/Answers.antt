@@ -9,5 +9,6 @@ pub returns : goal.returns
 returns c =
     c.contains.ensures
     ∙ ap (λ k. list_any (same_key k) c.self.inside.keys.keys) c.new.ensures
-    ∙ found c.args.form c.args.code c.self.inside.entries.items c.self.inside.keys.keys c.self.invariant
+    ∙ found c.args.form c.args.code c.self.inside.entries.items c.self.inside.keys.keys
+    c.self.invariant
     ∙ ap (has_entry c.args.form c.args.code) c.self.view_is

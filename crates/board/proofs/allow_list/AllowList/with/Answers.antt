@@ -9,5 +9,7 @@ invariant_of-result c =
     let a = c.args.entry in
     let new = ap (has_entry a.form a.code) c.self.view_is ∙ c.requires in
     c.in_ok-insert_full.ensures.keys
-    ∙ kept_entry a c.form.result c.code.result c.self.inside.entries.items c.self.inside.keys.keys c.new.result c.new.ensures c.form.ensures c.code.ensures.code c.code.ensures.bare c.self.invariant new
+    ∙ kept_entry a c.form.result c.code.result c.self.inside.entries.items c.self.inside.keys.keys
+    c.new.result c.new.ensures c.form.ensures c.code.ensures.code c.code.ensures.bare
+    c.self.invariant new
     ∙ sym (ap (map key_of) c.in_ok-push.ensures.items)
