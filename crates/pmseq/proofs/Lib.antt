@@ -8,7 +8,6 @@ pub mod Readings
 pub mod AnswerReading
 pub mod MessageLineLaw
 pub mod AnswerLineLaw
-pub mod Observed
 pub mod Fronts
 pub mod WellFormedBundles
 pub mod ReadBundles

@@ -1,26 +1,20 @@
--- What a loop over a reader has kept, and what a loop over a writer has sent.
+-- What a loop over a reader has kept.
 use Rattle.std.proofs.Common.{◌≡◌, ℕ, ◌+◌, ◌-◌, ◌<◌, ◌≤◌, min, Bool, true, false, ltb, List, []}
 use Rattle.std.proofs.Common.{◌++◌, length, take, drop, Option, refl, sym, ap, subst, ◌∙◌, inl, inr}
 use Rattle.std.proofs.Common.{arith, append_assoc}
 use Rattle.std.specs.Prelude.{IfSome}
-use Rattle.std.specs.Io.KnownBytes.{Appends, Consumes, Keeps, IsAtEnd}
-use Rattle.std.proofs.KnownBytes.{Consumes-nil, Consumes-trans, Consumes-whole, Appends-nil}
-use Rattle.std.proofs.KnownBytes.{Appends-trans, Appends-kept}
+use Rattle.std.specs.Io.KnownBytes.{Consumes, IsAtEnd}
+use Rattle.std.proofs.KnownBytes.{Consumes-nil, Consumes-trans, Consumes-whole}
 use Rattle.std.proofs.lemmas.Bool.{cases_lt, lt-ltb, le-ltb}
 use Rattle.std.proofs.lemmas.List.{append-nil, take-append-le, take_all, take_min, length-take}
 use Rattle.std.proofs.lemmas.List.{length-append, take-append-drop}
 use Rattle.std.proofs.Math.Seq.{take-append-add}
-use Rattle.pmseq.specs.Intake.{kept_limit, IsFrontOf, AppendsBeginning}
+use Rattle.pmseq.specs.Intake.{kept_limit, IsFrontOf}
 
 pub record HasRead (first now : Option (List ℕ)) (kept : List ℕ) (too_large : Bool) : Type 0 where
   pub seen : List ℕ
   pub came : Consumes first now seen
   pub front : IsFrontOf kept too_large seen
-
-pub record HasSent (first now : Option (List ℕ)) (text rest : List ℕ) : Type 0 where
-  pub sent : List ℕ
-  pub parts : text ≡ sent ++ rest
-  pub got : Appends first now sent
 
 -- ---- one more piece
 
@@ -103,35 +97,6 @@ pub read_all : (first now next : Option (List ℕ)) (kept : List ℕ) (over : Bo
 read_all first now next kept over h came end =
     Consumes-whole first next h.seen (IsFrontOf kept over) (subst (Consumes first next)
     (append-nil h.seen) (Consumes-trans first now next h.seen [] h.came came)) end h.front
-
-pub sent_more : (first now next : Option (List ℕ)) (text rest : List ℕ) (n : ℕ)
-    → HasSent first now text rest → Appends now next (take n rest)
-    → HasSent first next text (drop n rest)
-sent_more first now next text rest n h got = record {
-  sent = h.sent ++ take n rest;
-  parts =
-      h.parts ∙ ap (λ (xs : List ℕ). h.sent ++ xs) (sym (take-append-drop n rest))
-      ∙ sym (append_assoc h.sent (take n rest) (drop n rest));
-  got = Appends-trans first now next h.sent (take n rest) h.got got;
-}
-
-pub sent_part : (first now next : Option (List ℕ)) (text rest : List ℕ)
-    → HasSent first now text rest → Keeps now next → AppendsBeginning first next text
-sent_part first now next text rest h kept = record {
-  sent = h.sent;
-  unsent = rest;
-  parts = h.parts;
-  got = Appends-kept first now next h.sent h.got kept;
-}
-
-pub sent_all : (first now : Option (List ℕ)) (text rest : List ℕ) → HasSent first now text rest
-    → rest ≡ [] → Appends first now text
-sent_all first now text rest h none =
-    subst (Appends first now)
-    (sym (h.parts ∙ ap (λ (xs : List ℕ). h.sent ++ xs) none ∙ append-nil h.sent)) h.got
-
-pub sent_none : (a : Option (List ℕ)) (text : List ℕ) → HasSent a a text text
-sent_none a text = record { sent = []; parts = refl; got = Appends-nil a }
 
 pub read_none : (a : Option (List ℕ)) → HasRead a a [] false
 read_none a =

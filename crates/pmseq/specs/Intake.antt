@@ -1,6 +1,5 @@
--- What is kept of the bytes of a reader, and what a writer got of a text.
-use Rattle.std.specs.Prelude.{◌≡◌, ℕ, List, ◌++◌, Bool, length, take, nat_lt, Option}
-use Rattle.std.specs.Io.KnownBytes.{Appends}
+-- What is kept of the bytes of a reader.
+use Rattle.std.specs.Prelude.{◌≡◌, ℕ, List, Bool, length, take, nat_lt}
 
 -- the most bytes that are kept
 abbrev pub kept_limit : ℕ
@@ -10,10 +9,3 @@ kept_limit = 16777216
 pub record IsFrontOf (kept : List ℕ) (too_large : Bool) (all : List ℕ) : Type 0 where
   pub bytes : kept ≡ take kept_limit all
   pub more : too_large ≡ nat_lt kept_limit (length all)
-
--- the writer got a beginning of the text, which may be nothing or all of it
-pub record AppendsBeginning (old new : Option (List ℕ)) (text : List ℕ) : Type 0 where
-  pub sent : List ℕ
-  pub unsent : List ℕ
-  pub parts : text ≡ sent ++ unsent
-  pub got : Appends old new sent

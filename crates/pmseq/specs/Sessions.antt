@@ -4,7 +4,8 @@ use Rattle.std.specs.Prelude.{MatchResult, if◌then◌else◌}
 use Rattle.std.specs.Str.{is_utf8}
 use Rattle.std.specs.Io.KnownBytes.{Appends}
 use Rattle.texts.specs.Reading.{◌>>=◌, some_or, value_if}
-use Rattle.pmseq.specs.Intake.{kept_limit, AppendsBeginning}
+use Rattle.texts.specs.Sending.{AppendsBeginning}
+use Rattle.pmseq.specs.Intake.{kept_limit}
 use Rattle.pmseq.specs.Commands.{task_in, IsReplyOf}
 use Rattle.pmseq.specs.Replies.{Reply, refusal}
 use Rattle.pmseq.specs.declared.commands.Task.{Task}

@@ -1,11 +1,10 @@
-ghost use Rattle.std.specs.Prelude.{◌≡◌, ◌++◌, List, ℕ, IfOk, OnOk, OnErr, IfSome, vec_len, ◌<◌};
-ghost use Rattle.std.specs.Prelude.{length};
-ghost use Rattle.std.specs.Io.KnownBytes.{Appends, IsAtEnd};
+ghost use Rattle.std.specs.Prelude.{◌≡◌, ◌++◌, List, ℕ, IfOk, OnOk, IfSome, vec_len, ◌<◌, length};
+ghost use Rattle.std.specs.Io.KnownBytes.{IsAtEnd};
 ghost use Rattle.pmseq.specs.declared.intake.ReadFault.TheVariants.{Memory};
-ghost use Rattle.pmseq.specs.Intake.{IsFrontOf, AppendsBeginning};
+ghost use Rattle.pmseq.specs.Intake.{IsFrontOf};
 
 use std::alloc::{AllocError, Global};
-use std::io::{Read, Write};
+use std::io::Read;
 
 /// The most bytes that are kept.
 const KEPT_LIMIT: usize = 16_777_216;
@@ -30,10 +29,6 @@ impl From<AllocError> for ReadFault {
         ReadFault::Memory
     }
 }
-
-/// The writer failed, or took nothing of a nonempty rest.
-#[derive(Clone, Copy, Debug, PartialEq, Eq)]
-pub struct WriteFault;
 
 /// What is kept of a reader's bytes.
 #[derive(Debug, Drop)]
@@ -92,20 +87,4 @@ pub fn read_input<R: Read>(alloc: Global, reader: &mut R) -> Result<Input, ReadF
 {
     let mut buffer = empty_buffer(alloc)?;
     gather(alloc, reader, &mut buffer)
-}
-
-/// Sends all of a text, or a beginning of it.
-pub fn send<W: Write>(writer: &mut W, text: &[u8]) -> Result<(), WriteFault>
-    ensures ok { OnOk result (Appends (W.contents writer.old) (W.contents writer.new) text.now) }
-    ensures err { OnErr result
-        (AppendsBeginning (W.contents writer.old) (W.contents writer.new) text.now) }
-{
-    let mut rest = text;
-    while !rest.is_empty() {
-        match writer.write(rest) {
-            Ok(0) | Err(_) => return Err(WriteFault),
-            Ok(count) => rest = &rest[count..],
-        }
-    }
-    Ok(())
 }

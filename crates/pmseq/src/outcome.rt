@@ -1,5 +1,6 @@
 ghost use Rattle.std.specs.Prelude.{◌≡◌, ◌++◌, IfOk, OnOk, codes, string_bytes};
-ghost use Rattle.pmseq.specs.Outcomes.{returned_by, outcome_text};
+ghost use Rattle.pmseq.specs.Outcomes.{outcome_text};
+ghost use Rattle.targets.specs.Outcomes.{returned_by};
 
 use smbus::{Answer, Form, Message};
 use std::alloc::{AllocError, Global};

@@ -10,11 +10,11 @@ ghost use Rattle.pmseq.specs.declared.session.DeviceFault.TheVariants.{Memory, W
 
 use crate::commands::{Task, read_task, reply_of};
 use crate::fault::{BundleFault, InputFault};
-use crate::intake::{Input, ReadFault, WriteFault, read_input, send};
+use crate::intake::{Input, ReadFault, read_input};
 use crate::reply::{Reply, Status, refused};
 use std::alloc::{AllocError, Global};
 use std::io::{Read, Write};
-use texts::ReadError;
+use texts::{CutShort, ReadError, send};
 
 /// Why an input got no whole reply.
 #[derive(Clone, Copy, Debug, PartialEq, Eq)]
@@ -125,7 +125,7 @@ pub fn answer<R: Read, W: Write>(
     let reply = received(alloc, reader)?;
     match send(writer, &reply.text) {
         Ok(()) => Ok(reply.status),
-        Err(WriteFault) => Err(DeviceFault::Writer),
+        Err(CutShort) => Err(DeviceFault::Writer),
     }
 }
 

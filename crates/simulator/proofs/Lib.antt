@@ -7,12 +7,10 @@ pub mod WireAnswers
 pub mod SeenSteps
 pub mod SeenRuns
 pub mod NextPlaces
-pub mod Observed
 pub mod OneEntry
 pub mod Runs
 pub mod Seen
 pub mod Sendable
-pub mod Sent
 pub mod StepLines
 pub mod Stretches
 pub mod Taken

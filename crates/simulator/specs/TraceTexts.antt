@@ -3,6 +3,7 @@ use Rattle.std.specs.Prelude.{◌≡◌, ℕ, List, [], ◌∷◌, ◌++◌, Opt
 use Rattle.std.specs.Fmt.{decimal}
 use Rattle.std.specs.Io.KnownBytes.{Appends}
 use Rattle.texts.specs.Hex.{word_text}
+use Rattle.texts.specs.Sending.{AppendsBeginning}
 use Rattle.wires.specs.Events.{events_of}
 use Rattle.smbus.specs.Shown.{Shown}
 use Rattle.smbus.specs.Frames.{AreFrames}
@@ -56,13 +57,6 @@ pub record IsTraceText (t : Trace) (text : List ℕ) : Type 0 where
   pub steps : List ℕ
   pub lines : AreLines t.entries steps
   pub parts : text ≡ steps ++ last_line t.last.ended (total_ticks t.entries)
-
--- the writer got a beginning of the text, which may be nothing or all of it
-pub record AppendsBeginning (old new : Option (List ℕ)) (text : List ℕ) : Type 0 where
-  pub sent : List ℕ
-  pub unsent : List ℕ
-  pub parts : text ≡ sent ++ unsent
-  pub got : Appends old new sent
 
 -- the writer got the trace's text
 pub record IsWritten (t : Trace) (old new : Option (List ℕ)) : Type 0 where

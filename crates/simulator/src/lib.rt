@@ -7,7 +7,6 @@ mod lines;
 mod machine;
 mod moves;
 mod running;
-mod sending;
 mod starting;
 mod stepping;
 mod trace;

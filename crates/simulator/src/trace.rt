@@ -8,10 +8,10 @@ ghost use Rattle.simulator.specs.declared.trace.WriteFault.TheVariants.{Write as
 
 use crate::machine::Entry;
 use crate::running::Trace;
-use crate::sending::send;
 use crate::trace_text::{last_line, line_of};
 use std::alloc::{AllocError, Global};
 use std::io::Write;
+use texts::{CutShort, send};
 use thiserror::Error;
 
 /// Why a trace wasn't written.
@@ -82,6 +82,6 @@ pub fn write_trace<W: Write>(alloc: Global, trace: &Trace, writer: &mut W) -> Re
     let text = trace_text(alloc, trace)?;
     match send(writer, text.as_bytes()) {
         Ok(()) => Ok(()),
-        Err(_) => Err(WriteFault::Write),
+        Err(CutShort) => Err(WriteFault::Write),
     }
 }

@@ -14,4 +14,5 @@ pub mod MarkCounts
 pub mod OneFrameOfMessage
 pub mod MessageFrames
 pub mod FrameWords
+pub mod Observed
 pub mod Examples

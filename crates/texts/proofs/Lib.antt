@@ -1,3 +1,4 @@
 pub mod DecimalTexts
 pub mod HexDigits
 pub mod HexLaws
+pub mod Sent

@@ -2,4 +2,5 @@ pub mod Decimal
 pub mod Hex
 pub mod Names
 pub mod Reading
+pub mod Sending
 pub mod Words

@@ -1,5 +1,7 @@
 use super::*;
 use std::alloc::Global;
+use std::io;
+use std::io::Write;
 use std::test::Fail;
 
 #[test]
@@ -91,4 +93,45 @@ fn faults(rt: HostRuntime) -> Result<(), Fail> {
     assert_eq!(rt; one_byte(rt.alloc(), Some(3))?.as_slice(), [3].as_slice());
     assert_eq!(rt; one_byte(rt.alloc(), None).err(), Some(ReadError::Fault(7)));
     Ok(())
+}
+
+/// Takes one byte a call, until it takes nothing.
+#[derive(Drop)]
+struct NarrowWriter {
+    taken: Vec<u8>,
+    calls_left: usize,
+}
+
+impl Write for NarrowWriter {
+    fn write(&mut self, bytes: &[u8]) -> io::Result<usize> {
+        match bytes.first() {
+            Some(byte) if self.calls_left > 0 => {
+                self.calls_left -= 1;
+                self.taken.push(*byte)?;
+                Ok(1)
+            }
+            _ => Ok(0),
+        }
+    }
+
+    fn flush(&mut self) -> io::Result<()> {
+        Ok(())
+    }
+}
+
+#[test]
+fn texts_are_sent_whole_or_cut_short(rt: HostRuntime) {
+    for (calls_left, want, taken) in [
+        (0, Err(CutShort), b"".as_slice()),
+        (2, Err(CutShort), b"fr".as_slice()),
+        (5, Ok(()), b"frame".as_slice()),
+        (9, Ok(()), b"frame".as_slice()),
+    ] {
+        let mut writer = NarrowWriter {
+            taken: Vec::new(rt.alloc()),
+            calls_left,
+        };
+        assert_eq!(rt; send(&mut writer, b"frame"), want);
+        assert_eq!(rt; writer.taken.as_slice(), taken);
+    }
 }

@@ -1,4 +1,4 @@
-use Rattle.pmseq.proofs.Observed.{never_fails}
+use Rattle.smbus.proofs.Observed.{never_fails}
 use Rattle.pmseq.proofs.frame.only_frame.Goals as goal
 
 pub unreachable-requires-in-Err-NotFrames : goal.unreachable-requires-in-Err-NotFrames

@@ -1,7 +1,7 @@
 use Rattle.std.proofs.Common.{List, [], ◌∷◌, ◌∙◌, sym, subst}
 use Rattle.wires.specs.declared.event.Event.{Event}
 use Rattle.smbus.specs.Frames.{AreFrames}
-use Rattle.simulator.proofs.Observed.{never_fails}
+use Rattle.smbus.proofs.Observed.{never_fails}
 use Rattle.simulator.proofs.trace_text.only_frame.Goals as goal
 
 pub unreachable-requires-in-Err-NotFrames : goal.unreachable-requires-in-Err-NotFrames

@@ -1,6 +1,6 @@
 use Rattle.std.proofs.lemmas.List.{take_rest}
-use Rattle.pmseq.proofs.Transfers.{sent_more}
-use Rattle.pmseq.proofs.intake.send.Goals as goal
+use Rattle.texts.proofs.Sent.{sent_more}
+use Rattle.texts.proofs.sending.send.Goals as goal
 
 pub loop-rest-preserved : goal.loop-rest-preserved
 loop-rest-preserved g c =

@@ -1,10 +1,10 @@
 -- What a loop over a writer has sent.
-use Rattle.std.proofs.Common.{◌≡◌, ℕ, List, [], ◌++◌, take, drop, Option, refl, sym, ap, subst, ◌∙◌}
-use Rattle.std.proofs.Common.{append_assoc}
+use Rattle.std.proofs.Common.{◌≡◌, ◌≢◌, ℕ, List, [], ◌++◌, take, drop, Option, refl, sym, ap, subst}
+use Rattle.std.proofs.Common.{◌∙◌, append_assoc}
 use Rattle.std.specs.Io.KnownBytes.{Appends, Keeps}
 use Rattle.std.proofs.KnownBytes.{Appends-nil, Appends-trans, Appends-kept}
 use Rattle.std.proofs.lemmas.List.{append-nil, take-append-drop}
-use Rattle.simulator.specs.TraceTexts.{AppendsBeginning}
+use Rattle.texts.specs.Sending.{AppendsBeginning}
 
 pub record HasSent (first now : Option (List ℕ)) (text rest : List ℕ) : Type 0 where
   pub sent : List ℕ
@@ -23,11 +23,12 @@ sent_more first now next text rest n h got = record {
 }
 
 pub sent_part : (first now next : Option (List ℕ)) (text rest : List ℕ)
-    → HasSent first now text rest → Keeps now next → AppendsBeginning first next text
-sent_part first now next text rest h kept = record {
+    → HasSent first now text rest → rest ≢ [] → Keeps now next → AppendsBeginning first next text
+sent_part first now next text rest h some kept = record {
   sent = h.sent;
   unsent = rest;
   parts = h.parts;
+  short = some;
   got = Appends-kept first now next h.sent h.got kept;
 }
 

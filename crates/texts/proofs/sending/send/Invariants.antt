@@ -1,6 +1,6 @@
 use Rattle.std.proofs.Common.{length}
-use Rattle.pmseq.proofs.Transfers.{HasSent}
-use Rattle.pmseq.proofs.intake.send.Given as goal
+use Rattle.texts.proofs.Sent.{HasSent}
+use Rattle.texts.proofs.sending.send.Given as goal
 
 abbrev pub invariant-loop-rest : goal.invariant-loop-rest
 invariant-loop-rest g l =
