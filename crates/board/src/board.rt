@@ -1,4 +1,4 @@
-ghost use Rattle.std.specs.Prelude.{◌≡◌, length, option_map, slice_get};
+ghost use Rattle.std.specs.Prelude.{◌≡◌, ◌<◌, length, option_map, slice_get, IfSome};
 ghost use Rattle.board.specs.Boards.{place_of_name, place_of_address, largest_stretch};
 ghost use Rattle.board.specs.Valid.{IsBoard};
 ghost use Rattle.board.specs.Named.{named_view};
@@ -38,12 +38,12 @@ impl Board {
         Board { targets, rails }
     }
 
-    /// How many targets there are, 1 to 16.
-    pub fn target_count(&self) -> usize
-        ensures count { result ≡ length self.now.targets }
+    /// The targets, 1 to 16, by their indices.
+    pub fn targets(&self) -> &[Target]
+        ensures targets { result.now ≡ self.now.targets }
         ensures board { IsBoard self.now }
     {
-        self.targets.items.len()
+        self.targets.items.as_slice()
     }
 
     /// The target of an index.
@@ -62,14 +62,16 @@ impl Board {
 
     /// The index of the target of a name.
     pub fn target_named(&self, name: &str) -> Option<usize>
-        ensures { result ≡ place_of_name name.now self.now.target_names }
+        ensures value { result ≡ place_of_name name.now self.now.target_names }
+        ensures there { IfSome result (λ index. index < length self.now.targets) }
     {
         place_of(&self.targets.names, name)
     }
 
     /// The index of the target with an address.
     pub fn target_at(&self, address: u8) -> Option<usize>
-        ensures { result ≡ place_of_address address self.now.targets }
+        ensures value { result ≡ place_of_address address self.now.targets }
+        ensures there { IfSome result (λ index. index < length self.now.targets) }
     {
         self.targets
             .items
@@ -88,12 +90,12 @@ impl Board {
         largest
     }
 
-    /// How many rails there are, at most 64.
-    pub fn rail_count(&self) -> usize
-        ensures count { result ≡ length self.now.rails }
+    /// The rails, at most 64, by their indices.
+    pub fn rails(&self) -> &[Rail]
+        ensures rails { result.now ≡ self.now.rails }
         ensures board { IsBoard self.now }
     {
-        self.rails.items.len()
+        self.rails.items.as_slice()
     }
 
     /// The rail of an index.
@@ -112,7 +114,8 @@ impl Board {
 
     /// The index of the rail of a name.
     pub fn rail_named(&self, name: &str) -> Option<usize>
-        ensures { result ≡ place_of_name name.now self.now.rail_names }
+        ensures value { result ≡ place_of_name name.now self.now.rail_names }
+        ensures there { IfSome result (λ index. index < length self.now.rails) }
     {
         place_of(&self.rails.names, name)
     }

@@ -24,8 +24,3 @@ pub use file::read_board;
 pub use law::lists_are_read_in_order;
 pub use rail::Rail;
 pub use target::Target;
-
-#[cfg(test)]
-mod fault_tests;
-#[cfg(test)]
-mod tests;

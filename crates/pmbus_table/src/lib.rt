@@ -17,6 +17,3 @@ pub use operation::enables;
 pub use protect::permits;
 pub use status::{StatusWord, reported_good};
 pub use voltage::within;
-
-#[cfg(test)]
-mod tests;

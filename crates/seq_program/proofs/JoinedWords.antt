@@ -3,7 +3,6 @@ use Rattle.std.proofs.Common.{◌≡◌, ℕ, ◌<◌, ◌-◌, Bool, true, fals
 use Rattle.std.proofs.Common.{[], ◌∷◌, ◌++◌, length, filter, take, map, get_or, refl, ap, ◌∙◌, All}
 use Rattle.std.proofs.Common.{arith}
 use Rattle.std.specs.List.{list_all, slice_split, join_with_byte, flat_map, position_or_len}
-use Rattle.std.specs.Str.Lines.{lines, lines_of_parts, strip_carriage_return}
 use Rattle.std.proofs.lemmas.Bool.{and_parts, and_from, lt-ltb, ltb-true}
 use Rattle.std.proofs.lemmas.Bool.Decides.{nat_tests}
 use Rattle.std.proofs.lemmas.List.{length-append}
@@ -13,7 +12,7 @@ use Rattle.std.proofs.lemmas.List.Sums.{AllPass-from_list_all, list_all-from_All
 use Rattle.std.proofs.lemmas.List.Sums.{position_or_len_is}
 use Rattle.std.proofs.lemmas.List.Splits.{slice_split_none, slice_split_at, length-slice_split}
 use Rattle.std.proofs.Math.Seq.{take-length}
-use Rattle.texts.specs.Words.{is_nonempty, words_of}
+use Rattle.texts.specs.Words.{is_nonempty, words_of, without_empty_end, lines_by_feed}
 use Rattle.seq_program.specs.Passes.{without_comment}
 
 -- bytes over `#`, which the spaces, the ends of lines and the comments are not
@@ -53,9 +52,6 @@ no_comment b t = grind (arith, nat_tests)
 
 no_newline : (b : ℕ) → is_line_byte b ≡ true → (b == 10) ≡ false
 no_newline b t = grind (arith, nat_tests)
-
-no_return : (b : ℕ) → is_line_byte b ≡ true → (b == 13) ≡ false
-no_return b t = grind (arith, nat_tests)
 
 in_line : (b : ℕ) → is_word_byte b ≡ true → is_line_byte b ≡ true
 in_line b t = grind (arith, nat_tests)
@@ -118,16 +114,8 @@ pub words_back : (words : List (List ℕ)) → list_all is_word words ≡ true
 words_back words t =
     ap words_of (whole_line (join_with_byte 32 words) (joined_line words t)) ∙ joined_words words t
 
--- no carriage return is cut off
-kept : (line : List ℕ) → list_all is_line_byte line ≡ true → strip_carriage_return line ≡ line
-kept [] t = refl
-kept (b ∷ line) t =
-    let last : (get_or (b ∷ line) (length (b ∷ line) - 1) 0 == 13) ≡ false = fails is_line_byte
-    (λ b. b == 13) no_return (b ∷ line) t (length (b ∷ line) - 1) 0 (omega arith) in
-    rw last refl
-
 parts-cons : (line : List ℕ) (parts : List (List ℕ)) → 0 < length parts
-    → lines_of_parts (line ∷ parts) ≡ strip_carriage_return line ∷ lines_of_parts parts
+    → without_empty_end (line ∷ parts) ≡ line ∷ without_empty_end parts
 parts-cons line [] some = absurd (omega arith)
 parts-cons line (next ∷ parts) some = refl
 
@@ -141,7 +129,7 @@ shifted (b ∷ line) rest = ap (λ xs. b ∷ xs) (shifted line rest)
 
 -- the lines of a text are those that were ended
 pub lines_back : (words : List (List (List ℕ))) → list_all (list_all is_word) words ≡ true
-    → lines (flat_map ended words) ≡ map (join_with_byte 32) words
+    → lines_by_feed (flat_map ended words) ≡ map (join_with_byte 32) words
 lines_back [] t = refl
 lines_back (line ∷ more) t =
     let own = and_parts (list_all is_word line) (list_all (list_all is_word) more) t in
@@ -153,7 +141,6 @@ lines_back (line ∷ more) t =
     (fails is_line_byte (λ b. b == 10) no_newline (join_with_byte 32 line) bytes) refl in
     let some : 0 < length (slice_split (λ b. b == 10) rest) =
     omega (arith, length-slice_split (λ b. b == 10) rest) in
-    ap lines (shifted (join_with_byte 32 line) rest) ∙ ap lines_of_parts cut
+    ap lines_by_feed (shifted (join_with_byte 32 line) rest) ∙ ap without_empty_end cut
     ∙ parts-cons (join_with_byte 32 line) (slice_split (λ b. b == 10) rest) some
-    ∙ ap (λ l. l ∷ lines rest) (kept (join_with_byte 32 line) bytes)
     ∙ ap (λ ls. join_with_byte 32 line ∷ ls) (lines_back more own.1)

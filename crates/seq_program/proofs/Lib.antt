@@ -3,7 +3,6 @@ pub mod Endings
 pub mod ElseWords
 pub mod Labels
 pub mod Bytes
-pub mod Places
 pub mod WrittenValues
 pub mod ValidPrograms
 pub mod JoinedWords

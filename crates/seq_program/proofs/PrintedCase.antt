@@ -24,12 +24,12 @@ is_program = record {
 
 pub boards_have_programs : BoardsHavePrograms
 boards_have_programs board good =
-    let first : 0 < length board.target_names = omega (arith, good.one_target, good.target_names) in
+    let first : 0 < length board.targets = omega (arith, good.one_target) in
     record {
       instrs = asks_first;
       program = is_program;
       targets =
-          All-from_recursion (λ i. IsOnBoard (length board.target_names) i) asks_first
+          All-from_recursion (λ i. IsOnBoard (length board.targets) i) asks_first
           (first, (tt, tt));
       sends = refl;
     }

@@ -2,7 +2,7 @@
 use Rattle.std.proofs.Common.{◌≡◌, ℕ, ◌-◌, ◌<◌, ◌≤◌, true, List, [], length, slice_get, Option}
 use Rattle.std.proofs.Common.{Some, None, IfSome, IsTrue, Ok, refl, All, arith}
 use Rattle.std.specs.List.{flat_map, enumerate_from}
-use Rattle.std.specs.Str.Lines.{lines}
+use Rattle.texts.specs.Words.{lines_by_feed}
 use Rattle.std.proofs.lemmas.Bool.{and_from}
 use Rattle.std.proofs.lemmas.Option.{slice_get-get_or}
 use Rattle.board.specs.Boards.{Board}
@@ -55,7 +55,7 @@ pub program_back : (board : Board) (instrs : List (Instr ℕ)) → IsProgram ins
 unfolding program_of
 program_back board instrs program back =
     let few : length instrs ≤ 1024 = program.few in
-    let cut : lines (printed board instrs) ≡ texts_from board 0 instrs =
+    let cut : lines_by_feed (printed board instrs) ≡ texts_from board 0 instrs =
     lines_back (flat_map (place_lines board) (enumerate_from 0 instrs))
     (all_words board instrs 0 (omega arith) back) in
     let said : after_lines board 1 no_pass (texts_from board 0 instrs)
@@ -77,12 +77,13 @@ written_instr board target command place (written.Word value) t fits few =
 written_instr board target command place (written.Register register) t fits few =
     rw fits.0 (write_register_back board target register place t fits.1 few)
 
-on_board : (board : Board) (target : ℕ) → IsBoard board → target < length board.target_names
+on_board : (board : Board) (target : ℕ) → IsBoard board → target < length board.targets
     → IsTargetOf board target
-on_board board target good less = record { good = good; within = less }
+on_board board target good less =
+    record { good = good; within = omega (arith, less, good.target_names) }
 
 instr_back : (board : Board) → IsBoard board → (i : Instr ℕ) → IsInstr i
-    → IsOnBoard (length board.target_names) i → IfSome (jump_in i) (λ p. p < 1024)
+    → IsOnBoard (length board.targets) i → IfSome (jump_in i) (λ p. p < 1024)
     → ReadsBack board i
 instr_back board good (instr.Quick target read place) fits t few =
     quick_back board target place read (on_board board target good t) few

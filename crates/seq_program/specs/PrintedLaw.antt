@@ -11,14 +11,14 @@ use Rattle.seq_program.specs.Printed.{printed}
 abbrev pub PrintedProgramsReadBack : Type 0
 PrintedProgramsReadBack = (board : Board) → IsBoard board → (instrs : List (Instr ℕ))
     → IsProgram instrs
-    → All (λ i. IsOnBoard (length board.target_names) i) instrs
+    → All (λ i. IsOnBoard (length board.targets) i) instrs
     → program_of board (printed board instrs) ≡ Ok instrs
 
 -- a program of a board, which sends a message
 pub record SomeProgram (board : Board) : Type 0 where
   pub instrs : List (Instr ℕ)
   pub program : IsProgram instrs
-  pub targets : All (λ i. IsOnBoard (length board.target_names) i) instrs
+  pub targets : All (λ i. IsOnBoard (length board.targets) i) instrs
   pub sends : IfSome (slice_get instrs 0) (λ i. IsSome (target_in i))
 
 -- every board has one

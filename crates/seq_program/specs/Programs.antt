@@ -3,8 +3,8 @@ use Rattle.std.specs.Prelude.{ℕ, ◌-◌, List, [], ◌∷◌, ◌++◌, lengt
 use Rattle.std.specs.Prelude.{◌&&◌, nat_lt, Option, Some, None, Result, Ok, if◌then◌else◌}
 use Rattle.std.specs.List.{list_all}
 use Rattle.std.specs.Str.{bytes_eq}
-use Rattle.std.specs.Str.Lines.{lines}
 use Rattle.texts.specs.Reading.{◌>>=◌, some_or, value_if}
+use Rattle.texts.specs.Words.{lines_by_feed}
 use Rattle.board.specs.Boards.{Board}
 use Rattle.seq_program.specs.declared.fault.ProgramFault.{ProgramFault}
 use Rattle.seq_program.specs.declared.fault.ProgramFault.TheVariants.{UnknownLabel, NoEnd}
@@ -87,9 +87,9 @@ ends labels instrs =
 abbrev pub no_pass : Pass
 no_pass = record { instrs = []; labels = [] }
 
--- the program of a text, or its first fault
+-- the program of a text, whose lines end with LF alone, or its first fault
 unfoldable pub program_of : Board → List ℕ → Result (List (Instr ℕ)) ProgramFault
 program_of board text = do
-  pass ← after_lines board 1 no_pass (lines text)
+  pass ← after_lines board 1 no_pass (lines_by_feed text)
   instrs ← all_resolved [] pass.labels pass.instrs
-  value_if (NoEnd (length (lines text))) (ends pass.labels instrs) instrs
+  value_if (NoEnd (length (lines_by_feed text))) (ends pass.labels instrs) instrs

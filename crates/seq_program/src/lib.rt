@@ -18,6 +18,3 @@ pub use instr::{Block, Counter, Instr, Register, Width, Written};
 pub use law::printed_programs_read_back;
 pub use message::message_of;
 pub use program::{Program, read_program};
-
-#[cfg(test)]
-mod tests;

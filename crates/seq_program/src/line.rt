@@ -116,7 +116,7 @@ fn message_line<'a>(
     label: &'a str,
     words: &[&str],
 ) -> Said<'a>
-    ensures fits { IfOk result (λ i. IsSaid (length board.now.target_names) i) }
+    ensures fits { IfOk result (λ i. IsSaid (length board.now.targets) i) }
     ensures value { Gives (map_jump (λ l. l.now)) result
         (message_line board.now line word label.now (map (λ w. w.now) words.now)) }
 {
@@ -163,7 +163,7 @@ pub(crate) fn instr_of<'a>(
     word: &str,
     words: &[&'a str],
 ) -> Said<'a>
-    ensures fits { IfOk result (λ i. IsSaid (length board.now.target_names) i) }
+    ensures fits { IfOk result (λ i. IsSaid (length board.now.targets) i) }
     ensures value { Gives (map_jump (λ l. l.now)) result
         (instr_of board.now line word.now (map (λ w. w.now) words.now)) }
 {

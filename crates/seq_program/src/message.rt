@@ -61,7 +61,7 @@ fn address_of(board: &Board, target: usize) -> Option<u8>
     ensures value { result ≡ option_map (λ t. t.address) (slice_get board.now.targets target) }
     ensures seven_bits { IfSome result (λ address. address ≤ 127) }
 {
-    let _count = board.target_count();
+    let _targets = board.targets();
     Some(board.target(target)?.address())
 }
 

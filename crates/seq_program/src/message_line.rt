@@ -23,7 +23,7 @@ pub(crate) type Said<'a> = Result<Instr<&'a str>, ProgramFault>;
 
 fn target_named(board: &Board, word: &str) -> Option<usize>
     ensures value { result ≡ place_of_name word.now board.now.target_names }
-    ensures there { IfSome result (λ t. t < length board.now.target_names) }
+    ensures there { IfSome result (λ t. t < length board.now.targets) }
 {
     board.target_named(word)
 }
@@ -31,7 +31,7 @@ fn target_named(board: &Board, word: &str) -> Option<usize>
 #[tactic(auto, unfolding(crate::specs::MessageLines::target_of))]
 fn target_of(board: &Board, line: usize, word: &str) -> Result<usize, ProgramFault>
     ensures value { Gives (λ t. t) result (target_of board.now line word.now) }
-    ensures there { IfOk result (λ t. t < length board.now.target_names) }
+    ensures there { IfOk result (λ t. t < length board.now.targets) }
 {
     target_named(board, word).ok_or(ProgramFault::UnknownTarget(line))
 }
@@ -51,7 +51,7 @@ pub(crate) fn quick_of<'a>(
     otherwise: &'a str,
     words: &[&str],
 ) -> Said<'a>
-    ensures fits { IfOk result (λ i. IsSaid (length board.now.target_names) i) }
+    ensures fits { IfOk result (λ i. IsSaid (length board.now.targets) i) }
     ensures value { Gives (map_jump (λ l. l.now)) result
         (quick_of board.now line otherwise.now (map (λ w. w.now) words.now)) }
 {
@@ -74,7 +74,7 @@ pub(crate) fn send_of<'a>(
     otherwise: &'a str,
     words: &[&str],
 ) -> Said<'a>
-    ensures fits { IfOk result (λ i. IsSaid (length board.now.target_names) i) }
+    ensures fits { IfOk result (λ i. IsSaid (length board.now.targets) i) }
     ensures value { Gives (map_jump (λ l. l.now)) result
         (send_of board.now line otherwise.now (map (λ w. w.now) words.now)) }
 {
@@ -97,7 +97,7 @@ pub(crate) fn receive_of<'a>(
     otherwise: &'a str,
     words: &[&str],
 ) -> Said<'a>
-    ensures fits { IfOk result (λ i. IsSaid (length board.now.target_names) i) }
+    ensures fits { IfOk result (λ i. IsSaid (length board.now.targets) i) }
     ensures value { Gives (map_jump (λ l. l.now)) result
         (receive_of board.now line otherwise.now (map (λ w. w.now) words.now)) }
 {
@@ -162,7 +162,7 @@ pub(crate) fn write_of<'a>(
     otherwise: &'a str,
     words: &[&str],
 ) -> Said<'a>
-    ensures fits { IfOk result (λ i. IsSaid (length board.now.target_names) i) }
+    ensures fits { IfOk result (λ i. IsSaid (length board.now.targets) i) }
     ensures value { Gives (map_jump (λ l. l.now)) result
         (write_of board.now line otherwise.now (map (λ w. w.now) words.now)) }
 {
@@ -190,7 +190,7 @@ pub(crate) fn read_of<'a>(
     otherwise: &'a str,
     words: &[&str],
 ) -> Said<'a>
-    ensures fits { IfOk result (λ i. IsSaid (length board.now.target_names) i) }
+    ensures fits { IfOk result (λ i. IsSaid (length board.now.targets) i) }
     ensures value { Gives (map_jump (λ l. l.now)) result
         (read_of board.now line otherwise.now (map (λ w. w.now) words.now)) }
 {
@@ -218,7 +218,7 @@ pub(crate) fn call_of<'a>(
     otherwise: &'a str,
     words: &[&str],
 ) -> Said<'a>
-    ensures fits { IfOk result (λ i. IsSaid (length board.now.target_names) i) }
+    ensures fits { IfOk result (λ i. IsSaid (length board.now.targets) i) }
     ensures value { Gives (map_jump (λ l. l.now)) result
         (call_of board.now line otherwise.now (map (λ w. w.now) words.now)) }
 {
@@ -246,7 +246,7 @@ pub(crate) fn block_write_of<'a>(
     otherwise: &'a str,
     words: &[&str],
 ) -> Said<'a>
-    ensures fits { IfOk result (λ i. IsSaid (length board.now.target_names) i) }
+    ensures fits { IfOk result (λ i. IsSaid (length board.now.targets) i) }
     ensures value { Gives (map_jump (λ l. l.now)) result
         (block_write_of board.now line otherwise.now (map (λ w. w.now) words.now)) }
 {
@@ -271,7 +271,7 @@ pub(crate) fn block_read_of<'a>(
     otherwise: &'a str,
     words: &[&str],
 ) -> Said<'a>
-    ensures fits { IfOk result (λ i. IsSaid (length board.now.target_names) i) }
+    ensures fits { IfOk result (λ i. IsSaid (length board.now.targets) i) }
     ensures value { Gives (map_jump (λ l. l.now)) result
         (block_read_of board.now line otherwise.now (map (λ w. w.now) words.now)) }
 {
@@ -297,7 +297,7 @@ pub(crate) fn block_call_of<'a>(
     otherwise: &'a str,
     words: &[&str],
 ) -> Said<'a>
-    ensures fits { IfOk result (λ i. IsSaid (length board.now.target_names) i) }
+    ensures fits { IfOk result (λ i. IsSaid (length board.now.targets) i) }
     ensures value { Gives (map_jump (λ l. l.now)) result
         (block_call_of board.now line otherwise.now (map (λ w. w.now) words.now)) }
 {

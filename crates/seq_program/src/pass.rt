@@ -97,8 +97,8 @@ impl<'a> Pass<'a> {
         word: &str,
         words: &[&'a str],
     ) -> Result<(), ProgramFault>
-        requires said { IsPass (length board.now.target_names) self.old }
-        ensures said { OnOk result (IsPass (length board.now.target_names) self.new) }
+        requires said { IsPass (length board.now.targets) self.old }
+        ensures said { OnOk result (IsPass (length board.now.targets) self.new) }
         ensures value { Gives (λ _. pass_view self.new) result
             (after_instr board.now line (pass_view self.old) word.now
             (map (λ w. w.now) words.now)) }
@@ -118,8 +118,8 @@ impl<'a> Pass<'a> {
         line: usize,
         words: &[&'a str],
     ) -> Result<(), ProgramFault>
-        requires said { IsPass (length board.now.target_names) self.old }
-        ensures said { OnOk result (IsPass (length board.now.target_names) self.new) }
+        requires said { IsPass (length board.now.targets) self.old }
+        ensures said { OnOk result (IsPass (length board.now.targets) self.new) }
         ensures value { Gives (λ _. pass_view self.new) result
             (after_words board.now line (pass_view self.old) (map (λ w. w.now) words.now)) }
     {
@@ -142,8 +142,8 @@ impl<'a> Pass<'a> {
         number: usize,
         line: &'a str,
     ) -> Result<(), ProgramFault>
-        requires said { IsPass (length board.now.target_names) self.old }
-        ensures said { OnOk result (IsPass (length board.now.target_names) self.new) }
+        requires said { IsPass (length board.now.targets) self.old }
+        ensures said { OnOk result (IsPass (length board.now.targets) self.new) }
         ensures value { Gives (λ _. pass_view self.new) result
             (after_line board.now number (pass_view self.old) line.now) }
     {

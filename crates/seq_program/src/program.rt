@@ -18,7 +18,7 @@ use board::Board;
 use indexmap::IndexMap;
 use std::alloc::Global;
 use std::marker::Model;
-use texts::lines_of;
+use texts::lines_by_feed;
 
 /// The instructions of a program, by their places: 1 to 1024, whose jumps land, and of which the
 /// last ends.
@@ -60,7 +60,7 @@ impl Program {
 
 /// What the lines say.
 fn pass_of<'a>(alloc: Global, board: &Board, lines: &[&'a str]) -> Result<Pass<'a>, ProgramFault>
-    ensures said { IfOk result (λ p. IsPass (length board.now.target_names) p) }
+    ensures said { IfOk result (λ p. IsPass (length board.now.targets) p) }
     ensures value { Gives pass_view result
         (after_lines board.now 1 no_pass (map (λ l. l.now) lines.now)) }
 {
@@ -314,9 +314,9 @@ fn ends(labels: &IndexMap<String, usize>, instrs: &[Instr<usize>]) -> bool
 #[tactic(auto, unfolding(crate::specs::Programs::program_of))]
 pub fn read_program(alloc: Global, board: &Board, text: &str) -> Result<Program, ProgramFault>
     ensures value { Gives (λ p. p) result (program_of board.now text.now) }
-    ensures on_board { IfOk result (λ p. All (λ i. IsOnBoard (length board.now.target_names) i) p) }
+    ensures on_board { IfOk result (λ p. All (λ i. IsOnBoard (length board.now.targets) i) p) }
 {
-    let lines = lines_of(alloc, text)?;
+    let lines = lines_by_feed(alloc, text)?;
     let pass = pass_of(alloc, board, &lines)?;
     let instrs = all_resolved(alloc, &pass.labels, &pass.instrs)?;
     if !ends(&pass.labels, &instrs) {

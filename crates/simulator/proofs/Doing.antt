@@ -13,10 +13,9 @@ use Rattle.smbus.specs.Whole.{IsWhole}
 use Rattle.smbus.specs.FirstSegment.{bytes_seen}
 use Rattle.smbus.specs.MessageFrame.{send_byte, read_word, IsSendByte, IsCutLate}
 use Rattle.smbus.proofs.SeenFrames.{head_same}
-use Rattle.simulator.specs.Entries.{samples_of}
-use Rattle.simulator.specs.EntryLaws.{ReadsOne}
+use Rattle.smbus.specs.Slots.{samples_of}
+use Rattle.simulator.specs.EntryLaws.{ReadsOne, EntriesReadBack}
 use Rattle.simulator.specs.Does.{HasFrame, SendsByte, ReportsWord, Sent, Reported, EntriesDoAsAsked}
-use Rattle.simulator.proofs.OneEntry.{reads_one}
 
 same : (m : Asked) (a : Answered) (alert : Bool) (r : ReadsOne m a alert) (f : Shown)
     → HasFrame (samples_of alert m a) f → f ≡ r.shows.one.frame
@@ -91,8 +90,8 @@ reported m a alert r address code value lt h = record {
       h.read.command h.read.returns (late_whole m a alert r h.accepted h.cut_late);
 }
 
-pub do_as_asked : EntriesDoAsAsked
-do_as_asked m a alert asked =
+pub do_as_asked : EntriesReadBack → EntriesDoAsAsked
+do_as_asked reads_one m a alert asked =
     let r : ReadsOne m a alert = reads_one m a alert asked in
     record {
       begins = λ bytes. (

@@ -27,23 +27,23 @@ use Rattle.simulator.specs.Safe.{IsSafe}
 use Rattle.simulator.specs.Headline.{IsSafeWithin, ReadsAllowed}
 use Rattle.simulator.specs.SmallPrograms.{ending_program, EndingIsSafe}
 
--- its step is the one of `end`
-record Ends (s : BusState) (a : Answered) (e : Entry) (next : Machine) : Type 0 where
-  pub entry : e ≡ entry_of End None a (start_at s)
+-- a step of `end`
+pub record Ends (m : Machine) (a : Answered) (e : Entry) (next : Machine) : Type 0 where
+  pub entry : e ≡ entry_of End None a m
   pub ended : next.ended ≡ Finished
 
-step_of : (b : Board) (s : BusState) (a : Answered) (e : Entry) (next : Machine)
-    → IsStep b ending_program (start_at s) a e next → Ends s a e next
-step_of b s a e next step =
+pub step_of : (b : Board) (p : List (Instr ℕ)) (m : Machine) (a : Answered) (e : Entry)
+    (next : Machine) → slice_get p m.place ≡ Some End → IsStep b p m a e next → Ends m a e next
+step_of b p m a e next at step =
     let same : End ≡ step.instr =
-    let here : slice_get ending_program 0 ≡ Some step.instr = step.here in cc in
-    let of : IsStepOf b End None (start_at s) a e next =
-    subst (λ (i : Instr ℕ). IsStepOf b i (message_of b i (start_at s).regs) (start_at s) a e next)
+    let two : Some End ≡ Some step.instr = sym at ∙ step.here in cc in
+    let of : IsStepOf b End None m a e next =
+    subst (λ (i : Instr ℕ). IsStepOf b i (message_of b i m.regs) m a e next)
     (sym same) step.step in
     record { entry = of.entry_is; ended = ap (λ (m : Machine). m.ended) of.next_is }
 
 -- no frame is seen
-abbrev Silent : List Sample → Type 0
+abbrev pub Silent : List Sample → Type 0
 Silent samples = (frames : List Shown) → AreFrames (events_of samples) frames → frames ≡ []
 
 no_frame : (samples : List Sample) → Silent samples → (f : Shown) → HasFrame samples f → ⊥
@@ -55,7 +55,7 @@ writes_nothing samples silent t code (inl begins) =
     no_frame samples silent begins.1.frame begins.1.has
 writes_nothing samples silent t code (inr sends) = no_frame samples silent sends.frame sends.has
 
-safe : (b : Board) (history : List Entry) (e : Entry) → AreFrames (events_of e.samples) []
+pub safe : (b : Board) (history : List Entry) (e : Entry) → AreFrames (events_of e.samples) []
     → Silent e.samples → IsSafe b history e
 safe b history e none silent = record {
   read = inl none;
@@ -68,17 +68,17 @@ safe b history e none silent = record {
       absurd (no_frame e.samples silent begins.frame begins.has);
 }
 
--- what one step of it is seen to be
-record Seen (e : Entry) : Type 0 where
+-- what such a step is seen to be
+pub record Seen (e : Entry) : Type 0 where
   pub none : AreFrames (events_of e.samples) []
   pub silent : Silent e.samples
   pub ticks : e.ticks ≡ 1
   pub high : EndsHigh e.samples
 
-seen : IdleReadsBack → (s : BusState) (a : Answered) (e : Entry)
-    → e ≡ entry_of End None a (start_at s) → Seen e
-seen idle s a e is =
-    let no = idle (alert_level s) 1 in
+pub seen : IdleReadsBack → (m : Machine) (a : Answered) (e : Entry) → e ≡ entry_of End None a m
+    → Seen e
+seen idle m a e is =
+    let no = idle (alert_level m.bus) 1 in
     rw is (record {
       none = no.none;
       silent = no.only;
@@ -130,13 +130,14 @@ all_runs silence idle b s [] [] last run =
 all_runs silence idle b s [] (e ∷ entries) last run = absurd run
 all_runs silence idle b s (a ∷ answers) [] last run = absurd run
 all_runs silence idle b s (a ∷ []) (e ∷ []) last run =
-    let one = step_of b s a e run.0 run.1 in
+    let one = step_of b ending_program (start_at s) a e run.0 refl run.1 in
     let same : last ≡ run.0 = run.2 in
-    ended b e last (seen idle s a e one.entry) (ap (λ (m : Machine). m.ended) same ∙ one.ended)
+    ended b e last (seen idle (start_at s) a e one.entry)
+    (ap (λ (m : Machine). m.ended) same ∙ one.ended)
 all_runs silence idle b s (a ∷ []) (e ∷ f ∷ entries) last run = absurd run.2
 all_runs silence idle b s (a ∷ c ∷ answers) (e ∷ []) last run = absurd run.2
 all_runs silence idle b s (a ∷ c ∷ answers) (e ∷ f ∷ entries) last run =
-    let one = step_of b s a e run.0 run.1 in
+    let one = step_of b ending_program (start_at s) a e run.0 refl run.1 in
     let next = run.2.1 in
     let running : run.0.ended ≡ Running = next.running in
     let bad : Running ≡ Finished = sym running ∙ one.ended in

@@ -10,10 +10,10 @@ use Rattle.wires.specs.declared.event.Event.{Event}
 use Rattle.wires.specs.declared.event.Event.TheVariants.{Start}
 use Rattle.wires.specs.Events.{events_after, events_of}
 use Rattle.bit_bus.specs.Levels.{idle, EndsHigh}
-use Rattle.bit_bus.proofs.HeldLow.{joins_silently}
+use Rattle.bit_bus.specs.Word.{JoinsSilently}
 use Rattle.smbus.specs.Shown.{Shown}
 use Rattle.smbus.specs.Frames.{frame_word, IsFrame, AreFrames}
-use Rattle.smbus.proofs.OneFrameOfMessage.{frames_are_unique}
+use Rattle.smbus.specs.OneFrame.{FramesAreUnique}
 use Rattle.simulator.specs.Entries.{idle_samples, IsEntry, joined, all_frames, AreRead}
 use Rattle.simulator.specs.EntryLaws.{IdleReadsBack, JoinedReadBack}
 
@@ -63,23 +63,23 @@ reads_none alert ticks =
 
 -- joined entries begin idle
 
-joined_more : (samples next rest : List Sample) → EndsHigh samples → IsEntry next
+joined_more : JoinsSilently → (samples next rest : List Sample) → EndsHigh samples → IsEntry next
     → events_of (samples ++ (next ++ rest)) ≡ events_of samples ++ events_of (next ++ rest)
-joined_more samples next rest high e =
+joined_more joins_silently samples next rest high e =
     let begins : next ++ rest ≡ idle e.alert ∷ (e.later ++ rest) =
     ap (λ (l : List Sample). l ++ rest) e.begins in
     ap (λ (l : List Sample). events_of (samples ++ l)) begins
     ∙ joins_silently e.alert samples (e.later ++ rest) high
     ∙ ap (λ (l : List Sample). events_of samples ++ events_of l) (sym begins)
 
-joined_events : (entries : List (List Sample)) → AllByRecursion IsEntry entries
+joined_events : JoinsSilently → (entries : List (List Sample)) → AllByRecursion IsEntry entries
     → events_of (joined entries) ≡ flat_map events_of entries
-joined_events [] h = refl
-joined_events (samples ∷ []) h =
+joined_events silent [] h = refl
+joined_events silent (samples ∷ []) h =
     ap events_of (append-nil samples) ∙ sym (append-nil (events_of samples))
-joined_events (samples ∷ next ∷ entries) h =
-    joined_more samples next (joined entries) h.0.high h.1.0
-    ∙ ap (λ (l : List Event). events_of samples ++ l) (joined_events (next ∷ entries) h.1)
+joined_events silent (samples ∷ next ∷ entries) h =
+    joined_more silent samples next (joined entries) h.0.high h.1.0
+    ∙ ap (λ (l : List Event). events_of samples ++ l) (joined_events silent (next ∷ entries) h.1)
 
 -- frames one after another
 
@@ -102,18 +102,19 @@ joined_read (e ∷ entries) (fs ∷ frames) h =
     joins (events_of e) (flat_map events_of entries) fs (all_frames frames) h.0
     (joined_read entries frames h.1)
 
-joined_frames : (entries : List (List Sample)) (frames : List (List Shown)) → All IsEntry entries
+joined_frames : JoinsSilently → (entries : List (List Sample)) (frames : List (List Shown))
+    → All IsEntry entries
     → AreRead entries frames → AreFrames (events_of (joined entries)) (all_frames frames)
-joined_frames entries frames h read =
+joined_frames silent entries frames h read =
     subst (λ es. AreFrames es (all_frames frames))
-    (sym (joined_events entries (recursion_from_All IsEntry entries h)))
+    (sym (joined_events silent entries (recursion_from_All IsEntry entries h)))
     (joined_read entries frames read)
 
-pub reads_joined : JoinedReadBack
-reads_joined entries h = record {
-  events = joined_events entries (recursion_from_All IsEntry entries h);
-  frames = λ frames read. joined_frames entries frames h read;
+pub reads_joined : JoinsSilently → FramesAreUnique → JoinedReadBack
+reads_joined silent unique entries h = record {
+  events = joined_events silent entries (recursion_from_All IsEntry entries h);
+  frames = λ frames read. joined_frames silent entries frames h read;
   only = λ frames read others are.
-      frames_are_unique (events_of (joined entries)) (all_frames frames) others
-      (joined_frames entries frames h read) are;
+      unique (events_of (joined entries)) (all_frames frames) others
+      (joined_frames silent entries frames h read) are;
 }

@@ -1,3 +1,11 @@
+pub mod PlainSteps
+pub mod UnsafePrograms
+pub mod UnlistedForm
+pub mod WithdrawnNeed
+pub mod ClearingProgram
+pub mod JudgedBoard
+pub mod AllowedSteps
+pub mod SafeRuns
 pub mod Doing
 pub mod Joining
 pub mod MadeSteps

@@ -11,54 +11,54 @@ use Rattle.smbus.specs.Answered.{Answered}
 use Rattle.smbus.specs.Shown.{Shown}
 use Rattle.smbus.specs.Frames.{AreFrames}
 use Rattle.smbus.specs.Slots.{plan_of}
-use Rattle.smbus.specs.Whole.{IsBrokenOff}
-use Rattle.smbus.specs.OneFrame.{HasOneFrame}
 use Rattle.board.specs.Boards.{Board}
 use Rattle.board.specs.Valid.{IsBoard}
-use Rattle.targets.specs.Outcomes.{returned_by, ending_of}
+use Rattle.targets.specs.Outcomes.{returned_by, ending_of, outcome_of}
 use Rattle.targets.specs.States.{BusState}
 use Rattle.seq_program.specs.declared.instr.Instr.{Instr}
 use Rattle.seq_program.specs.Messages.{message_of}
 use Rattle.seq_program.specs.Valid.{IsProgram}
-use Rattle.simulator.specs.Entries.{samples_of, AreRead, IsEntry}
-use Rattle.simulator.specs.EntryLaws.{JoinedReadBack}
+use Rattle.smbus.specs.Slots.{samples_of}
+use Rattle.simulator.specs.Entries.{AreRead, IsEntry}
+use Rattle.simulator.specs.EntryLaws.{ReadsOne, JoinedReadBack}
 use Rattle.simulator.specs.Machines.{Machine, Entry}
 use Rattle.simulator.specs.Steps.{alert_level, IsStep, IsRun}
 use Rattle.simulator.specs.StepLaws.{IsReady, Sees, StepsAreSeen}
 use Rattle.simulator.specs.RunLaws.{IsFrameOf, AreStepFrames, AreRunFrames, RunsAreSeen}
 
 -- whole or broken off, by how the message ended
-by_ending : (m : Asked) (a : Answered) (one : HasOneFrame m a) (refuse cut : Option ℕ)
-    (returned : ℕ) → a.refuse ≡ refuse → first_cut (plan_of m a) ≡ cut
-    → IsFrameOf m a (ending_of refuse cut returned) one.frame
-by_ending m a one refuse (Some slot) returned r c =
-    subst (λ (held : Bool). IsBrokenOff m a.value a.bytes held one.frame) (ap is_some c)
-    (one.cut slot c)
-by_ending m a one (Some n) None returned r c =
-    subst (λ (held : Bool). IsBrokenOff m a.value a.bytes held one.frame) (ap is_some c)
-    (one.refused n r)
-by_ending m a one None None returned r c = one.done r c
+by_ending : (m : Asked) (a : Answered) (alert : Bool) (r : ReadsOne m a alert)
+    (refuse cut : Option ℕ) (returned : ℕ)
+    → a.refuse ≡ refuse → first_cut (plan_of m a) ≡ cut
+    → IsFrameOf (samples_of alert m a) m a (ending_of refuse cut returned) r.shows.one.frame
+by_ending m a alert r refuse (Some slot) returned at cut =
+    (r.timeout.1 (ap is_some cut), r.shows.one.cut slot cut alert)
+by_ending m a alert r (Some n) None returned at cut = (r.shows.one.only_refused n at cut).0
+by_ending m a alert r None None returned at cut = r.shows.one.done at cut
 
 record Framed (s : BusState) (o : Option Asked) (a : Answered) (e : Entry) : Type 0 where
   pub frames : List Shown
   pub read : AreFrames (events_of e.samples) frames
-  pub are : AreStepFrames o a frames
+  pub are : AreStepFrames e.samples o a frames
 
 framed : (s : BusState) (o : Option Asked) (a : Answered) (e : Entry) → Sees s o a e
     → Framed s o a e
 framed s None a e sees = record { frames = []; read = sees; are = refl }
 framed s (Some m) a e sees =
-    let one = sees.reads.shows.one in
-    let read : AreFrames (events_of (samples_of (alert_level s) m a)) (one.frame ∷ []) =
-    sees.reads.is_only.is in
+    let r = sees.reads in
+    let f = r.shows.one.frame in
+    let lines : List Sample = samples_of (alert_level s) m a in
+    let here : e.samples ≡ lines = sees.samples in
+    let ended : IsFrameOf lines m a (outcome_of (Some m) a) f =
+    by_ending m a (alert_level s) r a.refuse (first_cut (plan_of m a))
+    (returned_by m.form a.value a.bytes) refl refl in
     record {
-      frames = one.frame ∷ [];
-      read = rw sees.samples read;
+      frames = f ∷ [];
+      read = subst (λ (x : List Sample). AreFrames (events_of x) (f ∷ [])) (sym here) r.is_only.is;
       are = (
-        one.frame,
+        f,
         refl,
-        by_ending m a one a.refuse (first_cut (plan_of m a))
-            (returned_by m.form a.value a.bytes) refl refl,
+        subst (λ (x : List Sample). IsFrameOf x m a (outcome_of (Some m) a) f) (sym here) ended,
       );
     }
 

@@ -3,6 +3,7 @@ use Rattle.std.proofs.Common.{◌≡◌, ◌≤◌, ◌<◌, ◌+◌, ◌%◌, �
 use Rattle.std.proofs.Common.{◌∷◌, min, replicate, slice_index, slice_set, refl, sym, ap, arith}
 use Rattle.std.specs.List.{AllByRecursion}
 use Rattle.std.proofs.lemmas.List.Elements.{All-from_recursion, recursion_from_All}
+use Rattle.wires.specs.ArbitrationLaws.{LeastByteWins}
 use Rattle.smbus.specs.declared.message.Form.{Form}
 use Rattle.smbus.specs.declared.message.Form.TheVariants as form
 use Rattle.smbus.specs.Asked.{Asked}
@@ -20,7 +21,8 @@ use Rattle.seq_program.specs.declared.instr.Instr.{Instr}
 use Rattle.seq_program.specs.declared.instr.Instr.TheVariants as instr
 use Rattle.seq_program.specs.Messages.{message_of}
 use Rattle.seq_program.specs.Valid.{IsInstr}
-use Rattle.simulator.specs.Entries.{samples_of, IsEntry}
+use Rattle.smbus.specs.Slots.{samples_of}
+use Rattle.simulator.specs.Entries.{IsEntry}
 use Rattle.simulator.specs.EntryLaws.{EntriesReadBack, IdleReadsBack}
 use Rattle.simulator.specs.Does.{EntriesDoAsAsked}
 use Rattle.simulator.specs.Machines.{Machine, Entry}
@@ -39,12 +41,13 @@ abbrev Words : List ℕ → Type 0
 Words regs = AllByRecursion (λ word. word < 65536) regs
 
 -- a message of a machine that is ready is one on the wire
-asked_on_wire : (b : Board) (i : Instr ℕ) (m : Machine) (msg : Asked) (a : Answered) → IsBoard b
+asked_on_wire : LeastByteWins → (b : Board) (i : Instr ℕ) (m : Machine) (msg : Asked) (a : Answered)
+    → IsBoard b
     → IsInstr i → Belongs b m.bus → Words m.regs → message_of b i m.regs ≡ Some msg
     → Fits b m.bus msg a → AreAsked msg a
-asked_on_wire b i m msg a is ok belongs words e fits =
+asked_on_wire wins b i m msg a is ok belongs words e fits =
     let sent = sent_bytes b i m.regs msg is ok words e in
-    let got = fitting_bytes b m.bus msg a is belongs fits.form in
+    let got = fitting_bytes wins b m.bus msg a is belongs fits.form in
     record {
       can_be_sent = sendable b m.bus i m.regs (Some msg) a is ok (sym e) fits;
       wire = record {
@@ -153,12 +156,12 @@ same_before e f is = ap (λ (x : Entry). x.before) is
 same_regs : (x y : Machine) → x ≡ y → x.regs ≡ y.regs
 same_regs x y is = ap (λ (m : Machine). m.regs) is
 
-by_message : EntriesReadBack → EntriesDoAsAsked → IdleReadsBack
+by_message : LeastByteWins → EntriesReadBack → EntriesDoAsAsked → IdleReadsBack
     → (b : Board) (i : Instr ℕ) (o : Option Asked) (m : Machine) (a : Answered) (e : Entry)
     (next : Machine)
     → IsBoard b → IsInstr i → Belongs b m.bus → Words m.regs → message_of b i m.regs ≡ o
     → IsStepOf b i o m a e next → Seen b i o m a e next
-by_message reads does idle b i None m a e next is ok belongs words asked step =
+by_message wins reads does idle b i None m a e next is ok belongs words asked step =
     let none = idle (alert_level m.bus) (suc (idle_ticks i)) in
     let samples = same_samples e _ step.entry_is in
     record {
@@ -167,12 +170,12 @@ by_message reads does idle b i None m a e next is ok belongs words asked step =
       entry = rw samples (none.entry (omega arith));
       words = rw (same_regs next _ step.next_is) (silent_words i m ok words);
     }
-by_message reads does idle b i (Some msg) m a e next is ok belongs words asked step =
-    let sent = asked_on_wire b i m msg a is ok belongs words asked step.fits in
+by_message wins reads does idle b i (Some msg) m a e next is ok belongs words asked step =
+    let sent = asked_on_wire wins b i m msg a is ok belongs words asked step.fits in
     let one = reads msg a (alert_level m.bus) sent in
     let samples : e.samples ≡ samples_of (alert_level m.bus) msg a =
     same_samples e _ step.entry_is in
-    let wire = fitting_bytes b m.bus msg a is belongs step.fits.form in
+    let wire = fitting_bytes wins b m.bus msg a is belongs step.fits.form in
     let takes = takes_own_form b i m.regs msg ok asked in
     let no_block = no_block_read msg takes in
     let shown = does msg a (alert_level m.bus) sent in
@@ -192,12 +195,13 @@ by_message reads does idle b i (Some msg) m a e next is ok belongs words asked s
           (λ v done. outcome_small msg a v wire done));
     }
 
-pub steps_are_seen : EntriesReadBack → EntriesDoAsAsked → IdleReadsBack → StepsBelong → StepsAreSeen
-steps_are_seen reads does idle stays b p m next a e is program ready step =
+pub steps_are_seen : LeastByteWins → EntriesReadBack → EntriesDoAsAsked → IdleReadsBack
+    → StepsBelong → StepsAreSeen
+steps_are_seen wins reads does idle stays b p m next a e is program ready step =
     let i = step.instr in
     let ok = is_instr p m.place i program step.here in
     let words = recursion_from_All (λ word. word < 65536) m.regs ready.words in
-    let seen = by_message reads does idle b i
+    let seen = by_message wins reads does idle b i
     (message_of b i m.regs) m a e next is ok ready.machine.bus words refl step.step in
     record {
       instr = i;

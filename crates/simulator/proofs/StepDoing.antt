@@ -19,7 +19,7 @@ use Rattle.board.specs.Boards.{Target, Board}
 use Rattle.board.specs.Valid.{IsTarget, IsBoard}
 use Rattle.targets.specs.States.{BusState, IsTargetAt}
 use Rattle.targets.proofs.AlertBytes.{small_address}
-use Rattle.simulator.specs.Entries.{samples_of}
+use Rattle.smbus.specs.Slots.{samples_of}
 use Rattle.simulator.specs.Machines.{Entry}
 use Rattle.simulator.specs.Does.{HasFrame, IsFrontOfBytes, BeginsWith, SendsByte, ReportsWord, Sent}
 use Rattle.simulator.specs.Does.{Reported, DoesAsAsked}

@@ -12,6 +12,7 @@ use Rattle.smbus.specs.declared.message.Form.{Form}
 use Rattle.smbus.specs.declared.message.Form.TheVariants as form
 use Rattle.smbus.specs.Asked.{Asked}
 use Rattle.smbus.specs.Answered.{Answered}
+use Rattle.wires.specs.ArbitrationLaws.{LeastByteWins}
 use Rattle.wires.specs.Arbitration.{wire_byte}
 use Rattle.pmbus_table.specs.Codes.{page_code, write_protect_code}
 use Rattle.pmbus_table.specs.Protect.{is_protection}
@@ -166,13 +167,16 @@ read_small b s m value is belongs fits = elim (cases_Bool (m.code == page_code))
         let bad : true ≡ false = sym is ∙ e in
         cc
 
-alert_small : (b : Board) (s : BusState) (a : Answered) (sent : List ℕ) → alert_bytes b s ≡ sent
+alert_small : LeastByteWins → (b : Board) (s : BusState) (a : Answered) (sent : List ℕ)
+    → alert_bytes b s ≡ sent
     → IsBoard b → FitsAlert b s a → a.value < 65536
-alert_small b s a [] e is fits = let none : a.value ≡ 0 = (fits.nobody e).1 in omega (arith, none)
-alert_small b s a (x ∷ later) e is fits =
+alert_small wins b s a [] e is fits =
+    let none : a.value ≡ 0 = (fits.nobody e).1 in
+    omega (arith, none)
+alert_small wins b s a (x ∷ later) e is fits =
     let value : a.value ≡ wire_byte (alert_bytes b s) =
     (fits.somebody (λ none. let bad : x ∷ later ≡ [] = sym e ∙ none in cc)).1 in
-    let small : wire_byte (alert_bytes b s) < 65536 = wire_small b s x later is e in
+    let small : wire_byte (alert_bytes b s) < 65536 = wire_small wins b s x later is e in
     omega (arith, value, small)
 
 number : (a : Answered) → a.value < 65536 → a.bytes ≡ [] → IsOnWire a
@@ -183,24 +187,30 @@ block : (b : Board) (m : Asked) (a : Answered) (written : ℕ) → IsBoard b →
 block b m a written is bytewise fits none =
     record { value = omega (arith, none); read = block_bytes b m written a.bytes is bytewise fits }
 
-by_form : (b : Board) (s : BusState) (m : Asked) (a : Answered) (f : Form) → m.form ≡ f → IsBoard b
+by_form : LeastByteWins → (b : Board) (s : BusState) (m : Asked) (a : Answered) (f : Form)
+    → m.form ≡ f → IsBoard b
     → Belongs b s → FitsForm f b s m a → IsOnWire a
-by_form b s m a (form.Quick r) e is belongs fits = nothing a fits
-by_form b s m a form.SendByte e is belongs fits = nothing a fits
-by_form b s m a form.WriteByte e is belongs fits = nothing a fits
-by_form b s m a form.WriteWord e is belongs fits = nothing a fits
-by_form b s m a form.BlockWrite e is belongs fits = nothing a fits
-by_form b s m a form.ReadByte e is belongs fits =
+by_form wins b s m a (form.Quick r) e is belongs fits = nothing a fits
+by_form wins b s m a form.SendByte e is belongs fits = nothing a fits
+by_form wins b s m a form.WriteByte e is belongs fits = nothing a fits
+by_form wins b s m a form.WriteWord e is belongs fits = nothing a fits
+by_form wins b s m a form.BlockWrite e is belongs fits = nothing a fits
+by_form wins b s m a form.ReadByte e is belongs fits =
     number a (read_small b s m a.value is belongs fits.0) fits.1
-by_form b s m a form.ReceiveByte e is belongs fits = number a (in_word b m a.value is fits.0) fits.1
-by_form b s m a form.ReadWord e is belongs fits = number a (in_word b m a.value is fits.0) fits.1
-by_form b s m a form.ProcessCall e is belongs fits = number a (in_word b m a.value is fits.0) fits.1
-by_form b s m a form.BlockRead e is belongs fits = block b m a 0 is (ap has_words e) fits.0 fits.1
-by_form b s m a form.BlockProcessCall e is belongs fits =
+by_form wins b s m a form.ReceiveByte e is belongs fits =
+    number a (in_word b m a.value is fits.0) fits.1
+by_form wins b s m a form.ReadWord e is belongs fits =
+    number a (in_word b m a.value is fits.0) fits.1
+by_form wins b s m a form.ProcessCall e is belongs fits =
+    number a (in_word b m a.value is fits.0) fits.1
+by_form wins b s m a form.BlockRead e is belongs fits =
+    block b m a 0 is (ap has_words e) fits.0 fits.1
+by_form wins b s m a form.BlockProcessCall e is belongs fits =
     block b m a (length m.out) is (ap has_words e) fits.0 fits.1
-by_form b s m a form.Alert e is belongs fits =
-    number a (alert_small b s a (alert_bytes b s) refl is fits.0) fits.1
+by_form wins b s m a form.Alert e is belongs fits =
+    number a (alert_small wins b s a (alert_bytes b s) refl is fits.0) fits.1
 
-pub fitting_bytes : (b : Board) (s : BusState) (m : Asked) (a : Answered) → IsBoard b → Belongs b s
+pub fitting_bytes : LeastByteWins → (b : Board) (s : BusState) (m : Asked) (a : Answered)
+    → IsBoard b → Belongs b s
     → FitsForm m.form b s m a → IsOnWire a
-fitting_bytes b s m a is belongs fits = by_form b s m a m.form refl is belongs fits
+fitting_bytes wins b s m a is belongs fits = by_form wins b s m a m.form refl is belongs fits

@@ -67,7 +67,7 @@ reads_report b s m a e d word r t does at page read done =
     })
 
 -- of a message that is done all bytes go out
-done_out : (m : Asked) (a : Answered) → IsDone m a → bytes_out m a ≡ message_bytes m a
+pub done_out : (m : Asked) (a : Answered) → IsDone m a → bytes_out m a ≡ message_bytes m a
 done_out m a done =
     ap (λ (cut : Option ℕ). bytes_before cut (bytes_to a.refuse (message_bytes m a))) done.uncut
     ∙ ap (λ (refuse : Option ℕ). bytes_to refuse (message_bytes m a)) done.accepted

@@ -2,7 +2,6 @@
 use Rattle.std.specs.Prelude.{◌≡◌, ◌≢◌, ◌+◌, ◌*◌, ◌||◌, ◌==◌, ◌⊎◌, ℕ, Bool, List, length}
 use Rattle.std.specs.Prelude.{slice_index, Some, IsTrue, All}
 use Rattle.wires.specs.declared.lines.Sample.{Sample}
-use Rattle.bit_bus.specs.Levels.{HasTimeout}
 use Rattle.smbus.specs.declared.message.Form.{Form}
 use Rattle.smbus.specs.declared.message.Form.TheVariants.{WriteByte, WriteWord, ReceiveByte}
 use Rattle.smbus.specs.declared.message.Form.TheVariants.{ReadByte, ReadWord, ProcessCall}
@@ -11,8 +10,9 @@ use Rattle.smbus.specs.declared.message.Form.TheVariants.{Alert}
 use Rattle.smbus.specs.Asked.{Asked}
 use Rattle.smbus.specs.Answered.{Answered}
 use Rattle.smbus.specs.Shown.{Shown}
-use Rattle.smbus.specs.Protocol.{whole, marks_of}
-use Rattle.smbus.specs.Whole.{IsWhole, IsRefused, IsFrontOf, shown_marks}
+use Rattle.smbus.specs.Protocol.{HasLength}
+use Rattle.smbus.specs.Slots.{IsGoodBlock}
+use Rattle.smbus.specs.Whole.{IsWhole, IsBrokenOff}
 use Rattle.smbus.specs.MessageFrame.{AreWireBytes}
 use Rattle.pmbus_table.specs.Codes.{page_code, operation_code, write_protect_code}
 use Rattle.pmbus_table.specs.Commands.{form_read, is_paged}
@@ -22,12 +22,6 @@ use Rattle.board.specs.Boards.{Allow, Target, Board, entry_of}
 use Rattle.board.specs.Valid.{is_page_value}
 use Rattle.targets.specs.States.{BusState, IsTargetAt}
 use Rattle.targets.specs.Fitting.{IsIn}
-
--- the frame was broken off: in a refused byte of the controller, or where SCL was low for too long
-abbrev pub IsBrokenOffIn : List Sample → Asked → Answered → Shown → Type 0
-IsBrokenOffIn samples m a f =
-    IsRefused m a.value a.bytes f
-    ⊎ (HasTimeout samples × IsFrontOf (shown_marks f) (marks_of (whole m a.value a.bytes)))
 
 -- a word goes low byte first (SMBus 3.2, 6.5.4)
 abbrev pub word_of : List ℕ → ℕ
@@ -85,5 +79,9 @@ pub record IsAllowed (b : Board) (s : BusState) (samples : List Sample) (f : Sho
   pub message : Asked
   pub answer : Answered
   pub wire : AreWireBytes message answer
-  pub shown : IsWhole message answer.value answer.bytes f ⊎ IsBrokenOffIn samples message answer f
+  -- with as many data bytes as its form has, and blocks that can be counted
+  pub sized : HasLength message.form (length message.out)
+  pub counted : IsGoodBlock message answer
+  pub shown : IsWhole message answer.value answer.bytes f
+      ⊎ IsBrokenOff samples message answer.value answer.bytes f
   pub allowed : IsAllowedBy b s message answer

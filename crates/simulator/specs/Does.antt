@@ -14,7 +14,7 @@ use Rattle.smbus.specs.FirstSegment.{bytes_out, bytes_seen}
 use Rattle.smbus.specs.MessageFrame.{send_byte, read_word, IsSendByte, IsReadWord, IsCutLate}
 use Rattle.smbus.specs.MessageFrame.{ReadsNoBlock, AreAsked}
 use Rattle.targets.specs.Outcomes.{IsDone}
-use Rattle.simulator.specs.Entries.{samples_of}
+use Rattle.smbus.specs.Slots.{samples_of}
 
 abbrev pub HasFrame : List Sample → Shown → Type 0
 HasFrame samples f = AreFrames (events_of samples) (f ∷ [])

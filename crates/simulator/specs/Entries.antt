@@ -1,18 +1,11 @@
--- The samples of an entry: of a step that sends a message, or that sends none.
+-- The samples of an entry: of a step that sends none, and what entries have of frames.
 use Rattle.std.specs.Prelude.{ℕ, ◌≡◌, Bool, List, [], ◌∷◌, replicate}
 use Rattle.std.specs.List.{flat_map}
 use Rattle.wires.specs.declared.lines.Sample.{Sample}
 use Rattle.wires.specs.Events.{events_of}
-use Rattle.bit_bus.specs.Levels.{idle, levels, EndsHigh}
-use Rattle.smbus.specs.Asked.{Asked}
-use Rattle.smbus.specs.Answered.{Answered}
+use Rattle.bit_bus.specs.Levels.{idle, EndsHigh}
 use Rattle.smbus.specs.Shown.{Shown}
 use Rattle.smbus.specs.Frames.{AreFrames}
-use Rattle.smbus.specs.Slots.{plan_of}
-
--- one idle sample, and then the levels of the message's slots
-abbrev pub samples_of : Bool → Asked → Answered → List Sample
-samples_of alert m a = idle alert ∷ levels alert (plan_of m a)
 
 -- of a step that sends nothing: so many idle samples
 unfoldable pub idle_samples : Bool → ℕ → List Sample

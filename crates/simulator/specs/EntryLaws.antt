@@ -15,7 +15,8 @@ use Rattle.smbus.specs.SlotCounts.{most_slots}
 use Rattle.smbus.specs.Whole.{IsWhole, IsBrokenOff}
 use Rattle.smbus.specs.OneFrame.{IsOnlyFrame}
 use Rattle.smbus.specs.MessageFrame.{AreAsked, ShowsMessage}
-use Rattle.simulator.specs.Entries.{samples_of, idle_samples, IsEntry, joined, all_frames, AreRead}
+use Rattle.smbus.specs.Slots.{samples_of}
+use Rattle.simulator.specs.Entries.{idle_samples, IsEntry, joined, all_frames, AreRead}
 
 -- the samples of a message and an answer have one frame, the one that shows the message
 pub record ReadsOne (m : Asked) (a : Answered) (alert : Bool) : Type 0 where
@@ -23,17 +24,15 @@ pub record ReadsOne (m : Asked) (a : Answered) (alert : Bool) : Type 0 where
   pub is_only : IsOnlyFrame (events_of (samples_of alert m a)) shows.one.frame
   -- the clock is seen low for too long exactly where a slot is cut
   pub timeout : HasTimeout (samples_of alert m a) ↔ IsTrue (is_some (first_cut (plan_of m a)))
-  -- whole or broken off, where a timeout is one that is seen in the samples
-  pub shape : (timed_out : Bool) → (HasTimeout (samples_of alert m a) ↔ IsTrue timed_out)
-      → IsWhole m a.value a.bytes shows.one.frame
-      ⊎ IsBrokenOff m a.value a.bytes timed_out shows.one.frame
+  pub shape : IsWhole m a.value a.bytes shows.one.frame
+      ⊎ IsBrokenOff (samples_of alert m a) m a.value a.bytes shows.one.frame
   pub done : a.refuse ≡ None → first_cut (plan_of m a) ≡ None
       → IsWhole m a.value a.bytes shows.one.frame
   -- cut in its STOP, it is both
   pub cut_in_end : a.refuse ≡ None
       → first_cut (plan_of m a) ≡ Some (length (marks_of (whole m a.value a.bytes)))
       → IsWhole m a.value a.bytes shows.one.frame
-      × IsBrokenOff m a.value a.bytes true shows.one.frame
+      × IsBrokenOff (samples_of alert m a) m a.value a.bytes shows.one.frame
   pub few : (longest : ℕ) → All (λ hold. hold ≤ longest) a.holds
       → length (samples_of alert m a)
       ≤ 2 + most_slots m.form (length m.out) (length a.bytes) * (3 + longest)

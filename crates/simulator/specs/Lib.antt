@@ -10,6 +10,7 @@ pub mod TraceTexts
 pub mod Allowed
 pub mod Reports
 pub mod Safe
+pub mod SafeLaws
 pub mod Headline
 pub mod SmallPrograms
 pub mod StepDoes

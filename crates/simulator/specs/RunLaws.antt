@@ -1,13 +1,14 @@
 -- What a run of the model is seen to do.
-use Rattle.std.specs.Prelude.{◌≡◌, ℕ, true, false, List, [], ◌∷◌, map, slice_get, Option, Some}
+use Rattle.std.specs.Prelude.{◌≡◌, ℕ, List, [], ◌∷◌, map, slice_get, Option, Some}
 use Rattle.std.specs.Prelude.{None}
 use Rattle.wires.specs.declared.lines.Sample.{Sample}
 use Rattle.wires.specs.Events.{events_of}
+use Rattle.bit_bus.specs.Levels.{HasTimeout}
 use Rattle.smbus.specs.Asked.{Asked}
 use Rattle.smbus.specs.Answered.{Answered}
 use Rattle.smbus.specs.Shown.{Shown}
 use Rattle.smbus.specs.Frames.{AreFrames}
-use Rattle.smbus.specs.Whole.{IsWhole, IsBrokenOff}
+use Rattle.smbus.specs.Whole.{IsWhole, IsRefused, IsBrokenOff}
 use Rattle.board.specs.Boards.{Board}
 use Rattle.board.specs.Valid.{IsBoard}
 use Rattle.targets.specs.declared.outcome.Outcome.{Outcome}
@@ -22,17 +23,18 @@ use Rattle.simulator.specs.Steps.{IsStep, IsRun}
 use Rattle.simulator.specs.StepLaws.{IsReady}
 
 -- a frame is whole where its message is done, and broken off otherwise: in a refused byte, or where
--- the clock was low for too long
-abbrev pub IsFrameOf : Asked → Answered → Outcome → Shown → Type 0
-IsFrameOf m a (Done value) f = IsWhole m a.value a.bytes f
-IsFrameOf m a NotAcknowledged f = IsBrokenOff m a.value a.bytes false f
-IsFrameOf m a TimedOut f = IsBrokenOff m a.value a.bytes true f
+-- the samples hold SCL low for too long
+abbrev pub IsFrameOf : List Sample → Asked → Answered → Outcome → Shown → Type 0
+IsFrameOf samples m a (Done value) f = IsWhole m a.value a.bytes f
+IsFrameOf samples m a NotAcknowledged f = IsRefused m a.value a.bytes f
+IsFrameOf samples m a TimedOut f =
+    HasTimeout samples × IsBrokenOff samples m a.value a.bytes f
 
 -- the frame of a step's message; none without one
-abbrev pub AreStepFrames : Option Asked → Answered → List Shown → Type 0
-AreStepFrames None a frames = frames ≡ []
-AreStepFrames (Some m) a frames =
-    (f : Shown) × (frames ≡ f ∷ []) × IsFrameOf m a (outcome_of (Some m) a) f
+abbrev pub AreStepFrames : List Sample → Option Asked → Answered → List Shown → Type 0
+AreStepFrames samples None a frames = frames ≡ []
+AreStepFrames samples (Some m) a frames =
+    (f : Shown) × (frames ≡ f ∷ []) × IsFrameOf samples m a (outcome_of (Some m) a) f
 
 pub record StepHasFrames (b : Board) (p : List (Instr ℕ)) (m : Machine) (a : Answered) (e : Entry)
     (next : Machine) (frames : List Shown) : Type 0 where
@@ -40,7 +42,7 @@ pub record StepHasFrames (b : Board) (p : List (Instr ℕ)) (m : Machine) (a : A
   pub instr : Instr ℕ
   pub here : slice_get p m.place ≡ Some instr
   pub read : AreFrames (events_of e.samples) frames
-  pub are : AreStepFrames (message_of b instr m.regs) a frames
+  pub are : AreStepFrames e.samples (message_of b instr m.regs) a frames
 
 -- the frames of each step of a run
 abbrev pub AreRunFrames : Board → List (Instr ℕ) → Machine → List Answered → List Entry

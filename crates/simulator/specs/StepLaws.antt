@@ -12,7 +12,8 @@ use Rattle.targets.specs.States.{BusState, IsStart}
 use Rattle.seq_program.specs.declared.instr.Instr.{Instr}
 use Rattle.seq_program.specs.Messages.{message_of}
 use Rattle.seq_program.specs.Valid.{IsProgram}
-use Rattle.simulator.specs.Entries.{samples_of, IsEntry}
+use Rattle.smbus.specs.Slots.{samples_of}
+use Rattle.simulator.specs.Entries.{IsEntry}
 use Rattle.simulator.specs.EntryLaws.{ReadsOne}
 use Rattle.simulator.specs.Does.{DoesAsAsked}
 use Rattle.simulator.specs.Machines.{Machine, Entry, IsMachine, start_at}

@@ -14,7 +14,8 @@ use Rattle.seq_program.specs.declared.instr.Instr.{Instr}
 use Rattle.seq_program.specs.declared.instr.Instr.TheVariants.{Wait}
 use Rattle.seq_program.specs.Messages.{message_of}
 use Rattle.simulator.specs.declared.machine.Ending.TheVariants.{Running}
-use Rattle.simulator.specs.Entries.{samples_of, idle_samples}
+use Rattle.smbus.specs.Slots.{samples_of}
+use Rattle.simulator.specs.Entries.{idle_samples}
 use Rattle.simulator.specs.Machines.{Machine, Entry}
 use Rattle.simulator.specs.Moves.{moved}
 

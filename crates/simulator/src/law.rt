@@ -1,10 +1,17 @@
 ghost use Rattle.simulator.specs.Does.{EntriesDoAsAsked};
 ghost use Rattle.simulator.specs.EntryLaws.{EntriesReadBack, IdleReadsBack, JoinedReadBack};
 ghost use Rattle.simulator.specs.RunLaws.{RunsAreSeen};
-ghost use Rattle.simulator.specs.SmallPrograms.{EndingIsSafe, EnablingAtOnceIsUnsafe};
+ghost use Rattle.simulator.specs.SafeLaws.{AllowedFramesAreSeen, SafeStepsAreSafeRuns};
+ghost use Rattle.simulator.specs.SmallPrograms.{EndingIsSafe, ClearingIsSafe};
+ghost use Rattle.simulator.specs.SmallPrograms.{EnablingAtOnceIsUnsafe, WithdrawnNeedIsUnsafe};
+ghost use Rattle.simulator.specs.SmallPrograms.{ProtectedWriteIsUnsafe, UnlistedFormIsUnsafe};
+ghost use Rattle.simulator.specs.SmallPrograms.{VoltageOverLimitIsUnsafe, SomeProgramsAreJudged};
 ghost use Rattle.simulator.specs.StepLaws.{StepsAreSeen, StartsAreReady, SomeStepIsTaken};
 
+use bit_bus::reads_back;
+use smbus::{messages_have_one_frame, slots_are_one_frame};
 use targets::{some_answer_fits, states_belong};
+use wires::least_byte_wins;
 
 /// The samples of an entry that sends a message have one frame, the one that shows the message, and
 /// what they are seen to do is what was asked and answered. Idle samples have no frame. The joined
@@ -14,7 +21,11 @@ pub fn entries_read_back()
     ensures does { EntriesDoAsAsked }
     ensures none { IdleReadsBack }
     ensures joined { JoinedReadBack }
-{}
+{
+    reads_back();
+    slots_are_one_frame();
+    messages_have_one_frame();
+}
 
 /// Every step of a program on its board meets what the laws on entries ask: its message and answer
 /// are bytes on the wire that can be sent. So its samples are read as its message's one frame, or
@@ -27,6 +38,7 @@ pub fn steps_are_seen()
     // There are such steps.
     ensures some { SomeStepIsTaken }
 {
+    least_byte_wins();
     entries_read_back();
     states_belong();
     some_answer_fits();
@@ -41,13 +53,37 @@ pub fn runs_are_seen()
     steps_are_seen();
 }
 
-/// What the checker is to promise of every run is told from two small programs: it holds of one
-/// that only ends, and not of one that turns on a rail whose needs were never reported good.
-pub fn small_programs_are_judged()
-    ensures ends { EndingIsSafe }
-    ensures enables { EnablingAtOnceIsUnsafe }
+/// What makes steps and runs safe, without a look at the samples: the frame of a step is allowed
+/// where its message is, and a run of safe steps is safe as a whole, where the targets can answer
+/// to what it asks next.
+pub fn safe_steps_are_safe_runs()
+    ensures frames { AllowedFramesAreSeen }
+    ensures runs { SafeStepsAreSafeRuns }
 {
+    slots_are_one_frame();
     entries_read_back();
     steps_are_seen();
+    some_answer_fits();
+}
+
+/// What the checker is to promise of every run is told from small programs: it holds of one that
+/// only ends and of one that clears faults, and not of programs with one thing wrong each: a rail
+/// that is turned on before its needs reported good, or after such a report was withdrawn, a form
+/// for which the target has no entry, a write that is protected, a voltage over its limit.
+pub fn small_programs_are_judged()
+    ensures ends { EndingIsSafe }
+    ensures clears { ClearingIsSafe }
+    ensures enables { EnablingAtOnceIsUnsafe }
+    ensures withdraws { WithdrawnNeedIsUnsafe }
+    ensures lists { UnlistedFormIsUnsafe }
+    ensures protects { ProtectedWriteIsUnsafe }
+    ensures limits { VoltageOverLimitIsUnsafe }
+    // There is a board on which each of them speaks of some program.
+    ensures case { SomeProgramsAreJudged }
+{
+    messages_have_one_frame();
+    entries_read_back();
+    steps_are_seen();
+    safe_steps_are_safe_runs();
     some_answer_fits();
 }

@@ -13,12 +13,13 @@ mod trace;
 mod trace_text;
 
 pub use fault::RunFault;
-pub use law::{entries_read_back, runs_are_seen, small_programs_are_judged, steps_are_seen};
+pub use law::{
+    entries_read_back, runs_are_seen, safe_steps_are_safe_runs, small_programs_are_judged,
+    steps_are_seen,
+};
 pub use machine::{Ending, Entry, Machine};
 pub use running::{Trace, run};
 pub use starting::start;
-pub use stepping::step;
+pub use stepping::{step, step_at};
 pub use trace::{WriteFault, write_trace};
-
-#[cfg(test)]
-mod tests;
+pub use trace_text::{last_line, line_of};

@@ -4,7 +4,8 @@ ghost use Rattle.std.specs.Prelude.{◌≡◌, ◌≤◌, IfOk, IfSome, option_m
 ghost use Rattle.bit_bus.specs.Levels.{idle};
 ghost use Rattle.smbus.specs.OneFrame.{CanBeSent};
 ghost use Rattle.seq_program.specs.Valid.{IsInstr};
-ghost use Rattle.simulator.specs.Entries.{samples_of, idle_samples};
+ghost use Rattle.smbus.specs.Slots.{samples_of};
+ghost use Rattle.simulator.specs.Entries.{idle_samples};
 ghost use Rattle.simulator.specs.Steps.{idle_ticks, step_samples};
 
 use bit_bus::{Plan, drive};

@@ -1,4 +1,4 @@
-ghost use Rattle.std.specs.Prelude.{◌≡◌, IfOk};
+ghost use Rattle.std.specs.Prelude.{◌≡◌, ◌<◌, All, IfOk};
 
 use std::alloc::AllocError;
 use std::marker::Model;
@@ -105,3 +105,8 @@ pub(crate) fn copied(state: &BusState) -> Result<BusState, AllocError>
         alerting: state.alerting,
     })
 }
+
+/// Registers hold words. Nothing is done: this is what their type says.
+pub(crate) fn registers_are_words(registers: &[u16])
+    ensures { All (λ word. word < 65536) registers.now }
+{}

@@ -2,11 +2,13 @@ ghost use Rattle.std.specs.Prelude.{◌≡◌, ◌≢◌, ◌≤◌, length, All
 ghost use Rattle.seq_program.specs.Valid.{IsOnBoard};
 ghost use Rattle.simulator.specs.Faults.{FailsAt};
 ghost use Rattle.simulator.specs.Machines.{IsMachine};
+ghost use Rattle.simulator.specs.RunLaws.{RunIsSeen};
 ghost use Rattle.simulator.specs.Steps.{IsRun};
 ghost use Rattle.simulator.specs.declared.fault.RunFault.TheVariants.{Memory};
 
 use crate::fault::RunFault;
-use crate::machine::{Entry, Machine};
+use crate::law::runs_are_seen;
+use crate::machine::{Entry, Machine, registers_are_words};
 use crate::stepping::step_at;
 use board::Board;
 use seq_program::Program;
@@ -46,13 +48,21 @@ pub fn run(
     machine: &Machine,
     answers: &[Answer],
 ) -> Result<Trace, RunFault>
-    requires on_board { All (λ i. IsOnBoard (length board.now.target_names) i) program.now }
+    requires on_board { All (λ i. IsOnBoard (length board.now.targets) i) program.now }
     requires machine { IsMachine board.now program.now machine.now }
     ensures run { IfOk result
         (λ t. IsRun board.now program.now machine.now answers.now t.entries t.last) }
+    ensures machine { IfOk result (λ t. IsMachine board.now program.now t.last) }
+    // Its samples are read as the frames of its messages, in order, and as no others.
+    ensures seen { IfOk result
+        (λ t. RunIsSeen board.now program.now machine.now answers.now t.entries t.last) }
     ensures fault { IfErr result
         (λ e. e ≢ Memory → FailsAt board.now program.now machine.now answers.now e) }
 {
+    let _targets = board.targets();
+    let _places = program.places();
+    registers_are_words(&machine.regs);
+    runs_are_seen();
     let mut last = machine.copied()?;
     let mut entries = Vec::new(alloc);
     let mut ticks = 0;

@@ -31,7 +31,7 @@ pub fn start(
         → IsStart board.now (start_state pages.now protects.now) → ⊥ }
     ensures only { IfErr result (λ e. (e ≡ RunFault.Memory) ⊎ (e ≡ RunFault.BadStart)) }
 {
-    let _count = board.target_count();
+    let _targets = board.targets();
     states_belong();
     let bus = BusState {
         page: pages.to_vec(alloc)?,

@@ -98,7 +98,7 @@ fn step_by(
     ensures belongs { IfOk result
         (λ r. Belongs board.now machine.now.bus → Belongs board.now r.0.bus) }
 {
-    let _count = board.target_count();
+    let _targets = board.targets();
     slots_are_one_frame();
     reads_back();
     states_belong();
@@ -145,8 +145,13 @@ fn step_if_fits(
     Ok(step_by(alloc, board, instr, message, machine, answer)?)
 }
 
-/// The step of a machine under the answer of an index, where so many samples stand before it.
-pub(crate) fn step_at(
+/// The step of a machine under the answer of an index, where so many samples stand before it. The
+/// program and the machine are those of the board.
+///
+/// AfterEnd is answered where the program has ended, then AnswerDoesNotFit where the targets can't
+/// answer so, both with the index, then TooLong where the run would have over 1,000,000 samples.
+/// Memory is answered where a growth was refused.
+pub fn step_at(
     alloc: Global,
     board: &Board,
     program: &Program,
@@ -155,7 +160,7 @@ pub(crate) fn step_at(
     index: usize,
     before: u64,
 ) -> Result<(Machine, Entry), RunFault>
-    requires on_board { All (λ i. IsOnBoard (length board.now.target_names) i) program.now }
+    requires on_board { All (λ i. IsOnBoard (length board.now.targets) i) program.now }
     requires machine { IsMachine board.now program.now machine.now }
     requires before { before ≤ most_ticks }
     ensures step { IfOk result (λ r. IsStep board.now program.now machine.now answer.now r.1 r.0) }
@@ -198,7 +203,7 @@ pub fn step(
     machine: &Machine,
     answer: &Answer,
 ) -> Result<(Machine, Entry), RunFault>
-    requires on_board { All (λ i. IsOnBoard (length board.now.target_names) i) program.now }
+    requires on_board { All (λ i. IsOnBoard (length board.now.targets) i) program.now }
     requires machine { IsMachine board.now program.now machine.now }
     ensures step { IfOk result (λ r. IsStep board.now program.now machine.now answer.now r.1 r.0) }
     ensures within { IfOk result (λ r. r.1.ticks ≤ most_ticks) }

@@ -48,8 +48,9 @@ fn only_frame(alloc: Global, samples: &[Sample]) -> Result<Frame, AllocError>
     }
 }
 
-/// The line of a step.
-pub(crate) fn line_of(alloc: Global, entry: &Entry) -> Result<String, AllocError>
+/// The line of a step: its place, its ticks, the frame that is read from its samples and how the
+/// message ended, `-` and `-` without one.
+pub fn line_of(alloc: Global, entry: &Entry) -> Result<String, AllocError>
     requires { IsSeen entry.now }
     ensures { IfOk result (λ text. IsLine entry.now (string_bytes text)) }
 {
@@ -74,8 +75,8 @@ fn ending_text(ended: Ending) -> &'static str
     }
 }
 
-/// The last line.
-pub(crate) fn last_line(alloc: Global, ended: Ending, ticks: u64) -> Result<String, AllocError>
+/// The last line of a trace: how the run ended and all its ticks.
+pub fn last_line(alloc: Global, ended: Ending, ticks: u64) -> Result<String, AllocError>
     ensures { IfOk result (λ text. string_bytes text ≡ last_line ended ticks) }
 {
     let ended = ending_text(ended);

@@ -15,4 +15,5 @@ pub mod OneFrameOfMessage
 pub mod MessageFrames
 pub mod FrameWords
 pub mod Observed
+pub mod CountedSlots
 pub mod Examples

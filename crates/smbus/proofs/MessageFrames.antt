@@ -15,7 +15,7 @@ use Rattle.smbus.specs.Shown.{Shown}
 use Rattle.smbus.specs.Protocol.{Piece, marks_of, whole, whole_of, up_to_refused, low, high}
 use Rattle.smbus.specs.Slots.{slots_of, plan_of}
 use Rattle.smbus.specs.Whole.{shown_marks, IsWhole}
-use Rattle.smbus.specs.OneFrame.{IsOnlyFrame, HasOneFrame}
+use Rattle.smbus.specs.OneFrame.{IsOnlyFrame, HasOneFrame, SlotsAreOneFrame}
 use Rattle.smbus.specs.FirstSegment.{message_bytes, bytes_out, bytes_before, bytes_seen}
 use Rattle.smbus.specs.MessageFrame.{send_byte, read_word, IsSendByte, IsReadWord, IsCutLate}
 use Rattle.smbus.specs.MessageFrame.{ReadsNoBlock, AreAsked, MessagesHaveOneFrame}
@@ -25,7 +25,7 @@ use Rattle.smbus.proofs.FirstSegments.{first_up_to, Rest, out_rest}
 use Rattle.smbus.proofs.Fronts.{Token}
 use Rattle.smbus.proofs.MarkCounts.{length-marks_of, slots_few}
 use Rattle.smbus.proofs.MarksOut.{marks_out}
-use Rattle.smbus.proofs.OneFrameOfMessage.{pieces_of, cuts, sees, slots_are_one_frame}
+use Rattle.smbus.proofs.OneFrameOfMessage.{pieces_of, cuts, sees}
 use Rattle.smbus.proofs.SeenFrames.{head_same, same_whole, same_tokens, Seen, seen_of}
 use Rattle.smbus.proofs.SmallPieces.{AreSmall, small_whole, small_up_to}
 use Rattle.smbus.proofs.Tokens.{sends_by, reports_by}
@@ -146,9 +146,9 @@ few_slots : (m : Asked) (a : Answered) (most : ℕ) → length (slots_of m a) �
     → length (plan_of m a) ≤ most
 few_slots m a most le = let l = length-planned (slots_of m a) a.holds in omega arith
 
-pub messages_have_one_frame : MessagesHaveOneFrame
-messages_have_one_frame m a asked =
-    let one : HasOneFrame m a = slots_are_one_frame m a asked.can_be_sent in
+pub messages_have_one_frame : SlotsAreOneFrame → MessagesHaveOneFrame
+messages_have_one_frame one_frame m a asked =
+    let one : HasOneFrame m a = one_frame m a asked.can_be_sent in
     let f : Shown = one.frame in
     let only : IsOnly m a f = one.is_only in
     let seen = seen_in_frame m a f asked only in

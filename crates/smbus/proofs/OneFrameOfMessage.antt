@@ -1,26 +1,29 @@
 -- The slots of a message and an answer, up to any cut, are one frame.
-use Rattle.std.proofs.Common.{◌≡◌, ℕ, ◌-◌, ◌<◌, ◌≤◌, inl, inr, false, Option, Some, None, is_some}
+use Rattle.std.proofs.Common.{◌≡◌, ℕ, ◌-◌, ◌<◌, ◌≤◌, inl, inr, Bool, false, IsTrue, Option, Some}
+use Rattle.std.proofs.Common.{None}
+use Rattle.std.proofs.Common.{is_some}
 use Rattle.std.proofs.Common.{List, [], ◌∷◌, ◌++◌, length, take, refl, sym, ap, subst, ◌∙◌, arith}
 use Rattle.std.specs.List.{flat_map}
 use Rattle.std.proofs.lemmas.Bool.{cases_lt}
 use Rattle.std.proofs.lemmas.List.{append-nil, take_all}
 use Rattle.std.proofs.lemmas.List.Elements.{recursion_from_All, All-from_recursion, All-nil}
 use Rattle.std.proofs.lemmas.List.Elements.{All-cons}
+use Rattle.wires.specs.declared.lines.Sample.{Sample}
 use Rattle.wires.specs.declared.event.Event.{Event}
 use Rattle.wires.specs.declared.event.Event.TheVariants.{Start, Stop, Rise}
 use Rattle.bit_bus.specs.declared.plan.Slot.{Slot}
 use Rattle.bit_bus.specs.Planned.{EndsOnce, IsPlan}
 use Rattle.bit_bus.proofs.Plans.{length-planned, slots_in-planned}
-use Rattle.bit_bus.specs.Levels.{first_cut}
-use Rattle.bit_bus.specs.Word.{slot_word, event_word}
+use Rattle.bit_bus.specs.Levels.{first_cut, HasTimeout}
+use Rattle.bit_bus.specs.Word.{slot_word, event_word, CutIsSeen}
 use Rattle.smbus.specs.Asked.{Asked}
 use Rattle.smbus.specs.Answered.{Answered}
 use Rattle.smbus.specs.Shown.{Shown}
 use Rattle.smbus.specs.Frames.{frame_word, IsFrame, AreFrames}
 use Rattle.smbus.specs.Protocol.{Piece, whole, refused_at, up_to_refused, sent_count, bit_marks}
 use Rattle.smbus.specs.Protocol.{marks_of, IsNumbered}
-use Rattle.smbus.specs.Slots.{slots_of, plan_of}
-use Rattle.smbus.specs.Whole.{shown_marks, IsWhole, IsBrokenOff}
+use Rattle.smbus.specs.Slots.{slots_of, plan_of, samples_of}
+use Rattle.smbus.specs.Whole.{shown_marks, IsWhole, IsRefused, IsBrokenOff}
 use Rattle.smbus.specs.OneFrame.{CanBeSent, IsOnlyFrame, SlotsAreOneFrame, FramesAreUnique}
 use Rattle.smbus.proofs.EventByEvent.{only_read, read_frames, closed}
 use Rattle.smbus.proofs.FrameMarks.{frame_of, is_frame, frame_word-marks, segment_marks-split}
@@ -114,24 +117,32 @@ cut_in_end m a f k e =
     let all : List Slot = marks_of (whole m a.value a.bytes) in
     k.1 ∙ k.0.some (length all) e ∙ take_all (length all - 0) all (omega arith)
 
+-- broken off, in any samples that show a timeout where a slot is cut
 abbrev Broken : Asked → Answered → Shown → Type 0
-Broken m a f = IsBrokenOff m a.value a.bytes (is_some (first_cut (plan_of m a))) f
+Broken m a f =
+    (samples : List Sample) → (IsTrue (is_some (first_cut (plan_of m a))) → HasTimeout samples)
+    → IsBrokenOff samples m a.value a.bytes f
 
 cut_off : (m : Asked) (a : Answered) (f : Shown) (slot : ℕ) → Marked m a f None
     → first_cut (plan_of m a) ≡ Some slot → Broken m a f
-cut_off m a f slot k e =
-    inr (ap is_some e, record { count = slot - 0; front = k.1 ∙ k.0.some slot e })
+cut_off m a f slot k e samples seen =
+    inr (seen (ap is_some e), record { count = slot - 0; front = k.1 ∙ k.0.some slot e })
+
+abbrev refused_uncut : (m : Asked) (a : Answered) (f : Shown) (n : ℕ)
+    → n < sent_count (whole m a.value a.bytes) → Marked m a f (Some n)
+    → first_cut (plan_of m a) ≡ None → IsRefused m a.value a.bytes f
+refused_uncut m a f n lt k e = record { number = n; is_sent = lt; ends = k.1 ∙ k.0.all e }
 
 refused_by : (m : Asked) (a : Answered) (f : Shown) (n : ℕ)
     → n < sent_count (whole m a.value a.bytes) → Marked m a f (Some n) → (cut : Option ℕ)
     → first_cut (plan_of m a) ≡ cut → Broken m a f
-refused_by m a f n lt k None e = inl (record { number = n; is_sent = lt; ends = k.1 ∙ k.0.all e })
-refused_by m a f n lt k (Some c) e =
+refused_by m a f n lt k None e samples seen = inl (refused_uncut m a f n lt k e)
+refused_by m a f n lt k (Some c) e samples seen =
     let pieces : List Piece = whole m a.value a.bytes in
     let all : List Slot = marks_of (refused_at n pieces) in
     elim (cases_lt (c - 0) (length all)) [
       | inl less ↦ inr (
-        ap is_some e,
+        seen (ap is_some e),
         record { count = c - 0; front = k.1 ∙ k.0.some c e ∙ refused_front n pieces (c - 0) less },
       )
       | inr ge ↦ inl (record {
@@ -147,24 +158,29 @@ cut_by : (m : Asked) (a : Answered) (f : Shown) (slot : ℕ) (refuse : Option �
 cut_by m a f slot None lt k e = cut_off m a f slot k e
 cut_by m a f slot (Some n) lt k e = refused_by m a f n lt k (Some slot) e
 
-pub slots_are_one_frame : SlotsAreOneFrame
-slots_are_one_frame m a can =
+pub slots_are_one_frame : CutIsSeen → SlotsAreOneFrame
+slots_are_one_frame cut_is_seen m a can =
     let s = sees m a in
     let f : Shown = s.frame in
     let marked : Marked m a f a.refuse = (cuts m a, s.shown) in
     let along = λ (refuse : Option ℕ) (e : a.refuse ≡ refuse). subst (Marked m a f) e marked in
     let numbered = can.has_good_data.is_numbered in
+    let at = λ (n : ℕ) (some : a.refuse ≡ Some n).
+    subst (λ (r : Option ℕ). IsNumbered r (sent_count (whole m a.value a.bytes))) some numbered in
+    let seen = λ (alert : Bool). (cut_is_seen alert alert (plan_of m a)).1 in
     record {
       plan = is_plan m a can;
       frame = f;
       is_only = s.is_only;
       done = λ none e. done m a f (along None none) e;
       cut_in_end = λ none e. cut_in_end m a f (along None none) e;
-      refused = λ n some.
-          refused_by m a f n
-          (subst (λ (r : Option ℕ). IsNumbered r (sent_count (whole m a.value a.bytes))) some
-          numbered) (along (Some n) some) (first_cut (plan_of m a)) refl;
-      cut = λ slot e. cut_by m a f slot a.refuse numbered marked e;
+      refused = λ n some alert.
+          refused_by m a f n (at n some) (along (Some n) some) (first_cut (plan_of m a)) refl
+          (samples_of alert m a) (seen alert);
+      only_refused = λ n some uncut.
+          (refused_uncut m a f n (at n some) (along (Some n) some) uncut, refl);
+      cut = λ slot e alert.
+          cut_by m a f slot a.refuse numbered marked e (samples_of alert m a) (seen alert);
     }
 
 pub frames_are_unique : FramesAreUnique

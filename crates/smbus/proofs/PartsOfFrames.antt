@@ -19,7 +19,7 @@ use Rattle.smbus.specs.Protocol.{sent_count, byte_marks, piece_marks, marks_of, 
 use Rattle.smbus.specs.Protocol.{HasLength}
 use Rattle.smbus.specs.Protocol.Piece.{Sent, Refused, Repeat}
 use Rattle.smbus.specs.Parts.{first_bytes_of, first_bytes, has_repeat, returned_bytes, rest_of}
-use Rattle.smbus.specs.Parts.{IsAfter, controller_bytes}
+use Rattle.smbus.specs.Parts.{IsAfter}
 use Rattle.smbus.specs.Slots.{marks_sent, IsGoodData}
 
 -- the repeated START and the address after it
@@ -204,38 +204,3 @@ pub after_along : (refuse asked : Option ℕ) (count n : ℕ) → IsAfter refuse
     → count ≡ n → IsAfter asked n
 after_along refuse asked count n after same len =
     subst (λ (k : ℕ). IsAfter asked k) len (subst (λ (r : Option ℕ). IsAfter r count) same after)
-
--- how many bytes the code says that the controller sends
-
-count_of : (form : Form) (a code : ℕ) (out : List ℕ) → HasLength form (length out)
-    → length (first_bytes_of form a code out) + repeats_count (has_repeat form)
-    ≡ controller_bytes form (length out)
-count_of (Quick is_read) a code out has = refl
-count_of SendByte a code out has = refl
-count_of ReceiveByte a code out has = refl
-count_of WriteByte a code out has = omega arith
-count_of WriteWord a code out has = omega arith
-count_of ReadByte a code out has = refl
-count_of ReadWord a code out has = refl
-count_of ProcessCall a code out has = omega arith
-count_of BlockWrite a code out has = omega arith
-count_of BlockRead a code out has = refl
-count_of BlockProcessCall a code out has = omega arith
-count_of Alert a code out has = refl
-
-pub good_data : (m : Asked) (a : Answered) (n count : ℕ) → a.refuse ≡ Some n
-    → HasLength m.form (length m.out) → count ≡ controller_bytes m.form (length m.out)
-    → (IsTrue (nat_lt n count) → IsGoodData m a) × (IsGoodData m a → IsTrue (nat_lt n count))
-good_data m a n count refuse has e =
-    let all : ℕ = sent_count (whole m a.value a.bytes) in
-    let c : all ≡ count =
-    sent_count-parts m a.value a.bytes ∙ count_of m.form m.address m.code m.out has ∙ sym e in (
-      λ t. record {
-        has_length = has;
-        is_numbered =
-            subst (λ (r : Option ℕ). IsNumbered r all) (sym refuse)
-            (subst (λ (k : ℕ). n < k) (sym c) (ltb-true n count t));
-      },
-      λ good. lt-ltb n count (subst (λ (k : ℕ). n < k) c
-          (subst (λ (r : Option ℕ). IsNumbered r all) refuse good.is_numbered)),
-    )

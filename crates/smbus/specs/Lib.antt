@@ -14,3 +14,4 @@ pub mod Faults
 pub mod FormWords
 pub mod Parts
 pub mod Machine
+pub mod Counts

@@ -1,5 +1,5 @@
 -- What is read back from the slots of a message and an answer.
-use Rattle.std.specs.Prelude.{ℕ, ◌≡◌, ◌≤◌, Some, None, is_some, List, [], ◌∷◌, length, All}
+use Rattle.std.specs.Prelude.{ℕ, ◌≡◌, ◌≤◌, Bool, Some, None, List, [], ◌∷◌, length, All}
 use Rattle.wires.specs.declared.event.Event.{Event}
 use Rattle.bit_bus.specs.Planned.{IsPlan}
 use Rattle.bit_bus.specs.Levels.{first_cut}
@@ -9,8 +9,8 @@ use Rattle.smbus.specs.Answered.{Answered}
 use Rattle.smbus.specs.Shown.{Shown}
 use Rattle.smbus.specs.Frames.{AreFrames}
 use Rattle.smbus.specs.Protocol.{whole, marks_of}
-use Rattle.smbus.specs.Slots.{plan_of, IsGoodData, IsGoodBlock}
-use Rattle.smbus.specs.Whole.{IsWhole, IsBrokenOff}
+use Rattle.smbus.specs.Slots.{plan_of, samples_of, IsGoodData, IsGoodBlock}
+use Rattle.smbus.specs.Whole.{IsWhole, IsRefused, IsBrokenOff}
 
 -- a message and an answer that `frame_slots` takes, with holds that a plan may have
 pub record CanBeSent (m : Asked) (a : Answered) : Type 0 where
@@ -33,10 +33,13 @@ pub record HasOneFrame (m : Asked) (a : Answered) : Type 0 where
   pub cut_in_end : a.refuse ≡ None
       → first_cut (plan_of m a) ≡ Some (length (marks_of (whole m a.value a.bytes)))
       → IsWhole m a.value a.bytes frame
-  pub refused : (n : ℕ) → a.refuse ≡ Some n
-      → IsBrokenOff m a.value a.bytes (is_some (first_cut (plan_of m a))) frame
-  pub cut : (slot : ℕ) → first_cut (plan_of m a) ≡ Some slot
-      → IsBrokenOff m a.value a.bytes (is_some (first_cut (plan_of m a))) frame
+  pub refused : (n : ℕ) → a.refuse ≡ Some n → (alert : Bool)
+      → IsBrokenOff (samples_of alert m a) m a.value a.bytes frame
+  -- and where nothing is cut it ends in the refused byte
+  pub only_refused : (n : ℕ) → a.refuse ≡ Some n → first_cut (plan_of m a) ≡ None
+      → (r : IsRefused m a.value a.bytes frame) × (r.number ≡ n)
+  pub cut : (slot : ℕ) → first_cut (plan_of m a) ≡ Some slot → (alert : Bool)
+      → IsBrokenOff (samples_of alert m a) m a.value a.bytes frame
 
 abbrev pub SlotsAreOneFrame : Type 0
 SlotsAreOneFrame = (m : Asked) (a : Answered) → CanBeSent m a → HasOneFrame m a

@@ -49,21 +49,6 @@ returned_bytes BlockProcessCall value block = length block ∷ block
 returned_bytes Alert value block = low value ∷ []
 returned_bytes form value block = []
 
--- how many bytes the controller sends, of which out are data
-abbrev pub controller_bytes : Form → ℕ → ℕ
-controller_bytes (Quick is_read) out = 1
-controller_bytes SendByte out = 2
-controller_bytes ReceiveByte out = 1
-controller_bytes WriteByte out = 2 + out
-controller_bytes WriteWord out = 2 + out
-controller_bytes ReadByte out = 3
-controller_bytes ReadWord out = 3
-controller_bytes ProcessCall out = 3 + out
-controller_bytes BlockWrite out = 3 + out
-controller_bytes BlockRead out = 3
-controller_bytes BlockProcessCall out = 4 + out
-controller_bytes Alert out = 1
-
 -- the refusal, if any, is of a byte after so many
 abbrev pub IsAfter : Option ℕ → ℕ → Type 0
 IsAfter None count = Unit {0}

@@ -1,7 +1,9 @@
--- Whole frames and those that were broken off, judged by the marks that were seen.
-use Rattle.std.specs.Prelude.{ℕ, ◌≡◌, ◌<◌, ◌⊎◌, Bool, List, [], ◌∷◌, ◌++◌, take, IsTrue}
+-- Whole frames and those that were broken off, judged by the marks and the samples that were seen.
+use Rattle.std.specs.Prelude.{ℕ, ◌≡◌, ◌<◌, ◌⊎◌, Bool, List, [], ◌∷◌, ◌++◌, take}
+use Rattle.wires.specs.declared.lines.Sample.{Sample}
 use Rattle.bit_bus.specs.declared.plan.Slot.{Slot}
 use Rattle.bit_bus.specs.declared.plan.Slot.TheVariants.{Again}
+use Rattle.bit_bus.specs.Levels.{HasTimeout}
 use Rattle.smbus.specs.Asked.{Asked}
 use Rattle.smbus.specs.Shown.{Shown}
 use Rattle.smbus.specs.Frames.{segment_bits}
@@ -31,8 +33,9 @@ pub record IsFrontOf (marks all : List Slot) : Type 0 where
   pub count : ℕ
   pub front : marks ≡ take count all
 
--- the frame was broken off: in a refused byte, or where the clock was held low for too long
-abbrev pub IsBrokenOff : Asked → ℕ → List ℕ → Bool → Shown → Type 0
-IsBrokenOff m value block held_low f =
+-- the frame was broken off: it ends in a refused byte, or SCL was low for more than 5000 samples in
+-- a row (the clock-low timeout: SMBus 3.2, 4.2.5), and it is a beginning of the whole
+abbrev pub IsBrokenOff : List Sample → Asked → ℕ → List ℕ → Shown → Type 0
+IsBrokenOff samples m value block f =
     IsRefused m value block f
-    ⊎ (IsTrue held_low × IsFrontOf (shown_marks f) (marks_of (whole m value block)))
+    ⊎ (HasTimeout samples × IsFrontOf (shown_marks f) (marks_of (whole m value block)))

@@ -1,13 +1,17 @@
 ghost use Rattle.smbus.specs.MessageFrame.{MessagesHaveOneFrame, SomeAreAsked};
 ghost use Rattle.smbus.specs.OneFrame.{FramesAreUnique, SlotsAreOneFrame};
 
+use bit_bus::reads_back;
+
 /// The slots of a message under an answer that `frame_slots` takes can be driven, and their events
 /// are those of one frame and of no other frames: a whole frame of the message where nothing was
 /// refused or cut, otherwise one that was broken off, and where the STOP is cut both.
 pub fn slots_are_one_frame()
     ensures one { SlotsAreOneFrame }
     ensures unique { FramesAreUnique }
-{}
+{
+    reads_back();
+}
 
 /// Where the message and the answer are bytes on the wire, that frame shows the message: the bytes
 /// that went out are those up to the refused byte and before the cut, and where it is a whole Send
@@ -16,4 +20,6 @@ pub fn messages_have_one_frame()
     ensures one { MessagesHaveOneFrame }
     // There are such messages and answers.
     ensures case { SomeAreAsked }
-{}
+{
+    slots_are_one_frame();
+}

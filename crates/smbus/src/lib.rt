@@ -1,6 +1,7 @@
 //! SMBus messages as slots of the bus, and events of the bus as frames.
 #![tactic(auto)]
 
+mod counting;
 mod fault;
 mod frame;
 mod law;
@@ -10,6 +11,7 @@ mod slots;
 mod text;
 mod word;
 
+pub use counting::{most_slots, sent_count, slot_count};
 pub use fault::{ObserveFault, SmbusFault};
 pub use frame::{Frame, Segment};
 pub use law::{messages_have_one_frame, slots_are_one_frame};
@@ -18,6 +20,3 @@ pub use observing::observe;
 pub use slots::frame_slots;
 pub use text::frame_text;
 pub use word::{carries_code, form_named};
-
-#[cfg(test)]
-mod tests;

@@ -1,8 +1,10 @@
-ghost use Rattle.std.specs.Prelude.{◌≡◌, ◌≤◌, if◌then◌else◌, ◌∷◌, ◌++◌, [], List, length, IfOk};
+ghost use Rattle.std.specs.Prelude.{◌≡◌, ◌≢◌, ◌≤◌, if◌then◌else◌, ◌∷◌, ◌++◌, [], List, length};
+ghost use Rattle.std.specs.Prelude.{IfOk};
 ghost use Rattle.std.specs.Prelude.{IfErr, IsTrue, OnOk, MatchOption, MatchResult, MatchBool};
 ghost use Rattle.smbus.specs.Shown.{Shown};
 ghost use Rattle.smbus.specs.Frames.{AreFrames, FaultIs};
 ghost use Rattle.smbus.specs.Machine.{byte_of, reading_of, risen, step};
+ghost use Rattle.smbus.specs.declared.fault.ObserveFault.TheVariants.{Memory};
 
 use crate::fault::ObserveFault;
 use crate::frame::{Frame, Segment};
@@ -113,12 +115,18 @@ impl Reading {
     }
 }
 
-/// The frames of which these are the events.
+/// The frames of which these are the events (UM10204, 3.1.4 to 3.1.6), if there are such.
+///
+/// NotFrames tells the first place from which on no frames can begin so, or the number of events
+/// where a frame has only not ended. Memory is answered where a growth was refused.
 pub fn observe(alloc: Global, events: &[Event]) -> Result<Vec<Frame>, ObserveFault>
     ensures frames { IfOk result (λ frames. AreFrames events.now frames.items) }
     // They are the events of no other frames.
     ensures only { IfOk result
         (λ frames. (others : List Shown) → AreFrames events.now others → others ≡ frames.items) }
+    // There are none where it tells another fault than want of memory.
+    ensures none { IfErr result
+        (λ e. e ≢ Memory → (frames : List Shown) → AreFrames events.now frames → ⊥) }
     ensures fault { IfErr result (FaultIs events.now) }
 {
     let mut reading = Reading {

@@ -2,10 +2,11 @@ ghost use Rattle.std.specs.Prelude.{◌≡◌, ◌<◌, ◌^◌, ◌++◌, ◌�
 ghost use Rattle.std.specs.Prelude.{slice_index, IfOk, OnOk, IfSome, IfNone, IsTrue, IsErrOf};
 ghost use Rattle.smbus.specs.Protocol.{sent, got, byte_marks, marks_of, HasLength, AreGoodCounts};
 ghost use Rattle.smbus.specs.Protocol.{low, high, sent_count, whole, IsNumbered};
-ghost use Rattle.smbus.specs.Parts.{first_bytes, has_repeat, returned_bytes, controller_bytes};
+ghost use Rattle.smbus.specs.Parts.{first_bytes, has_repeat, returned_bytes};
 ghost use Rattle.smbus.specs.Parts.{rest_of, IsAfter};
 ghost use Rattle.smbus.specs.Slots.{marks_sent, slots_of, IsGoodData, IsGoodBlock};
 
+use crate::counting::sent_count;
 use crate::fault::SmbusFault;
 use crate::message::{Answer, Form, Message};
 use bit_bus::Slot;
@@ -38,7 +39,8 @@ fn first_bytes(alloc: Global, message: &Message) -> Result<Vec<u8>, AllocError>
     Ok(bytes)
 }
 
-fn has_repeat(form: Form) -> bool
+/// Whether a form has a repeated START.
+pub(crate) fn has_repeat(form: Form) -> bool
     ensures { result ≡ has_repeat form }
 {
     match form {
@@ -196,34 +198,19 @@ fn has_length(form: Form, count: usize) -> bool
     }
 }
 
-/// How many bytes the controller sends, of which so many are data.
-fn controller_bytes(form: Form, data_count: usize) -> usize
-    requires fits { HasLength form data_count }
-    requires short { data_count < 2 ^ 63 }
-    ensures { result ≡ controller_bytes form data_count }
+fn is_numbered(refuse: Option<u16>, count: usize) -> bool
+    ensures { IsTrue result ↔ IsNumbered refuse count }
 {
-    match form {
-        Form::Quick(_) | Form::ReceiveByte | Form::Alert => 1,
-        Form::SendByte => 2,
-        Form::WriteByte | Form::ReadByte | Form::ReadWord | Form::BlockRead => 3,
-        Form::WriteWord => 4,
-        Form::ProcessCall => 5,
-        Form::BlockWrite => data_count + 3,
-        Form::BlockProcessCall => data_count + 4,
+    match refuse {
+        None => true,
+        Some(number) => (number as usize) < count,
     }
 }
 
 fn is_good_data(message: &Message, answer: &Answer) -> bool
     ensures { IsTrue result ↔ IsGoodData message.now answer.now }
 {
-    let data_count = message.out.len();
-    if !has_length(message.form, data_count) {
-        return false;
-    }
-    match answer.refuse {
-        None => true,
-        Some(number) => (number as usize) < controller_bytes(message.form, data_count),
-    }
+    has_length(message.form, message.out.len()) && is_numbered(answer.refuse, sent_count(message))
 }
 
 fn is_good_block(form: Form, written: usize, returned: usize) -> bool

@@ -8,7 +8,7 @@ use Rattle.std.proofs.lemmas.Bool.{cases_Bool}
 use Rattle.std.proofs.lemmas.Bool.Decides.{nat_tests}
 use Rattle.wires.specs.Bits.{bit}
 use Rattle.wires.specs.Arbitration.{wire_byte}
-use Rattle.wires.proofs.BitByBit.{is_wire_byte}
+use Rattle.wires.specs.ArbitrationLaws.{LeastByteWins}
 use Rattle.board.specs.Boards.{Target, Board}
 use Rattle.board.specs.Valid.{IsTarget, IsBoard, is_target_address}
 use Rattle.targets.specs.States.{BusState}
@@ -32,12 +32,6 @@ pub drop_at : {X : Type 0} (xs : List X) (i : ℕ) (x : X) → Some x ≡ slice_
 drop_at xs i x e =
     let n : suc i ≡ i + 1 = omega arith in
     drop_suc xs i x e ∙ ap (λ k. x ∷ drop k xs) n
-
-pub drop_none : {X : Type 0} (xs : List X) (i : ℕ) → None ≡ slice_get xs i → drop i xs ≡ []
-drop_none [] zero e = refl
-drop_none [] (suc i) e = refl
-drop_none (y ∷ xs) zero e = cc
-drop_none (y ∷ xs) (suc i) e = drop_none xs i e
 
 pub sent_at : (s : BusState) (o : Option ℕ) (i : ℕ) (t : Target) (ts : List Target)
     → bit s.alerting i ≡ true
@@ -76,20 +70,35 @@ contained : (b : ℕ) (bs : List ℕ) (m : ℕ) → (m ≡ b) ⊎ Contains bs m 
 contained b bs m (inl e) = (0, omega arith, sym e)
 contained b bs m (inr h) = (suc h.0, omega arith, h.2)
 
+-- no bytes are below the least
+below_all : (bs : List ℕ) (x m : ℕ) → AllByRecursion (λ b. m ≤ b) bs → Contains bs x → m ≤ x
+below_all [] x m all (k, lt, e) = absurd (omega arith)
+below_all (b ∷ bs) x m all (zero, lt, e) =
+    let le : m ≤ b = all.0 in
+    let same : b ≡ x = e in
+    omega arith
+below_all (b ∷ bs) x m all (suc k, lt, e) = below_all bs x m all.1 (k, omega arith, e)
+
 -- the wire carries the least
-least_is_wire : (bs : List ℕ) (o : Option ℕ) → AllByRecursion (λ b. b < 256) bs
+wire_is : LeastByteWins → (bs : List ℕ) (m : ℕ) → AllByRecursion (λ b. b < 256) bs
+    → AllByRecursion (λ b. m ≤ b) bs → Contains bs m → bs ≢ [] → m ≡ wire_byte bs
+wire_is wins bs m small all sent some =
+    let goes = wins bs (All-from_recursion (λ b. b < 256) bs small) some in
+    let above : m ≤ wire_byte bs = below_all bs (wire_byte bs) m all goes.some_sent in
+    let below : wire_byte bs ≤ m = below_all bs m (wire_byte bs)
+    (recursion_from_All (λ b. wire_byte bs ≤ b) bs goes.least) sent in
+    omega (arith, above, below)
+
+least_is_wire : LeastByteWins → (bs : List ℕ) (o : Option ℕ) → AllByRecursion (λ b. b < 256) bs
     → o ≡ least_with None bs
     → MatchOption o (bs ≡ []) (λ byte. (bs ≢ []) × (byte ≡ wire_byte bs))
-least_is_wire [] None small e = refl
-least_is_wire [] (Some m) small e = cc
-least_is_wire (b ∷ bs) None small e = let s = some_least b bs in cc
-least_is_wire (b ∷ bs) (Some m) small e =
+least_is_wire wins [] None small e = refl
+least_is_wire wins [] (Some m) small e = cc
+least_is_wire wins (b ∷ bs) None small e = let s = some_least b bs in cc
+least_is_wire wins (b ∷ bs) (Some m) small e =
     let l = least_from b bs m (sym e) in
-    let le : AllByRecursion (λ c. m ≤ c) (b ∷ bs) = (l.0, l.1) in (
-      λ q. cc,
-      (is_wire_byte (b ∷ bs) m (All-from_recursion (λ c. c < 256) (b ∷ bs) small)
-          (All-from_recursion (λ c. m ≤ c) (b ∷ bs) le) (contained b bs m l.2)).0,
-    )
+    let some : b ∷ bs ≢ [] = λ q. cc in
+    (some, wire_is wins (b ∷ bs) m small (l.0, l.1) (contained b bs m l.2) some)
 
 pub small_address : (t : Target) → IsTarget t → t.address ≤ 127
 small_address t is =
@@ -106,13 +115,13 @@ bytes_small s i (t ∷ ts) all =
       | inr e ↦ rw e (bytes_small s (i + 1) ts all.1)
     ]
 
-pub wire_is_least : (b : Board) (s : BusState) (o : Option ℕ) → IsBoard b
+pub wire_is_least : LeastByteWins → (b : Board) (s : BusState) (o : Option ℕ) → IsBoard b
     → o ≡ least_with None (bytes_from s 0 b.targets)
     → MatchOption o (alert_bytes b s ≡ [])
     (λ byte. (alert_bytes b s ≢ []) × (byte ≡ wire_byte (alert_bytes b s)))
 unfolding alert_bytes
-wire_is_least b s o is e =
-    least_is_wire _ o
+wire_is_least wins b s o is e =
+    least_is_wire wins _ o
     (bytes_small s 0 b.targets (recursion_from_All IsTarget b.targets is.targets)) e
 
 least_is_sent : (bs : List ℕ) (o : Option ℕ) → o ≡ least_with None bs
@@ -127,46 +136,42 @@ pub wire_is_sent : (b : Board) (s : BusState) (o : Option ℕ)
 unfolding alert_bytes
 wire_is_sent b s o e = least_is_sent _ o e
 
-least_small : (bs : List ℕ) (x : ℕ) (later : List ℕ) → bs ≡ x ∷ later
+least_small : LeastByteWins → (bs : List ℕ) (x : ℕ) (later : List ℕ) → bs ≡ x ∷ later
     → AllByRecursion (λ b. b < 256) bs → wire_byte bs < 65536
-least_small [] x later e small = cc
-least_small (b ∷ bs) x later e small =
+least_small wins [] x later e small = cc
+least_small wins (b ∷ bs) x later e small =
     let s = some_least b bs in
     let l = least_from b bs s.0 s.1 in
-    let w = least_is_wire (b ∷ bs) (Some s.0) small (sym s.1) in
+    let w = least_is_wire wins (b ∷ bs) (Some s.0) small (sym s.1) in
     let same : s.0 ≡ wire_byte (b ∷ bs) = w.1 in
     let le : s.0 ≤ b = l.0 in
     let lt : b < 256 = small.0 in
     omega arith
 
-pub wire_small : (b : Board) (s : BusState) (x : ℕ) (later : List ℕ) → IsBoard b
+pub wire_small : LeastByteWins → (b : Board) (s : BusState) (x : ℕ) (later : List ℕ) → IsBoard b
     → alert_bytes b s ≡ x ∷ later → wire_byte (alert_bytes b s) < 65536
 unfolding alert_bytes
-wire_small b s x later is e =
-    least_small _ x later e
+wire_small wins b s x later is e =
+    least_small wins _ x later e
     (bytes_small s 0 b.targets (recursion_from_All IsTarget b.targets is.targets))
 
-below_all : (bs : List ℕ) (x m : ℕ) → AllByRecursion (λ b. m ≤ b) bs → Contains bs x → m ≤ x
-below_all [] x m all (k, lt, e) = absurd (omega arith)
-below_all (b ∷ bs) x m all (zero, lt, e) =
-    let le : m ≤ b = all.0 in
-    let same : b ≡ x = e in
-    omega arith
-below_all (b ∷ bs) x m all (suc k, lt, e) = below_all bs x m all.1 (k, omega arith, e)
-
-wire_among : (bs : List ℕ) (x : ℕ) → AllByRecursion (λ b. b < 256) bs → Contains bs x
+wire_among : LeastByteWins → (bs : List ℕ) (x : ℕ) → AllByRecursion (λ b. b < 256) bs
+    → Contains bs x
     → (wire_byte bs ≤ x) × Contains bs (wire_byte bs)
-wire_among [] x small c = absurd (omega (arith, c.1))
-wire_among (b ∷ bs) x small c =
+wire_among wins [] x small c = absurd (omega (arith, c.1))
+wire_among wins (b ∷ bs) x small c =
     let s = some_least b bs in
     let l = least_from b bs s.0 s.1 in
-    let same : s.0 ≡ wire_byte (b ∷ bs) = (least_is_wire (b ∷ bs) (Some s.0) small (sym s.1)).1 in
+    let same : s.0 ≡ wire_byte (b ∷ bs) =
+    (least_is_wire wins (b ∷ bs) (Some s.0) small (sym s.1)).1 in
     let le : s.0 ≤ x = below_all (b ∷ bs) x s.0 (l.0, l.1) c in
     (omega arith, rw same at (contained b bs s.0 l.2))
 
 -- the wire's byte is one of those that are sent, and the least
-pub wire_lowest : (b : Board) (s : BusState) (x : ℕ) → IsBoard b → Contains (alert_bytes b s) x
+pub wire_lowest : LeastByteWins → (b : Board) (s : BusState) (x : ℕ) → IsBoard b
+    → Contains (alert_bytes b s) x
     → (wire_byte (alert_bytes b s) ≤ x) × Contains (alert_bytes b s) (wire_byte (alert_bytes b s))
 unfolding alert_bytes
-wire_lowest b s x is c =
-    wire_among _ x (bytes_small s 0 b.targets (recursion_from_All IsTarget b.targets is.targets)) c
+wire_lowest wins b s x is c =
+    wire_among wins _ x
+    (bytes_small s 0 b.targets (recursion_from_All IsTarget b.targets is.targets)) c

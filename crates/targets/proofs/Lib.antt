@@ -1,7 +1,7 @@
 pub mod AlertBytes
 pub mod Bits
-pub mod SlotCounts
 pub mod Cuts
+pub mod Places
 pub mod SlotsOut
 pub mod ValueOut
 pub mod Addresses

@@ -11,6 +11,7 @@ use Rattle.std.proofs.lemmas.Bool.{cases_Bool, eqb-true}
 use Rattle.std.proofs.lemmas.Bool.Decides.{nat_tests}
 use Rattle.std.proofs.lemmas.List.{length-replicate}
 use Rattle.std.proofs.lemmas.List.Elements.{All-nil, All-replicate, recursion_from_All}
+use Rattle.wires.specs.ArbitrationLaws.{LeastByteWins}
 use Rattle.wires.specs.Bits.{bit}
 use Rattle.wires.specs.Arbitration.{wire_byte}
 use Rattle.smbus.specs.declared.message.Form.{Form}
@@ -268,10 +269,11 @@ block_read count value lt =
 
 -- the alert response, where nobody alerts and where the wire carries a byte
 
-fits_alert : (b : Board) (s : BusState) (bs : List ℕ) → IsBoard b → alert_bytes b s ≡ bs
+fits_alert : LeastByteWins → (b : Board) (s : BusState) (bs : List ℕ) → IsBoard b
+    → alert_bytes b s ≡ bs
     → (value : ℕ) × (refuse : Option ℕ) × FitsAlert b s (answered value [] refuse) × (value < 65536)
     × IsNumbered refuse 1 × IsNumbered refuse 65536
-fits_alert b s [] is e = (
+fits_alert wins b s [] is e = (
   0,
   Some 0,
   record { nobody = λ _. (refl, refl); somebody = λ n. absurd (n e) },
@@ -279,7 +281,7 @@ fits_alert b s [] is e = (
   omega arith,
   omega arith,
 )
-fits_alert b s (x ∷ bs) is e = (
+fits_alert wins b s (x ∷ bs) is e = (
   wire_byte (alert_bytes b s),
   None,
   record {
@@ -288,43 +290,44 @@ fits_alert b s (x ∷ bs) is e = (
         cc;
     somebody = λ _. (refl, refl);
   },
-  wire_small b s x bs is e,
+  wire_small wins b s x bs is e,
   tt,
   tt,
 )
 
-some_answer : (b : Board) (s : BusState) (address : ℕ) (f : Form) (code : ℕ) (out : List ℕ)
+some_answer : LeastByteWins
+    → (b : Board) (s : BusState) (address : ℕ) (f : Form) (code : ℕ) (out : List ℕ)
     → IsBoard b → Belongs b s
     → IsMessage b (record { address = address; form = f; code = code; out = out })
     → HasAnswer b s (Some (record { address = address; form = f; code = code; out = out }))
-some_answer b s address (form.Quick is_read) code out is belongs ok =
+some_answer wins b s address (form.Quick is_read) code out is belongs ok =
     has_answer b s _ 0 [] None nothing_read tt (record { value = refl; bytes = refl })
-some_answer b s address form.SendByte code out is belongs ok =
+some_answer wins b s address form.SendByte code out is belongs ok =
     has_answer b s _ 0 [] None nothing_read tt (record { value = refl; bytes = refl })
-some_answer b s address form.WriteByte code out is belongs ok =
+some_answer wins b s address form.WriteByte code out is belongs ok =
     has_answer b s _ 0 [] None nothing_read tt (record { value = refl; bytes = refl })
-some_answer b s address form.WriteWord code out is belongs ok =
+some_answer wins b s address form.WriteWord code out is belongs ok =
     has_answer b s _ 0 [] None nothing_read tt (record { value = refl; bytes = refl })
-some_answer b s address form.BlockWrite code out is belongs ok =
+some_answer wins b s address form.BlockWrite code out is belongs ok =
     has_answer b s _ 0 [] None nothing_read tt (record { value = refl; bytes = refl })
-some_answer b s address form.ReadByte code out is belongs ok =
+some_answer wins b s address form.ReadByte code out is belongs ok =
     read_byte b s address code out is belongs ok
-some_answer b s address form.ReceiveByte code out is belongs ok =
+some_answer wins b s address form.ReceiveByte code out is belongs ok =
     let m : Asked = record { address = address; form = form.ReceiveByte; code = code; out = out } in
     let w = values_within b m is in
     has_answer b s m (values_for b m).low [] None (number_read _ (low_small form.ReceiveByte _ w))
     tt (low_in (values_for b m) (full_values form.ReceiveByte) w, refl)
-some_answer b s address form.ReadWord code out is belongs ok =
+some_answer wins b s address form.ReadWord code out is belongs ok =
     let m : Asked = record { address = address; form = form.ReadWord; code = code; out = out } in
     let w = values_within b m is in
     has_answer b s m (values_for b m).low [] None (number_read _ (low_small form.ReadWord _ w)) tt
     (low_in (values_for b m) (full_values form.ReadWord) w, refl)
-some_answer b s address form.ProcessCall code out is belongs ok =
+some_answer wins b s address form.ProcessCall code out is belongs ok =
     let m : Asked = record { address = address; form = form.ProcessCall; code = code; out = out } in
     let w = values_within b m is in
     has_answer b s m (values_for b m).low [] None (number_read _ (low_small form.ProcessCall _ w))
     tt (low_in (values_for b m) (full_values form.ProcessCall) w, refl)
-some_answer b s address form.BlockRead code out is belongs ok =
+some_answer wins b s address form.BlockRead code out is belongs ok =
     let m : Asked = record { address = address; form = form.BlockRead; code = code; out = out } in
     let w = values_within b m is in
     let high : (values_for b m).high ≤ 255 = w.below in
@@ -332,7 +335,7 @@ some_answer b s address form.BlockRead code out is belongs ok =
     let few : (lengths_for b m).low ≤ 255 = ok.counts.1 in
     has_answer b s m 0 (replicate (lengths_for b m).low (values_for b m).low) None
     (block_read _ _ (omega arith)) tt (fits_block b m 0 is (omega arith), refl)
-some_answer b s address form.BlockProcessCall code out is belongs ok =
+some_answer wins b s address form.BlockProcessCall code out is belongs ok =
     let m : Asked = record {
       address = address;
       form = form.BlockProcessCall;
@@ -344,10 +347,11 @@ some_answer b s address form.BlockProcessCall code out is belongs ok =
     let some : (values_for b m).low ≤ (values_for b m).high = w.nonempty in
     has_answer b s m 0 (replicate (lengths_for b m).low (values_for b m).low) None
     (block_read _ _ (omega arith)) tt (fits_block b m (length out) is ok.counts.2, refl)
-some_answer b s address form.Alert code out is belongs ok =
-    let r = fits_alert b s (alert_bytes b s) is refl in
+some_answer wins b s address form.Alert code out is belongs ok =
+    let r = fits_alert wins b s (alert_bytes b s) is refl in
     has_answer b s _ r.0 [] r.1 (is_answer r.0 [] r.1 r.3 (All-nil (λ byte. byte < 256)) r.5) r.4
     (r.2, refl)
 
-pub messages : MessagesHaveAnswers
-messages b s m is belongs ok = some_answer b s m.address m.form m.code m.out is belongs ok
+pub messages : LeastByteWins → MessagesHaveAnswers
+messages wins b s m is belongs ok =
+    some_answer wins b s m.address m.form m.code m.out is belongs ok

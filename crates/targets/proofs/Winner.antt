@@ -7,6 +7,7 @@ use Rattle.std.specs.List.{Contains}
 use Rattle.std.proofs.lemmas.Bool.{cases_Bool}
 use Rattle.wires.specs.Bits.{bit}
 use Rattle.wires.specs.Arbitration.{wire_byte}
+use Rattle.wires.specs.ArbitrationLaws.{LeastByteWins}
 use Rattle.board.specs.Boards.{Target, Board, place_of_address}
 use Rattle.board.specs.Valid.{IsBoard}
 use Rattle.targets.specs.States.{BusState, IsTargetAt, Alerts}
@@ -148,9 +149,9 @@ few_winners b s (Some i) is w =
 same_target : (b : Board) (i : ℕ) (t u : Target) → IsTargetAt b i t → IsTargetAt b i u → t ≡ u
 same_target b i t u ti ui = let e : Some t ≡ Some u = sym ti ∙ ui in cc
 
-pub some_target_wins : SomeTargetWins
-some_target_wins b s i t is at alerts =
-    let w = wire_lowest b s (address_byte t) is (alerter_sends b s i t at alerts) in
+pub some_target_wins : LeastByteWins → SomeTargetWins
+some_target_wins wins b s i t is at alerts =
+    let w = wire_lowest wins b s (address_byte t) is (alerter_sends b s i t at alerts) in
     let x = sender_at b s (wire_byte (alert_bytes b s)) w.1 in
     let n : 0 + x.index ≡ x.index = omega arith in
     record {
@@ -163,9 +164,9 @@ one_target_wins b s i j is wi wj =
     let twice : 2 * wi.target.address ≡ 2 * wj.target.address = wi.sent ∙ sym wj.sent in
     only_one b is i j wi.target wj.target wi.at wj.at (omega arith)
 
-pub lowest_address_wins : LowestAddressWins
-lowest_address_wins b s i j t u is wi ti uj alerts =
-    let w = wire_lowest b s (address_byte u) is (alerter_sends b s j u uj alerts) in
+pub lowest_address_wins : LeastByteWins → LowestAddressWins
+lowest_address_wins wins b s i j t u is wi ti uj alerts =
+    let w = wire_lowest wins b s (address_byte u) is (alerter_sends b s j u uj alerts) in
     let le : wire_byte (alert_bytes b s) ≤ 2 * u.address = w.0 in
     let sent : 2 * wi.target.address ≡ wire_byte (alert_bytes b s) = wi.sent in
     let same = ap (λ (t : Target). t.address) (same_target b i t wi.target ti wi.at) in

@@ -2,7 +2,6 @@ pub mod States
 pub mod Outcomes
 pub mod Alerting
 pub mod Least
-pub mod Counts
 pub mod WriteSlots
 pub mod Stored
 pub mod Effects

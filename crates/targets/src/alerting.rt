@@ -8,6 +8,7 @@ ghost use Rattle.targets.specs.Least.{lesser};
 
 use crate::state::BusState;
 use board::Board;
+use wires::least_byte_wins;
 
 /// Whether the bit of a target is set.
 pub(crate) fn is_set(bits: u16, index: usize) -> bool
@@ -55,11 +56,9 @@ pub(crate) fn alert_byte(board: &Board, state: &BusState) -> Option<u8>
     ensures sent { IfSome result (λ byte. Contains (alert_bytes board.now state.now) byte) }
     ensures board { IsBoard board.now }
 {
+    least_byte_wins();
     let mut least = None;
-    for index in 0..board.target_count() {
-        let Some(target) = board.target(index) else {
-            break;
-        };
+    for (index, target) in board.targets().iter().enumerate() {
         if is_set(state.alerting, index) {
             least = Some(lesser(least, 2 * target.address()));
         }

@@ -8,11 +8,10 @@ ghost use Rattle.targets.specs.Fitting.{target_of, IsStoredBy, FitsRead, FitsBlo
 ghost use Rattle.targets.specs.Fitting.{ReadsNothing, FitsForm, Fits, FitsSilence, FitsStep};
 
 use crate::alerting::{alert_byte, may_all_alert};
-use crate::counting::{controller_count, slot_count};
 use crate::state::BusState;
 use board::{Allow, Board, Range};
 use pmbus_table::code::{PAGE, WRITE_PROTECT};
-use smbus::{Answer, Form, Message};
+use smbus::{Answer, Form, Message, sent_count, slot_count};
 
 fn is_in(range: Range, number: u16) -> bool
     ensures { IsTrue result ↔ IsIn range number }
@@ -158,7 +157,7 @@ fn fits_message(board: &Board, state: &BusState, message: &Message, answer: &Ans
     may_all_alert(board, answer.alerts)
         && answer.holds.len() <= slot_count(message, answer)
         && are_within(&answer.holds, board.largest_stretch())
-        && is_numbered(answer.refuse, controller_count(message))
+        && is_numbered(answer.refuse, sent_count(message))
         && fits_form(board, state, message, answer)
 }
 

@@ -2,6 +2,8 @@ ghost use Rattle.targets.specs.SomeAnswer.{MessagesHaveAnswers, SilenceHasAnswer
 ghost use Rattle.targets.specs.StateLaws.{StartsBelong, StepsBelong};
 ghost use Rattle.targets.specs.AlertLaws.{SomeTargetWins, OneTargetWins, LowestAddressWins};
 
+use wires::least_byte_wins;
+
 /// Targets always have an answer: to each message that belongs to their board, in each state that
 /// belongs to it, some answer fits, and to a step that sends nothing too.
 pub fn some_answer_fits()
@@ -9,7 +11,9 @@ pub fn some_answer_fits()
     ensures silence { SilenceHasAnswers }
     // There are such boards, states and messages.
     ensures case { SomeCase }
-{}
+{
+    least_byte_wins();
+}
 
 /// The states in which a run may start belong to the board, and so do those after answers that fit.
 pub fn states_belong()
@@ -22,4 +26,6 @@ pub fn lowest_address_wins()
     ensures some { SomeTargetWins }
     ensures one { OneTargetWins }
     ensures lowest { LowestAddressWins }
-{}
+{
+    least_byte_wins();
+}

@@ -2,7 +2,6 @@
 #![tactic(auto)]
 
 mod alerting;
-mod counting;
 mod effect;
 mod fitting;
 mod law;
@@ -17,6 +16,3 @@ pub use outcome::Outcome;
 pub use start::starts;
 pub use state::BusState;
 pub use step::after;
-
-#[cfg(test)]
-mod tests;

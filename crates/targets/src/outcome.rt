@@ -3,8 +3,7 @@ ghost use Rattle.std.specs.List.{position_from};
 ghost use Rattle.bit_bus.specs.Levels.{is_cut};
 ghost use Rattle.targets.specs.Outcomes.{returned_by, cut_of, outcome_of};
 
-use crate::counting::slot_count;
-use smbus::{Answer, Form, Message};
+use smbus::{Answer, Form, Message, slot_count};
 
 /// How a message ended.
 #[derive(Clone, Copy, Debug, PartialEq, Eq)]

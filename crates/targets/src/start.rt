@@ -23,10 +23,7 @@ fn each_may_start(board: &Board, state: &BusState) -> bool
     ensures { IsTrue result ↔ ((i : ℕ) (t : Target) → IsTargetAt board.now i t
         → MayStart t (slice_index state.now.page i) (slice_index state.now.protect i)) }
 {
-    for index in 0..board.target_count() {
-        let Some(target) = board.target(index) else {
-            break;
-        };
+    for (index, target) in board.targets().iter().enumerate() {
         if !may_start(target, state.page[index], state.protect[index]) {
             return false;
         }
@@ -39,7 +36,7 @@ fn each_may_start(board: &Board, state: &BusState) -> bool
 pub fn starts(board: &Board, state: &BusState) -> bool
     ensures { IsTrue result ↔ IsStart board.now state.now }
 {
-    let count = board.target_count();
+    let count = board.targets().len();
     state.page.len() == count
         && state.protect.len() == count
         && state.alerting == 0

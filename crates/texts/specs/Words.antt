@@ -1,5 +1,5 @@
--- The words of a line.
-use Rattle.std.specs.Prelude.{ℕ, List, Bool, ◌==◌, filter, length, nat_lt}
+-- The lines of a text, and the words of a line.
+use Rattle.std.specs.Prelude.{ℕ, List, [], ◌∷◌, Bool, ◌==◌, filter, length, nat_lt, if◌then◌else◌}
 use Rattle.std.specs.List.{slice_split}
 
 abbrev pub is_nonempty : List ℕ → Bool
@@ -8,3 +8,13 @@ is_nonempty xs = nat_lt 0 (length xs)
 -- the nonempty parts between spaces
 abbrev pub words_of : List ℕ → List (List ℕ)
 words_of line = filter is_nonempty (slice_split (λ b. b == 32) line)
+
+-- an empty part behind the last line feed is no line
+abbrev pub without_empty_end : List (List ℕ) → List (List ℕ)
+without_empty_end [] = []
+without_empty_end (line ∷ []) = if length line == 0 then [] else line ∷ []
+without_empty_end (line ∷ next ∷ later) = line ∷ without_empty_end (next ∷ later)
+
+-- the parts between line feeds: a carriage return is a character like any other
+abbrev pub lines_by_feed : List ℕ → List (List ℕ)
+lines_by_feed text = without_empty_end (slice_split (λ b. b == 10) text)

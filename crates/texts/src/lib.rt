@@ -14,7 +14,4 @@ pub use hex::{hex_number, pair_of, pairs_of, push_pair, push_word};
 pub use name::is_name;
 pub use reading::ReadError;
 pub use sending::{CutShort, send};
-pub use words::{lines_of, words_of};
-
-#[cfg(test)]
-mod tests;
+pub use words::{lines_by_feed, lines_of, words_of};

@@ -4,11 +4,10 @@
 
 mod arbitration;
 mod event;
+mod law;
 mod lines;
 
 pub use arbitration::arbitrate;
 pub use event::{Event, events};
+pub use law::least_byte_wins;
 pub use lines::{Sample, wired};
-
-#[cfg(test)]
-mod tests;

@@ -11,7 +11,7 @@ invariant_of-result c =
     let ended : ends (labels_view c.in_ok-pass.pass.labels) c.in_ok-instrs.instrs.items ≡ true =
     ap (ends (labels_view c.in_ok-pass.pass.labels)) (sym made) ∙ sym c.ends.ensures
     ∙ c.if-not-ends.false in
-    (is_program (length c.args.board.now.target_names) (labels_view c.in_ok-pass.pass.labels)
+    (is_program (length c.args.board.now.targets) (labels_view c.in_ok-pass.pass.labels)
     c.deref-2.result.now c.in_ok-instrs.instrs.items (rw same c.in_ok-pass.ensures.said.0)
     (rw same c.in_ok-pass.ensures.said.1) c.in_ok-instrs.ensures ended).0
 
@@ -22,6 +22,6 @@ returns-clause-on_board c =
     let ended : ends (labels_view c.in_ok-pass.pass.labels) c.in_ok-instrs.instrs.items ≡ true =
     ap (ends (labels_view c.in_ok-pass.pass.labels)) (sym made) ∙ sym c.ends.ensures
     ∙ c.if-not-ends.false in
-    (is_program (length c.args.board.now.target_names) (labels_view c.in_ok-pass.pass.labels)
+    (is_program (length c.args.board.now.targets) (labels_view c.in_ok-pass.pass.labels)
     c.deref-2.result.now c.in_ok-instrs.instrs.items (rw same c.in_ok-pass.ensures.said.0)
     (rw same c.in_ok-pass.ensures.said.1) c.in_ok-instrs.ensures ended).1

@@ -4,13 +4,16 @@ use Rattle.simulator.proofs.OneEntry.{reads_one}
 use Rattle.simulator.proofs.law.entries_read_back.Goals as goal
 
 pub returns-clause-one : goal.returns-clause-one
-returns-clause-one c = reads_one
+returns-clause-one c =
+    reads_one c.messages_have_one_frame.ensures.one c.reads_back.ensures.word
+    c.reads_back.ensures.free c.reads_back.ensures.cut c.reads_back.ensures.few
 
 pub returns-clause-does : goal.returns-clause-does
-returns-clause-does c = do_as_asked
+returns-clause-does c = do_as_asked (returns-clause-one c)
 
 pub returns-clause-none : goal.returns-clause-none
 returns-clause-none c = reads_none
 
 pub returns-clause-joined : goal.returns-clause-joined
-returns-clause-joined c = reads_joined
+returns-clause-joined c =
+    reads_joined c.reads_back.ensures.joined c.slots_are_one_frame.ensures.unique

@@ -1,6 +1,7 @@
-use Rattle.std.proofs.Common.{ap}
+use Rattle.std.proofs.Common.{◌≡◌, ◌<◌, ap, subst, take, All}
+use Rattle.std.proofs.lemmas.List.{take_all}
 use Rattle.simulator.specs.Faults.{FailsAt}
-use Rattle.simulator.specs.Machines.{Entry}
+use Rattle.simulator.specs.Machines.{Machine, Entry}
 use Rattle.simulator.proofs.Runs.{fails_here, passed_on, out_of_memory, next_run, seen_more}
 use Rattle.simulator.proofs.Runs.{sum_more, still_within}
 use Rattle.simulator.proofs.running.run.Goals as goal
@@ -42,3 +43,18 @@ loop-index-preserved c =
       still_within c.in_ok-next.entry c.loop-index.ticks c.entry.inside.ticks same
           c.in_ok-next.ensures.within,
     )
+
+pub returns-clause-seen : goal.returns-clause-seen
+returns-clause-seen c =
+    let b = c.args.board.now in
+    let p = c.args.program.now in
+    let m = c.args.machine.now in
+    let words : All (λ word. word < 65536) m.regs =
+    subst (λ (x : Machine). All (λ word. word < 65536) x.regs) c.machine.view_is
+    c.registers_are_words.ensures in
+    let all : take c.loop-index.index c.args.answers.now ≡ c.args.answers.now =
+    take_all c.loop-index.index c.args.answers.now c.loop-index-test.false in
+    let run = rw all at c.loop-index.invariant.0 in
+    c.runs_are_seen.ensures b p m c.loop-index.last c.args.answers.now c.loop-index.entries.items
+    c.targets-targets.ensures.board c.places-places.ensures.program
+    (record { machine = c.requires.machine; words = words }) run

@@ -2,6 +2,7 @@ use Rattle.std.proofs.lemmas.Bool.{MatchBool-at_true, MatchBool-at_false}
 use Rattle.smbus.specs.Machine.{reading_of}
 use Rattle.smbus.proofs.EventByEvent.{read_on, read_all, fails_here, fails_open, frames_read}
 use Rattle.smbus.proofs.EventByEvent.{only_read}
+use Rattle.smbus.proofs.Observed.{never_fails}
 use Rattle.smbus.proofs.observing.observe.Goals as goal
 
 pub loop-place-preserved : goal.loop-place-preserved
@@ -10,17 +11,28 @@ loop-place-preserved c =
     (reading_of c.take.new.self) _ c.loop-place-test.true c.loop-place.invariant
     (MatchBool-at_true _ _ c.if-not-branch.false c.in_ok-take.ensures)
 
+-- no frames go on from here
 pub returns-then-not-branch-clause-fault : goal.returns-then-not-branch-clause-fault
 returns-then-not-branch-clause-fault c =
     fails_here c.args.events.now c.loop-place.place
     (reading_of c.loop-place.reading) _ c.loop-place-test.true c.loop-place.invariant
     (MatchBool-at_false _ _ c.if-not-branch.true c.in_ok-take.ensures)
 
+pub returns-then-not-branch-clause-none : goal.returns-then-not-branch-clause-none
+returns-then-not-branch-clause-none c known frames are =
+    never_fails c.args.events.now frames c.loop-place.place are
+    (returns-then-not-branch-clause-fault c)
+
+-- a frame hasn't ended
 pub returns-then-reading-clause-fault : goal.returns-then-reading-clause-fault
 returns-then-reading-clause-fault c =
     fails_open c.args.events.now (reading_of c.loop-place.reading)
     (read_all c.args.events.now c.loop-place.place _ c.loop-place-test.false c.loop-place.invariant)
     c.if-reading.true
+
+pub returns-then-reading-clause-none : goal.returns-then-reading-clause-none
+returns-then-reading-clause-none c known frames are =
+    never_fails c.args.events.now frames _ are (returns-then-reading-clause-fault c)
 
 pub returns-clause-frames : goal.returns-clause-frames
 returns-clause-frames c =

@@ -1,0 +1,142 @@
+-- The lines that are read as answers are those that spell one.
+use Rattle.std.proofs.Common.{◌≡◌, ℕ, true, false, Bool, ◌==◌, List, [], length, Some, Ok, codes}
+use Rattle.std.proofs.Common.{refl, ap, subst, ◌∙◌}
+use Rattle.texts.specs.Reading.{some_or}
+use Rattle.texts.specs.Words.{words_of}
+use Rattle.smbus.specs.Answered.{Answered}
+use Rattle.bundles.specs.Bundles.{Line}
+use Rattle.bundles.specs.Fields.{value_of, number_of}
+use Rattle.bundles.specs.AnswerWords.{past_bytes, answer_of}
+use Rattle.bundles.specs.AnswerLines.{took_of, past_took, past_alerts, bad_answer, said, answer_in}
+use Rattle.bundles.specs.AnswerLines.{answer_line_of}
+use Rattle.bundles.specs.Spelled.{spelled, AnswerValues, SaysAnswer}
+use Rattle.bundles.specs.SpelledAnswers.{AnswerLineValues, keyed, IsAnswerLine, AnswerLinesAreRead}
+use Rattle.bundles.specs.SpelledAnswers.{OtherLinesAreBad}
+use Rattle.bundles.proofs.Keys.{spelled_by}
+use Rattle.bundles.proofs.Readings.{bind_ok, some_ok, if_ok, none_left, fails_then, fails_some}
+use Rattle.bundles.proofs.Readings.{fails_if, FailsBy}
+use Rattle.bundles.proofs.AnswerReading.{answer_values, Answers, answers, answered_if}
+use Rattle.bundles.proofs.AnswerReading.{answer_spelled}
+use Rattle.bundles.proofs.AnswerReading.{taken, answer_taken, answer_fails}
+
+abbrev whole : Answered → Bool → ℕ → Answered
+whole answer took alerts = record answer { took = took; alerts = alerts }
+
+-- the answer of the words that messages have too
+abbrev front_of : Answered → Answered
+front_of answer = whole answer false 0
+
+same_said : (values : AnswerValues) (a : Answered) (took : Bool) (alerts : ℕ) → SaysAnswer values a
+    → SaysAnswer values (whole a took alerts)
+same_said values a took alerts s =
+    record { holds = s.holds; refuse = s.refuse; value = s.value; bytes = s.bytes }
+
+abbrev line_values : List Line → AnswerLineValues
+line_values words = record {
+  answer = answer_values words;
+  took = value_of (codes "took=") (past_bytes words);
+  alerts = value_of (codes "alerts=") (past_took words);
+}
+
+-- what some words spell
+record Spells (words : List Line) (answer : Answered) : Type 0 where
+  values : AnswerLineValues
+  spelling : words ≡ spelled (keyed values)
+  says : SaysAnswer values.answer answer
+  took : took_of values.took ≡ Some answer.took
+  alerts : number_of values.alerts ≡ Some answer.alerts
+
+-- ---- what is read is what the words spell
+
+all_spelled : (words : List Line) → past_alerts words ≡ []
+    → words ≡ spelled (keyed (line_values words))
+all_spelled words none =
+    answer_spelled words _ (spelled_by (codes "took=") (past_bytes words) _
+    (spelled_by (codes "alerts=") (past_took words) [] none))
+
+spells : (number : ℕ) (words : List Line) (answer : Answered) → answer_in number words ≡ Ok answer
+    → Spells words answer
+unfolding answer_in
+spells number words answer e =
+    let fault = bad_answer number in
+    let a = bind_ok (answer_of fault words) _ answer e in
+    let b =
+    bind_ok (some_or fault (took_of (value_of (codes "took=") (past_bytes words)))) _ answer a.2 in
+    let c = bind_ok (some_or fault (number_of (value_of (codes "alerts=") (past_took words)))) _
+    answer b.2 in
+    let w = if_ok fault (length (past_alerts words) == 0) (whole a.0 b.0 c.0) answer c.2 in
+    subst (Spells words) w.1 (record {
+      values = line_values words;
+      spelling = all_spelled words (none_left (past_alerts words) w.0);
+      says = same_said (answer_values words) a.0 b.0 c.0 (answers fault words a.0 a.1).says;
+      took = some_ok fault _ b.0 b.1;
+      alerts = some_ok fault _ c.0 c.1;
+    })
+
+-- ---- and back
+
+reads : (number : ℕ) (words : List Line) (answer : Answered) → Spells words answer
+    → answer_in number words ≡ Ok answer
+unfolding answer_in
+reads number words answer h =
+    let behind = answer_taken h.values.answer _ words h.spelling (record {
+      holds = refl;
+      refuse = refl;
+      value = refl;
+      bytes = refl;
+    }) in
+    let took = taken (codes "took=") h.values.took _ (past_bytes words) behind.rest refl in
+    let alerts = taken (codes "alerts=") h.values.alerts [] (past_took words) took.rest refl in
+    let front : Answers (answer_values words) (front_of answer) = record {
+      says = same_said (answer_values words) answer false 0 (behind.says answer h.says);
+      took = refl;
+      alerts = refl;
+    } in
+    let takes : took_of (value_of (codes "took=") (past_bytes words)) ≡ Some answer.took =
+    ap took_of took.value ∙ h.took in
+    let pulls : number_of (value_of (codes "alerts=") (past_took words)) ≡ Some answer.alerts =
+    ap number_of alerts.value ∙ h.alerts in
+    let none : (length (past_alerts words) == 0) ≡ true =
+    ap (λ (ws : List Line). length ws == 0) alerts.rest in
+    rw (answered_if (bad_answer number) words (front_of answer) front, takes, pulls, none) refl
+
+line_spells : (number : ℕ) (line : Line) (answer : Answered)
+    → answer_line_of number line ≡ Ok answer → IsAnswerLine line answer
+line_spells number line answer e =
+    let s = spells number (said (words_of line)) answer e in
+    record {
+      values = s.values;
+      words = s.spelling;
+      says = s.says;
+      took = s.took;
+      alerts = s.alerts;
+    }
+
+spelled_line : (number : ℕ) (line : Line) (answer : Answered) → IsAnswerLine line answer
+    → answer_line_of number line ≡ Ok answer
+spelled_line number line answer h = reads number (said (words_of line)) answer (record {
+  values = h.values;
+  spelling = h.words;
+  says = h.says;
+  took = h.took;
+  alerts = h.alerts;
+})
+
+pub all_lines : AnswerLinesAreRead
+all_lines number line answer = (line_spells number line answer, spelled_line number line answer)
+
+-- ---- the one fault
+
+line_fails : (number : ℕ) (words : List Line) → FailsBy (bad_answer number) (answer_in number words)
+unfolding answer_in
+line_fails number words =
+    let fault = bad_answer number in
+    fails_then fault (answer_of fault words) _ (answer_fails fault words)
+    (λ answer. fails_then fault
+    (some_or fault (took_of (value_of (codes "took=") (past_bytes words)))) _ (fails_some fault _)
+    (λ took. fails_then fault (some_or fault
+    (number_of (value_of (codes "alerts=") (past_took words)))) _ (fails_some fault _)
+    (λ alerts. fails_if fault (length (past_alerts words) == 0) (whole answer took alerts))))
+
+pub other_lines : OtherLinesAreBad
+other_lines number line = line_fails number (said (words_of line))

@@ -1,0 +1,137 @@
+-- The words of an answer are read as what they spell.
+use Rattle.std.proofs.Common.{◌≡◌, ℕ, true, false, List, ◌∷◌, Option, Ok, codes, refl, ap, subst}
+use Rattle.std.proofs.Common.{◌∙◌}
+use Rattle.texts.specs.Reading.{some_or}
+use Rattle.smbus.specs.Answered.{Answered}
+use Rattle.bundles.specs.declared.fault.BundleFault.{BundleFault}
+use Rattle.bundles.specs.Bundles.{Line}
+use Rattle.bundles.specs.Fields.{value_of, rest_of, refuse_of, number_of, bytes_of}
+use Rattle.bundles.specs.Holds.{holds_of}
+use Rattle.bundles.specs.AnswerWords.{past_holds, past_refuse, past_value, past_bytes, answer_of}
+use Rattle.bundles.specs.Spelled.{Keyed, spelled, AnswerValues, keyed_answer, SaysAnswer}
+use Rattle.bundles.proofs.Keys.{is_new, spelled_by, value_spelled, rest_spelled}
+use Rattle.bundles.proofs.Readings.{bind_ok, some_ok, ok_is, FailsBy, fails_then, fails_some}
+use Rattle.bundles.proofs.Readings.{never_fails}
+
+-- the values of the words
+abbrev pub answer_values : List Line → AnswerValues
+answer_values words = record {
+  holds = value_of (codes "holds=") words;
+  refuse = value_of (codes "refuse=") (past_holds words);
+  value = value_of (codes "value=") (past_refuse words);
+  bytes = value_of (codes "bytes=") (past_value words);
+}
+
+-- ---- what is read is what the values say
+
+pub record Answers (values : AnswerValues) (a : Answered) : Type 0 where
+  pub says : SaysAnswer values a
+  pub took : a.took ≡ false
+  pub alerts : a.alerts ≡ 0
+
+pub answers : (fault : BundleFault) (words : List Line) (m : Answered)
+    → answer_of fault words ≡ Ok m
+    → Answers (answer_values words) m
+unfolding answer_of
+answers fault words m e =
+    let a = bind_ok (some_or fault (holds_of (value_of (codes "holds=") words))) _ m e in
+    let b =
+    bind_ok (some_or fault (refuse_of (value_of (codes "refuse=") (past_holds words)))) _ m a.2 in
+    let c =
+    bind_ok (some_or fault (number_of (value_of (codes "value=") (past_refuse words)))) _ m b.2 in
+    let d =
+    bind_ok (some_or fault (bytes_of (value_of (codes "bytes=") (past_value words)))) _ m c.2 in
+    let made : Answered =
+    record { holds = a.0; refuse = b.0; value = c.0; bytes = d.0; took = false; alerts = 0 } in
+    let says : SaysAnswer (answer_values words) made = record {
+      holds = some_ok fault _ a.0 a.1;
+      refuse = some_ok fault _ b.0 b.1;
+      value = some_ok fault _ c.0 c.1;
+      bytes = some_ok fault _ d.0 d.1;
+    } in
+    subst (Answers (answer_values words)) (ok_is made m d.2)
+    (record { says = says; took = refl; alerts = refl })
+
+pub answered_if : (fault : BundleFault) (words : List Line) (m : Answered)
+    → Answers (answer_values words) m → answer_of fault words ≡ Ok m
+unfolding answer_of
+answered_if fault words m a =
+    rw (a.says.holds, a.says.refuse, a.says.value, a.says.bytes, ← a.took, ← a.alerts) refl
+
+-- ---- what is spelled
+
+-- the words are their values, with what is spelled behind them
+pub answer_spelled : (words : List Line) (later : Keyed) → past_bytes words ≡ spelled later
+    → words ≡ spelled (keyed_answer (answer_values words) later)
+answer_spelled words later e =
+    spelled_by (codes "holds=") words _
+    (spelled_by (codes "refuse=") (past_holds words) _
+    (spelled_by (codes "value=") (past_refuse words) _
+    (spelled_by (codes "bytes=") (past_value words) later e)))
+
+pub record Taken (key : List ℕ) (o : Option (List ℕ)) (later : Keyed)
+    (words : List Line) : Type 0 where
+  pub value : value_of key words ≡ o
+  pub rest : rest_of key words ≡ spelled later
+
+pub taken : (key : List ℕ) (o : Option (List ℕ)) (later : Keyed) (words : List Line)
+    → words ≡ spelled ((key, o) ∷ later) → is_new key later ≡ true → Taken key o later words
+taken key o later words e apart = record {
+  value = ap (value_of key) e ∙ value_spelled key o later apart;
+  rest = ap (rest_of key) e ∙ rest_spelled key o later apart;
+}
+
+-- keys other than those of the answer
+pub record AreOthers (later : Keyed) : Type 0 where
+  pub holds : is_new (codes "holds=") later ≡ true
+  pub refuse : is_new (codes "refuse=") later ≡ true
+  pub value : is_new (codes "value=") later ≡ true
+  pub bytes : is_new (codes "bytes=") later ≡ true
+
+pub record AnswerTaken (values : AnswerValues) (later : Keyed) (words : List Line) : Type 0 where
+  pub says : (a : Answered) → SaysAnswer values a → SaysAnswer (answer_values words) a
+  pub rest : past_bytes words ≡ spelled later
+
+pub answer_taken : (values : AnswerValues) (later : Keyed) (words : List Line)
+    → words ≡ spelled (keyed_answer values later) → AreOthers later → AnswerTaken values later words
+answer_taken values later words e apart =
+    let holds = taken (codes "holds=") values.holds _ words e apart.holds in
+    let refuse =
+    taken (codes "refuse=") values.refuse _ (past_holds words) holds.rest apart.refuse in
+    let value = taken (codes "value=") values.value _ (past_refuse words) refuse.rest apart.value in
+    let bytes =
+    taken (codes "bytes=") values.bytes later (past_value words) value.rest apart.bytes in
+    record {
+      says = λ a s. record {
+        holds = ap holds_of holds.value ∙ s.holds;
+        refuse = ap refuse_of refuse.value ∙ s.refuse;
+        value = ap number_of value.value ∙ s.value;
+        bytes = ap bytes_of bytes.value ∙ s.bytes;
+      };
+      rest = bytes.rest;
+    }
+
+-- ---- the one fault
+
+abbrev the_answer : List ℕ → Option ℕ → ℕ → List ℕ → Answered
+the_answer holds refuse value bytes = record {
+  holds = holds;
+  refuse = refuse;
+  value = value;
+  bytes = bytes;
+  took = false;
+  alerts = 0;
+}
+
+pub answer_fails : (fault : BundleFault) (words : List Line) → FailsBy fault (answer_of fault words)
+unfolding answer_of
+answer_fails fault words =
+    fails_then fault (some_or fault (holds_of (value_of (codes "holds=") words))) _
+    (fails_some fault _)
+    (λ holds. fails_then fault (some_or fault
+    (refuse_of (value_of (codes "refuse=") (past_holds words)))) _ (fails_some fault _)
+    (λ refuse. fails_then fault (some_or fault
+    (number_of (value_of (codes "value=") (past_refuse words)))) _ (fails_some fault _)
+    (λ value. fails_then fault
+    (some_or fault (bytes_of (value_of (codes "bytes=") (past_value words)))) _ (fails_some fault _)
+    (λ bytes. never_fails fault (the_answer holds refuse value bytes)))))

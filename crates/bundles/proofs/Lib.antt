@@ -1,0 +1,13 @@
+pub mod Placed
+pub mod Parts
+pub mod Words
+pub mod HoldsLaw
+pub mod Keys
+pub mod Readings
+pub mod AnswerReading
+pub mod MessageLineLaw
+pub mod AnswerLineLaw
+pub mod WellFormedBundles
+pub mod ReadBundles
+pub mod NumberedSections
+pub mod SaidAnswers

@@ -1,0 +1,43 @@
+-- An answer line: the words of an answer, and then those that only a run has.
+use Rattle.std.specs.Prelude.{ℕ, List, [], ◌∷◌, ◌==◌, length, Bool, true, false, Option, Some, None}
+use Rattle.std.specs.Prelude.{Result, if◌then◌else◌, codes}
+use Rattle.std.specs.Str.{bytes_eq}
+use Rattle.texts.specs.Reading.{◌>>=◌, some_or, value_if}
+use Rattle.texts.specs.Words.{words_of}
+use Rattle.smbus.specs.Answered.{Answered}
+use Rattle.bundles.specs.declared.fault.BundleFault.{BundleFault}
+use Rattle.bundles.specs.declared.fault.BundleFault.TheVariants.{BadAnswer}
+use Rattle.bundles.specs.Bundles.{Line}
+use Rattle.bundles.specs.Fields.{value_of, rest_of, number_of}
+use Rattle.bundles.specs.AnswerWords.{answer_of, past_bytes}
+
+-- `1`, or no word
+abbrev pub took_of : Option (List ℕ) → Option Bool
+took_of None = Some false
+took_of (Some text) = if bytes_eq text (codes "1") then Some true else None
+
+abbrev pub past_took : List Line → List Line
+past_took words = rest_of (codes "took=") (past_bytes words)
+
+abbrev pub past_alerts : List Line → List Line
+past_alerts words = rest_of (codes "alerts=") (past_took words)
+
+abbrev pub bad_answer : ℕ → BundleFault
+bad_answer number = BadAnswer number
+
+-- `took=1 alerts=DIGITS` behind the words of an answer, and no more
+unfoldable pub answer_in : ℕ → List Line → Result Answered BundleFault
+answer_in number words = do
+  answer ← answer_of (bad_answer number) words
+  took ← some_or (bad_answer number) (took_of (value_of (codes "took=") (past_bytes words)))
+  alerts ← some_or (bad_answer number) (number_of (value_of (codes "alerts=") (past_took words)))
+  value_if (bad_answer number) (length (past_alerts words) == 0)
+      (record answer { took = took; alerts = alerts })
+
+-- `-` alone stands for no words
+abbrev pub said : List Line → List Line
+said (word ∷ []) = if bytes_eq word (codes "-") then [] else word ∷ []
+said words = words
+
+abbrev pub answer_line_of : ℕ → Line → Result Answered BundleFault
+answer_line_of number line = answer_in number (said (words_of line))

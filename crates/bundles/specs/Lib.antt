@@ -1,0 +1,17 @@
+pub mod Texts
+pub mod Bundles
+pub mod Faults
+pub mod Views
+pub mod Fields
+pub mod Holds
+pub mod HoldsRead
+pub mod AnswerWords
+pub mod AnswerLines
+pub mod CountedLines
+pub mod Messages
+pub mod Spelled
+pub mod MessageLines
+pub mod SpelledAnswers
+pub mod Answers
+pub mod WellFormed
+pub mod SectionLines

@@ -1,0 +1,39 @@
+-- Which lines are answers: `-`, and those whose words spell one, KEY=VALUE in the order of the
+-- keys.
+use Rattle.std.specs.Prelude.{◌≡◌, ◌↔◌, ℕ, List, [], ◌∷◌, Option, Some, Ok, Err, codes}
+use Rattle.texts.specs.Words.{words_of}
+use Rattle.smbus.specs.Answered.{Answered}
+use Rattle.bundles.specs.declared.fault.BundleFault.{BundleFault}
+use Rattle.bundles.specs.Bundles.{Line}
+use Rattle.bundles.specs.Fields.{number_of}
+use Rattle.bundles.specs.AnswerLines.{took_of, said, bad_answer, answer_line_of}
+use Rattle.bundles.specs.Spelled.{Keyed, spelled, AnswerValues, keyed_answer, SaysAnswer}
+
+-- the values that an answer line may have
+pub record AnswerLineValues : Type 0 where
+  pub answer : AnswerValues
+  pub took : Option (List ℕ)
+  pub alerts : Option (List ℕ)
+
+-- the keys in their order
+abbrev pub keyed : AnswerLineValues → Keyed
+keyed values =
+    keyed_answer values.answer
+    ((codes "took=", values.took) ∷ (codes "alerts=", values.alerts) ∷ [])
+
+-- a line that spells an answer
+pub record IsAnswerLine (line : Line) (answer : Answered) : Type 0 where
+  pub values : AnswerLineValues
+  pub words : said (words_of line) ≡ spelled (keyed values)
+  pub says : SaysAnswer values.answer answer
+  pub took : took_of values.took ≡ Some answer.took
+  pub alerts : number_of values.alerts ≡ Some answer.alerts
+
+abbrev pub AnswerLinesAreRead : Type 0
+AnswerLinesAreRead = (number : ℕ) (line : Line) (answer : Answered)
+    → (answer_line_of number line ≡ Ok answer) ↔ IsAnswerLine line answer
+
+-- every other line is a bad answer
+abbrev pub OtherLinesAreBad : Type 0
+OtherLinesAreBad = (number : ℕ) (line : Line) (fault : BundleFault)
+    → answer_line_of number line ≡ Err fault → fault ≡ bad_answer number

@@ -1,0 +1,76 @@
+ghost use Rattle.std.specs.Prelude.{◌≡◌, ◌≤◌, option_copied, codes, All, IfOk};
+ghost use Rattle.texts.specs.Reading.{Gives};
+ghost use Rattle.bundles.specs.AnswerLines.{took_of, said, answer_in, answer_line_of};
+ghost use Rattle.bundles.specs.AnswerWords.{answer_of, past_bytes};
+ghost use Rattle.bundles.specs.Fields.{value_of, rest_of};
+ghost use Rattle.bundles.specs.Texts.{texts_of};
+
+use crate::answer_words::answer_of;
+use crate::fault::BundleFault;
+use crate::field::{Fields, number_of};
+use smbus::Answer;
+use std::alloc::{AllocError, Global};
+use texts::{ReadError, words_of};
+
+/// Whether a write takes effect, where the target may leave that out.
+fn took_of(text: Option<&str>) -> Option<bool>
+    ensures { result ≡ took_of (option_copied text.entry) }
+{
+    match text {
+        None => Some(false),
+        Some("1") => Some(true),
+        Some(_) => None,
+    }
+}
+
+/// The words that count: none where `-` stands alone.
+fn said<'a>(words: &'a [&'a str]) -> &'a [&'a str]
+    ensures { texts_of result.now ≡ said (texts_of words.now) }
+{
+    match words {
+        [word] if *word == "-" => &[],
+        _ => words,
+    }
+}
+
+/// The answer of all words of a line.
+#[tactic(auto, unfolding(crate::specs::AnswerLines::answer_in))]
+fn answer_in(
+    alloc: Global,
+    line: usize,
+    words: &mut Fields<'_>,
+) -> Result<Answer, ReadError<BundleFault>>
+    ensures held { IfOk result (λ answer. All (λ hold. hold ≤ 6999) answer.holds) }
+    ensures value { Gives (λ a. a) result (answer_in line (texts_of words.old.words.now)) }
+{
+    let fault = BundleFault::BadAnswer(line);
+    let answer = answer_of(alloc, fault, words)?;
+    let Some(took) = took_of(words.take("took=")) else {
+        return Err(fault.error());
+    };
+    let Some(alerts) = number_of(words.take("alerts=")) else {
+        return Err(fault.error());
+    };
+    if !words.words.is_empty() {
+        return Err(fault.error());
+    }
+    Ok(Answer {
+        took,
+        alerts,
+        ..answer
+    })
+}
+
+/// The answer of a line.
+pub fn answer_line_of(
+    alloc: Global,
+    number: usize,
+    line: &str,
+) -> Result<Answer, ReadError<BundleFault>>
+    ensures held { IfOk result (λ answer. All (λ hold. hold ≤ 6999) answer.holds) }
+    ensures value { Gives (λ a. a) result (answer_line_of number line.now) }
+{
+    let list = words_of(alloc, line)?;
+    let mut words = Fields { words: said(&list) };
+    answer_in(alloc, number, &mut words)
+}

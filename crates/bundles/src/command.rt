@@ -1,0 +1,59 @@
+ghost use Rattle.std.specs.Prelude.{◌≡◌};
+ghost use Rattle.bundles.specs.Bundles.{header_text, headers_of, command_of};
+
+/// What a bundle asks for, by its first line.
+#[derive(Clone, Copy, Debug, PartialEq, Eq)]
+pub enum Command {
+    Frame,
+    Run,
+}
+
+/// What a section holds, by the line above it.
+#[derive(Clone, Copy, Debug, PartialEq, Eq)]
+pub enum Header {
+    Message,
+    Board,
+    Program,
+    Answers,
+}
+
+const FRAME_HEADERS: [Header; 1] = [Header::Message];
+
+const RUN_HEADERS: [Header; 3] = [Header::Board, Header::Program, Header::Answers];
+
+impl Header {
+    /// The header line.
+    pub fn text(self) -> &'static str
+        ensures { result.now ≡ header_text self }
+    {
+        match self {
+            Header::Message => "%message",
+            Header::Board => "%board",
+            Header::Program => "%program",
+            Header::Answers => "%answers",
+        }
+    }
+}
+
+impl Command {
+    /// The headers of the sections that a command wants, in order.
+    pub fn headers(self) -> &'static [Header]
+        ensures { result.now ≡ headers_of self }
+    {
+        match self {
+            Command::Frame => &FRAME_HEADERS,
+            Command::Run => &RUN_HEADERS,
+        }
+    }
+
+    /// The command of a first line.
+    pub fn of_line(line: &str) -> Option<Command>
+        ensures { result ≡ command_of line.now }
+    {
+        match line {
+            "%frame" => Some(Command::Frame),
+            "%run" => Some(Command::Run),
+            _ => None,
+        }
+    }
+}

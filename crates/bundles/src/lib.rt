@@ -1,0 +1,26 @@
+//! Reading the text of a bundle: a command and its sections, message lines and answer lines.
+#![tactic(auto)]
+
+mod answer_lines;
+mod answer_words;
+mod answers;
+mod bundle;
+mod command;
+mod counted;
+mod fault;
+mod field;
+mod law;
+mod message;
+mod section;
+
+pub use answer_lines::answer_line_of;
+pub use answers::{Answers, answers_in};
+pub use bundle::{Bundle, read_bundle};
+pub use command::{Command, Header};
+pub use fault::BundleFault;
+pub use law::{
+    answer_lines_are_read, message_lines_are_read, sections_keep_their_lines,
+    well_formed_bundles_are_read,
+};
+pub use message::{Exchange, exchange_in};
+pub use section::Section;

@@ -1,8 +1,0 @@
-use Rattle.pmseq.proofs.MessageLineLaw.{all_lines, other_lines}
-use Rattle.pmseq.proofs.law.message_lines_are_read.Goals as goal
-
-pub returns-clause-read : goal.returns-clause-read
-returns-clause-read c = all_lines
-
-pub returns-clause-others : goal.returns-clause-others
-returns-clause-others c = other_lines

@@ -1,8 +1,0 @@
-use Rattle.pmseq.proofs.NumberedSections.{sections_stand, last_ends}
-use Rattle.pmseq.proofs.law.sections_keep_their_lines.Goals as goal
-
-pub returns-clause-stand : goal.returns-clause-stand
-returns-clause-stand c = sections_stand
-
-pub returns-clause-last : goal.returns-clause-last
-returns-clause-last c = last_ends

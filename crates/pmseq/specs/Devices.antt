@@ -1,9 +1,0 @@
--- Which device failed, from why a reader wasn't read to its end.
-use Rattle.pmseq.specs.declared.intake.ReadFault.{ReadFault}
-use Rattle.pmseq.specs.declared.intake.ReadFault.TheVariants as reading
-use Rattle.pmseq.specs.declared.session.DeviceFault.{DeviceFault}
-use Rattle.pmseq.specs.declared.session.DeviceFault.TheVariants as devices
-
-abbrev pub device_of : ReadFault → DeviceFault
-device_of reading.Memory = devices.Memory
-device_of reading.Reader = devices.Reader

@@ -1,0 +1,51 @@
+-- What a bundle asks for, and the reply to it.
+use Rattle.std.specs.Prelude.{ℕ, ◌≤◌, List, [], Result, Ok, All, slice_index_or}
+use Rattle.std.specs.Str.Lines.{lines}
+use Rattle.texts.specs.Reading.{◌>>=◌}
+use Rattle.bundles.specs.declared.command.Command.{Command}
+use Rattle.bundles.specs.declared.command.Command.TheVariants as commands
+use Rattle.session.specs.declared.commands.Task.{Task}
+use Rattle.session.specs.declared.commands.Task.TheVariants as tasks
+use Rattle.session.specs.declared.fault.InputFault.{InputFault}
+use Rattle.session.specs.declared.fault.InputFault.TheVariants as faults
+use Rattle.session.specs.Faults.{faulted}
+use Rattle.bundles.specs.Bundles.{Line, Section, Bundle, bundle_of}
+use Rattle.bundles.specs.Messages.{exchange_in}
+use Rattle.session.specs.Replies.{Reply}
+use Rattle.session.specs.FrameReplies.{IsFrameReply}
+use Rattle.session.specs.RunReplies.{IsRunReply}
+use Rattle.session.specs.Scenarios.{scenario_in, IsOnItsBoard}
+
+abbrev pub section_at : List Section → ℕ → Section
+section_at sections place = slice_index_or sections place (record { first_line = 0; lines = [] })
+
+-- what each command asks for, from its sections in order
+abbrev pub asked_by : Command → List Section → Result Task InputFault
+asked_by commands.Frame sections =
+    faulted faults.Bundle (exchange_in (section_at sections 0)) >>= λ exchange.
+    Ok (tasks.Frame exchange)
+asked_by commands.Run sections =
+    scenario_in (section_at sections 0) (section_at sections 1) (section_at sections 2)
+    >>= λ scenario.
+    Ok (tasks.Run scenario)
+
+abbrev pub task_of : Bundle → Result Task InputFault
+task_of bundle = asked_by bundle.command bundle.sections
+
+-- what the lines of a bundle ask for
+abbrev pub task_in_lines : List Line → Result Task InputFault
+task_in_lines lines = faulted faults.Bundle (bundle_of lines) >>= λ bundle. task_of bundle
+
+-- what the text of a bundle asks for
+abbrev pub task_in : List ℕ → Result Task InputFault
+task_in text = task_in_lines (lines text)
+
+-- the holds of a message can be driven, and a program is on its board
+abbrev pub IsReady : Task → Type 0
+IsReady (tasks.Frame exchange) = All (λ hold. hold ≤ 6999) exchange.answer.holds
+IsReady (tasks.Run scenario) = IsOnItsBoard scenario
+
+-- the reply to each task
+abbrev pub IsReplyOf : Task → Reply → Type 0
+IsReplyOf (tasks.Frame exchange) reply = IsFrameReply exchange.message exchange.answer reply
+IsReplyOf (tasks.Run scenario) reply = IsRunReply scenario reply

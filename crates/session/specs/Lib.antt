@@ -1,0 +1,11 @@
+pub mod Intake
+pub mod Faults
+pub mod Outcomes
+pub mod Replies
+pub mod FrameReplies
+pub mod SectionTexts
+pub mod Scenarios
+pub mod RunReplies
+pub mod Commands
+pub mod Sessions
+pub mod Devices

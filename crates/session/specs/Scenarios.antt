@@ -1,0 +1,57 @@
+-- What a run is asked with, and what it is: a program on its board, how the targets start, and what
+-- they answer.
+use Rattle.std.specs.Prelude.{ℕ, List, length, Result, Ok, All}
+use Rattle.texts.specs.Reading.{◌>>=◌}
+use Rattle.board.specs.Boards.{Board}
+use Rattle.board.specs.Files.{read_of}
+use Rattle.targets.specs.States.{BusState, IsStart}
+use Rattle.seq_program.specs.declared.instr.Instr.{Instr}
+use Rattle.seq_program.specs.Programs.{program_of}
+use Rattle.seq_program.specs.Valid.{IsOnBoard}
+use Rattle.simulator.specs.declared.fault.RunFault.{RunFault}
+use Rattle.simulator.specs.declared.fault.RunFault.TheVariants.{BadStart}
+use Rattle.simulator.specs.Faults.{FailsAt}
+use Rattle.simulator.specs.Machines.{start_at, start_state}
+use Rattle.simulator.specs.Steps.{IsRun}
+use Rattle.simulator.specs.Traces.{Trace, IsTrace}
+use Rattle.session.specs.declared.fault.InputFault.{InputFault}
+use Rattle.session.specs.declared.fault.InputFault.TheVariants as faults
+use Rattle.session.specs.declared.scenario.Scenario.{Scenario}
+use Rattle.session.specs.Faults.{faulted}
+use Rattle.bundles.specs.Answers.{answers_in}
+use Rattle.bundles.specs.Bundles.{Section}
+use Rattle.session.specs.SectionTexts.{section_text}
+
+abbrev pub board_in : Section → Result Board InputFault
+board_in section = faulted faults.Board (read_of (section_text section))
+
+abbrev pub program_in : Board → Section → Result (List (Instr ℕ)) InputFault
+program_in board section = faulted faults.Program (program_of board (section_text section))
+
+-- the sections in order
+unfoldable pub scenario_in : Section → Section → Section → Result Scenario InputFault
+scenario_in on program answered = do
+  board ← board_in on
+  instrs ← program_in board program
+  answers ← faulted faults.Bundle (answers_in answered)
+  Ok (record { board = board; program = instrs; answers = answers })
+
+-- what the program's targets are is the board's
+abbrev pub IsOnItsBoard : Scenario → Type 0
+IsOnItsBoard s = All (λ i. IsOnBoard (length s.board.targets) i) s.program
+
+abbrev pub start_of : Scenario → BusState
+start_of s = start_state s.answers.pages s.answers.protects
+
+-- the run from the start, with a step for each answer
+pub record IsRunOf (s : Scenario) (t : Trace) : Type 0 where
+  pub may_start : IsStart s.board (start_of s)
+  pub run : IsRun s.board s.program (start_at (start_of s)) s.answers.answers t.entries t.last
+  pub trace : IsTrace t
+
+-- why there is none: the targets can't start so, or the first answer without a step
+abbrev pub IsFaultOf : Scenario → RunFault → Type 0
+IsFaultOf s BadStart = IsStart s.board (start_of s) → ⊥
+IsFaultOf s fault =
+    IsStart s.board (start_of s)
+    × FailsAt s.board s.program (start_at (start_of s)) s.answers.answers fault

@@ -1,0 +1,154 @@
+ghost use Rattle.std.specs.Prelude.{◌≡◌, ◌≢◌, ◌⊎◌, List, ℕ, IfOk, IfErr, IfSome, option_copied};
+ghost use Rattle.std.specs.Str.{is_utf8};
+ghost use Rattle.texts.specs.Reading.{Gives};
+ghost use Rattle.bundles.specs.Texts.{texts_of};
+ghost use Rattle.session.specs.Commands.{task_in_lines};
+ghost use Rattle.session.specs.Replies.{reply_view};
+ghost use Rattle.session.specs.Sessions.{text_if, kept_text, kept_task, IsReplyAfter, IsReplyTo};
+ghost use Rattle.session.specs.Sessions.{IsAnswered, IsBegun};
+ghost use Rattle.session.specs.Devices.{device_of};
+ghost use Rattle.session.specs.declared.answering.DeviceFault.TheVariants.{Memory, Writer};
+
+use crate::commands::{read_task, reply_of};
+use crate::fault::of_bundle;
+use crate::intake::{Input, ReadFault, read_input};
+use crate::reply::{Reply, Status, refused};
+use bundles::BundleFault;
+use std::alloc::{AllocError, Global};
+use std::io::{Read, Write};
+use texts::{CutShort, ReadError, lines_of, send};
+
+/// Why an input got no whole reply.
+#[derive(Clone, Copy, Debug, PartialEq, Eq)]
+pub enum DeviceFault {
+    Memory,
+    Reader,
+    Writer,
+}
+
+impl From<AllocError> for DeviceFault {
+    ghost from_gives = { λ _ e. e ≡ Memory };
+
+    fn from(_e: AllocError) -> DeviceFault {
+        DeviceFault::Memory
+    }
+}
+
+impl From<ReadFault> for DeviceFault {
+    ghost from_gives = { λ fault e. e ≡ device_of fault };
+
+    fn from(fault: ReadFault) -> DeviceFault {
+        match fault {
+            ReadFault::Memory => DeviceFault::Memory,
+            ReadFault::Reader => DeviceFault::Reader,
+        }
+    }
+}
+
+/// The bytes as a text, if they are UTF-8.
+fn utf8_of(bytes: &[u8]) -> Option<&str>
+    ensures { option_copied result ≡ text_if (is_utf8 bytes.now) bytes.now }
+{
+    match str::from_utf8(bytes) {
+        Ok(text) => Some(text),
+        Err(_) => None,
+    }
+}
+
+/// The text of a bundle.
+#[tactic(auto, unfolding(crate::specs::Sessions::kept_text))]
+fn text_of(input: &Input) -> Result<&str, ReadError<BundleFault>>
+    ensures { Gives (λ text. text.now) result
+        (kept_text input.now.bytes.items input.now.too_large) }
+{
+    if input.too_large {
+        return Err(BundleFault::TooLarge.error());
+    }
+    if input.bytes.is_empty() {
+        return Err(BundleFault::NoCommand.error());
+    }
+    match utf8_of(&input.bytes) {
+        Some(text) => Ok(text),
+        None => Err(BundleFault::NotText.error()),
+    }
+}
+
+/// The reply to the lines of a bundle.
+fn reply_to(alloc: Global, lines: &[&str]) -> Result<Reply, AllocError>
+    ensures whole { IfOk result (λ reply. reply.status ≢ Status.DeviceFault) }
+    ensures replies { IfOk result (λ reply.
+        IsReplyAfter (task_in_lines (texts_of lines.now)) (reply_view reply)) }
+{
+    match read_task(alloc, lines) {
+        Ok(task) => reply_of(alloc, &task),
+        Err(ReadError::Memory) => Err(AllocError),
+        Err(ReadError::Fault(fault)) => refused(alloc, fault),
+    }
+}
+
+/// The reply to an input.
+fn make_reply(alloc: Global, input: &Input) -> Result<Reply, AllocError>
+    ensures whole { IfOk result (λ reply. reply.status ≢ Status.DeviceFault) }
+    ensures replies { IfOk result (λ reply.
+        IsReplyAfter (kept_task input.now.bytes.items input.now.too_large) (reply_view reply)) }
+{
+    match text_of(input).map_err(of_bundle) {
+        Ok(text) => {
+            let lines = lines_of(alloc, text)?;
+            reply_to(alloc, &lines)
+        }
+        Err(ReadError::Memory) => Err(AllocError),
+        Err(ReadError::Fault(fault)) => refused(alloc, fault),
+    }
+}
+
+/// Reads a whole input and makes the reply, and writes nothing.
+fn received<R: Read>(alloc: Global, reader: &mut R) -> Result<Reply, DeviceFault>
+    ensures replies { IfOk result
+        (λ reply. IfSome (R.remaining reader.old) (λ input. IsReplyTo input (reply_view reply))) }
+    ensures whole { IfOk result (λ reply. reply.status ≢ Status.DeviceFault) }
+    ensures err { IfErr result (λ fault. fault ≢ Writer) }
+{
+    let input = read_input(alloc, reader)?;
+    let reply = make_reply(alloc, &input)?;
+    Ok(reply)
+}
+
+/// Answers an input, and says which device failed.
+pub fn answer<R: Read, W: Write>(
+    alloc: Global,
+    reader: &mut R,
+    writer: &mut W,
+) -> Result<Status, DeviceFault>
+    ensures answered { IfOk result (λ status. IfSome (R.remaining reader.old) (λ input.
+        IsAnswered input (W.contents writer.old) (W.contents writer.new) status)) }
+    ensures whole { IfOk result (λ status. status ≢ Status.DeviceFault) }
+    ensures begun { IfErr result
+        (λ fault. fault ≡ Writer → IfSome (R.remaining reader.old) (λ input.
+        IsBegun input (W.contents writer.old) (W.contents writer.new))) }
+
+    // Where memory or the reader failed, nothing was written.
+    ensures silent { IfErr result (λ fault. fault ≢ Writer → writer.new ≡ writer.old) }
+{
+    let reply = received(alloc, reader)?;
+    match send(writer, &reply.text) {
+        Ok(()) => Ok(reply.status),
+        Err(CutShort) => Err(DeviceFault::Writer),
+    }
+}
+
+/// Answers an input: the whole reply to it is written, or a device failed.
+pub fn session<R: Read, W: Write>(alloc: Global, reader: &mut R, writer: &mut W) -> Status
+    ensures answered { result ≢ Status.DeviceFault → IfSome (R.remaining reader.old) (λ input.
+        IsAnswered input (W.contents writer.old) (W.contents writer.new) result) }
+
+    // A device failed: nothing was written, or a beginning of the reply.
+    ensures failed { result ≡ Status.DeviceFault
+        → (writer.new ≡ writer.old) ⊎ IfSome (R.remaining reader.old) (λ input.
+        IsBegun input (W.contents writer.old) (W.contents writer.new)) }
+{
+    match answer(alloc, reader, writer) {
+        Ok(status) => status,
+        Err(_) => Status::DeviceFault,
+    }
+}

@@ -1,0 +1,94 @@
+ghost use Rattle.std.specs.Prelude.{◌≡◌, ◌≢◌, ◌≤◌, ◌∷◌, [], true, All, IfOk, string_bytes};
+ghost use Rattle.wires.specs.Events.{events_of};
+ghost use Rattle.bit_bus.specs.Levels.{idle};
+ghost use Rattle.smbus.specs.Shown.{Shown};
+ghost use Rattle.smbus.specs.Slots.{slots_of};
+ghost use Rattle.smbus.specs.OneFrame.{IsOnlyFrame, CanBeSent};
+ghost use Rattle.session.specs.Replies.{reply_view};
+ghost use Rattle.session.specs.FrameReplies.{IsFrameText, IsFrameReply};
+
+use crate::fault::InputFault;
+use crate::outcome::outcome_line;
+use crate::reply::{Reply, Status, refused};
+use bit_bus::{Plan, Slot, drive};
+use smbus::{
+    Answer, Frame, Message, ObserveFault, SmbusFault, frame_slots, frame_text, observe,
+    slots_are_one_frame,
+};
+use std::alloc::{AllocError, Global};
+use wires::{Event, Sample, events};
+
+/// The lines of a free bus.
+const IDLE: Sample = Sample {
+    scl: true,
+    sda: true,
+    alert: true,
+};
+
+/// The events of these samples behind an idle one.
+fn events_behind_idle(alloc: Global, samples: &[Sample]) -> Result<Vec<Event>, AllocError>
+    ensures { IfOk result (λ events. events.items ≡ events_of (idle true ∷ samples.now)) }
+{
+    let mut seen = Vec::new(alloc);
+    seen.push(IDLE)?;
+    seen.extend_from_slice(samples)?;
+    events(alloc, &seen)
+}
+
+/// The one frame of these events.
+fn only_frame(alloc: Global, events: &[Event]) -> Result<Frame, AllocError>
+    requires { (frame : Shown) × IsOnlyFrame events.now frame }
+    ensures { IfOk result (IsOnlyFrame events.now) }
+{
+    match observe(alloc, events) {
+        Ok(mut frames) => match frames.pop() {
+            Some(frame) => Ok(frame),
+            None => unreachable!(),
+        },
+        Err(ObserveFault::Memory) => Err(AllocError),
+        Err(ObserveFault::NotFrames(_)) => unreachable!(),
+    }
+}
+
+/// The lines of a message that can be sent.
+fn shown(
+    alloc: Global,
+    slots: Vec<Slot>,
+    message: &Message,
+    answer: &Answer,
+) -> Result<String, AllocError>
+    requires slots { slots.items ≡ slots_of message.now answer.now }
+    requires sendable { CanBeSent message.now answer.now }
+    ensures { IfOk result (λ text. IsFrameText message.now answer.now (string_bytes text)) }
+{
+    slots_are_one_frame();
+    let Some(plan) = Plan::new(slots, answer.holds.clone()?) else {
+        unreachable!()
+    };
+    let driven = drive(alloc, &plan, true)?;
+    let events = events_behind_idle(alloc, &driven.samples)?;
+    let frame = only_frame(alloc, &events)?;
+    let frame = frame_text(alloc, &frame)?;
+    let count = driven.samples.len();
+    let outcome = outcome_line(alloc, message, answer, driven.cut)?;
+    format!(in alloc; "{frame}\nsamples {count}\n{outcome}\n")
+}
+
+/// The reply to a message and its answer: what is seen on the wire.
+pub fn frame_reply(alloc: Global, message: &Message, answer: &Answer) -> Result<Reply, AllocError>
+    requires { All (λ hold. hold ≤ 6999) answer.now.holds }
+    ensures whole { IfOk result (λ reply. reply.status ≢ Status.DeviceFault) }
+    ensures replies { IfOk result
+        (λ reply. IsFrameReply message.now answer.now (reply_view reply)) }
+{
+    let slots = match frame_slots(alloc, message, answer) {
+        Ok(slots) => slots,
+        Err(SmbusFault::Memory) => return Err(AllocError),
+        Err(fault) => return refused(alloc, InputFault::Frame(fault)),
+    };
+    let text = shown(alloc, slots, message, answer)?;
+    Ok(Reply {
+        status: Status::Accepted,
+        text: text.into_bytes(),
+    })
+}

@@ -1,0 +1,90 @@
+ghost use Rattle.std.specs.Prelude.{◌≡◌, ◌++◌, List, ℕ, IfOk, OnOk, IfSome, vec_len, ◌<◌, length};
+ghost use Rattle.std.specs.Io.KnownBytes.{IsAtEnd};
+ghost use Rattle.session.specs.declared.intake.ReadFault.TheVariants.{Memory};
+ghost use Rattle.session.specs.Intake.{IsFrontOf};
+
+use std::alloc::{AllocError, Global};
+use std::io::Read;
+
+/// The most bytes that are kept.
+const KEPT_LIMIT: usize = 16_777_216;
+
+/// The most calls of `read`.
+const READ_CALLS: u32 = 1_048_576;
+
+/// The most bytes of one call.
+const PIECE_SIZE: usize = 65_536;
+
+/// Why a reader wasn't read to its end.
+#[derive(Clone, Copy, Debug, PartialEq, Eq)]
+pub enum ReadFault {
+    Memory,
+    Reader,
+}
+
+impl From<AllocError> for ReadFault {
+    ghost from_gives = { λ _ e. e ≡ Memory };
+
+    fn from(_e: AllocError) -> ReadFault {
+        ReadFault::Memory
+    }
+}
+
+/// What is kept of a reader's bytes.
+#[derive(Debug, Drop)]
+pub struct Input {
+    pub bytes: Vec<u8>,
+    pub too_large: bool,
+}
+
+/// Takes one more piece of the bytes. Of those past the limit only the fact is kept.
+fn keep(input: &mut Input, piece: &[u8]) -> Result<(), AllocError>
+    ensures { OnOk result ((all : List ℕ) → IsFrontOf input.old.bytes.items input.old.too_large all
+        → IsFrontOf input.new.bytes.items input.new.too_large (all ++ piece.now)) }
+{
+    let room = KEPT_LIMIT.saturating_sub(input.bytes.len());
+    let count = piece.len().min(room);
+    input.bytes.extend_from_slice(&piece[..count])?;
+    if count < piece.len() {
+        input.too_large = true;
+    }
+    Ok(())
+}
+
+/// Reads to the end of a reader, with room for the bytes of one call.
+fn gather<R: Read>(alloc: Global, reader: &mut R, buffer: &mut [u8]) -> Result<Input, ReadFault>
+    requires { 0 < length buffer.old }
+    ensures kept { IfOk result (λ input. IfSome (R.remaining reader.old)
+        (IsFrontOf input.bytes.items input.too_large)) }
+    ensures ended { OnOk result (IsAtEnd (R.remaining reader.new)) }
+{
+    let mut input = Input {
+        bytes: Vec::new(alloc),
+        too_large: false,
+    };
+    for _ in 0..READ_CALLS {
+        match reader.read(buffer) {
+            Ok(0) => return Ok(input),
+            Ok(count) => keep(&mut input, &buffer[..count])?,
+            Err(_) => return Err(ReadFault::Reader),
+        }
+    }
+    Err(ReadFault::Reader)
+}
+
+/// A buffer for one call.
+fn empty_buffer(alloc: Global) -> Result<Vec<u8>, AllocError>
+    ensures { IfOk result (λ buffer. vec_len buffer ≡ PIECE_SIZE) }
+{
+    vec![in alloc; 0u8; PIECE_SIZE]
+}
+
+/// Reads to the end of a reader.
+pub fn read_input<R: Read>(alloc: Global, reader: &mut R) -> Result<Input, ReadFault>
+    ensures kept { IfOk result (λ input. IfSome (R.remaining reader.old)
+        (IsFrontOf input.bytes.items input.too_large)) }
+    ensures ended { OnOk result (IsAtEnd (R.remaining reader.new)) }
+{
+    let mut buffer = empty_buffer(alloc)?;
+    gather(alloc, reader, &mut buffer)
+}

@@ -1,0 +1,16 @@
+//! Answers an input: reads its bundle, does what it asks for, and writes the whole reply.
+#![tactic(auto)]
+
+mod answering;
+mod commands;
+mod fault;
+mod frame;
+mod intake;
+mod outcome;
+mod reply;
+mod scenario;
+mod tracing;
+
+pub use answering::{DeviceFault, answer, session};
+pub use outcome::outcome_line;
+pub use reply::Status;

@@ -1,0 +1,53 @@
+ghost use Rattle.std.specs.Prelude.{◌≢◌, IfOk, IfErr, string_bytes};
+ghost use Rattle.simulator.specs.declared.fault.RunFault.TheVariants.{Memory};
+ghost use Rattle.session.specs.Replies.{reply_view};
+ghost use Rattle.session.specs.RunReplies.{IsRunText, IsRunReply};
+ghost use Rattle.session.specs.Scenarios.{IsOnItsBoard, IsFaultOf};
+
+use crate::fault::InputFault;
+use crate::reply::{Reply, Status, refused};
+use crate::scenario::Scenario;
+use simulator::{RunFault, last_line, line_of, start, step_at};
+use std::alloc::{AllocError, Global};
+
+/// The text of the run of a scenario. An answer is read, done and told before the next is read, and
+/// of what it did only the line is kept.
+fn run_text(alloc: Global, scenario: &Scenario<'_>) -> Result<String, RunFault>
+    requires { IsOnItsBoard scenario.now }
+    ensures text { IfOk result (λ text. IsRunText scenario.now (string_bytes text)) }
+    ensures fault { IfErr result (λ e. e ≢ Memory → IsFaultOf scenario.now e) }
+{
+    let (board, program) = (&scenario.board, &scenario.program);
+    let _places = program.places();
+    let answers = &scenario.answers;
+    let mut machine = start(alloc, board, &answers.pages, &answers.protects)?;
+    let mut text = String::new(alloc);
+    let mut ticks = 0;
+    for index in 0..answers.count() {
+        let answer = answers.read(alloc, index)?;
+        let (next, entry) = step_at(alloc, board, program, &machine, &answer, index, ticks)?;
+        let line = line_of(alloc, &entry)?;
+        text.push_str(&line)?;
+        ticks += entry.ticks;
+        machine = next;
+    }
+    let last = last_line(alloc, machine.ended, ticks)?;
+    text.push_str(&last)?;
+    Ok(text)
+}
+
+/// The reply to a scenario: the text of its run, which is whole before anything is sent.
+pub fn run_reply(alloc: Global, scenario: &Scenario<'_>) -> Result<Reply, AllocError>
+    requires { IsOnItsBoard scenario.now }
+    ensures whole { IfOk result (λ reply. reply.status ≢ Status.DeviceFault) }
+    ensures replies { IfOk result (λ reply. IsRunReply scenario.now (reply_view reply)) }
+{
+    match run_text(alloc, scenario) {
+        Ok(text) => Ok(Reply {
+            status: Status::Accepted,
+            text: text.into_bytes(),
+        }),
+        Err(RunFault::Memory) => Err(AllocError),
+        Err(fault) => refused(alloc, InputFault::Run(fault)),
+    }
+}

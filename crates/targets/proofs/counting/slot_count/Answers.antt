@@ -1,6 +1,0 @@
-use Rattle.std.proofs.Common.{rules}
-use Rattle.targets.proofs.SlotCounts.{slots_counted}
-use Rattle.targets.proofs.counting.slot_count.Goals as goal
-
-pub returns : goal.returns
-returns c = rw (slots_counted c.args.message.now c.args.answer.now) (search rules)

@@ -1,0 +1,197 @@
+//! Answer lines, and the sections of a bundle.
+
+use bundles::{Answers, BundleFault, answer_line_of, answers_in, read_bundle};
+use std::alloc::Global;
+use std::test::*;
+use texts::{ReadError, lines_of};
+
+/// What a line answers, but for the slots that it holds.
+type Answered = (Option<u16>, u16, &'static [u8], bool, u16);
+
+const LINES: [(&str, &[u16], Answered); 16] = [
+    ("-", &[], (None, 0, &[], false, 0)),
+    ("holds=0:0", &[0], (None, 0, &[], false, 0)),
+    (
+        "holds=1:2,3:6999",
+        &[0, 2, 0, 6999],
+        (None, 0, &[], false, 0),
+    ),
+    ("refuse=0", &[], (Some(0), 0, &[], false, 0)),
+    ("refuse=65535", &[], (Some(65_535), 0, &[], false, 0)),
+    ("value=5", &[], (None, 0x5, &[], false, 0)),
+    ("value=5A", &[], (None, 0x5A, &[], false, 0)),
+    ("value=0840", &[], (None, 0x0840, &[], false, 0)),
+    ("bytes=B0", &[], (None, 0, &[0xB0], false, 0)),
+    (
+        "bytes=00FF21",
+        &[],
+        (None, 0, &[0x00, 0xFF, 0x21], false, 0),
+    ),
+    ("took=1", &[], (None, 0, &[], true, 0)),
+    ("alerts=3", &[], (None, 0, &[], false, 3)),
+    ("alerts=FFFF", &[], (None, 0, &[], false, 0xFFFF)),
+    ("refuse=1  took=1", &[], (Some(1), 0, &[], true, 0)),
+    ("value=1   alerts=01", &[], (None, 1, &[], false, 1)),
+    (
+        "holds=2:5 refuse=7 value=1A bytes=9F took=1 alerts=C",
+        &[0, 0, 5],
+        (Some(7), 0x1A, &[0x9F], true, 0xC),
+    ),
+];
+
+#[test]
+fn answer_lines(rt: HostRuntime) -> Result<(), Fail> {
+    for (line, holds, (refuse, value, bytes, took, alerts)) in LINES {
+        let answer = answer_line_of(rt.alloc(), 7, line)?;
+        assert_eq!(rt; answer.holds.as_slice(), holds, "{line}");
+        assert_eq!(rt; answer.refuse, refuse, "{line}");
+        assert_eq!(rt; answer.value, value, "{line}");
+        assert_eq!(rt; answer.bytes.as_slice(), bytes, "{line}");
+        assert_eq!(rt; answer.took, took, "{line}");
+        assert_eq!(rt; answer.alerts, alerts, "{line}");
+    }
+    Ok(())
+}
+
+#[test]
+fn the_last_slot(rt: HostRuntime) -> Result<(), Fail> {
+    let answer = answer_line_of(rt.alloc(), 7, "holds=4095:1")?;
+    assert_eq!(rt; answer.holds.len(), 4096);
+    assert_eq!(rt; answer.holds.last(), Some(&1));
+    Ok(())
+}
+
+const BAD_LINES: [&str; 41] = [
+    "refuse=1 holds=0:1",
+    "value=1 refuse=1",
+    "bytes=01 value=1",
+    "took=1 bytes=01",
+    "alerts=1 took=1",
+    "refuse=1 refuse=1",
+    "took=1 took=1",
+    "alerts=1 alerts=1",
+    "value=4G",
+    "value=4g",
+    "value=",
+    "value=00001",
+    "alerts=",
+    "alerts=12345",
+    "holds=",
+    "holds=3:2,1:1",
+    "holds=1:1,1:2",
+    "holds=4096:1",
+    "holds=0:7000",
+    "holds=01:1",
+    "holds=1:01",
+    "holds=0",
+    "holds=0:1,",
+    "refuse=",
+    "refuse=01",
+    "refuse=65536",
+    "refuse=+1",
+    "bytes=",
+    "bytes=0",
+    "bytes=0g",
+    "took=0",
+    "took=",
+    "took=11",
+    "- refuse=1",
+    "refuse=1 -",
+    "- -",
+    "--",
+    "refuse",
+    "Refuse=1",
+    "refuse=1\ttook=1",
+    "form=send",
+];
+
+#[test]
+fn bad_answer_lines(rt: HostRuntime) {
+    for line in BAD_LINES {
+        let fault = answer_line_of(rt.alloc(), 7, line).err();
+        assert_eq!(rt; fault, Some(BundleFault::BadAnswer(7).error()), "{line}");
+    }
+}
+
+/// The answers of the lines of a bundle for a run.
+fn answers_of<'a>(
+    alloc: Global,
+    lines: &'a [&'a str],
+) -> Result<Answers<'a>, ReadError<BundleFault>> {
+    let bundle = read_bundle(alloc, lines)?;
+    match bundle.sections.last() {
+        Some(section) => answers_in(alloc, section),
+        None => Err(BundleFault::NoCommand.error()),
+    }
+}
+
+#[test]
+fn sections(rt: HostRuntime) -> Result<(), Fail> {
+    let text = "%run\r\n \n%board\n[x]\n%program\nend\n%answers
+# start FF FF
+
+start 00,FF 00,80
+-\n  \n#-\ntook=1\nvalue=2";
+    let lines = lines_of(rt.alloc(), text)?;
+    let run = answers_of(rt.alloc(), &lines)?;
+    assert_eq!(rt; run.pages.as_slice(), [0x00, 0xFF].as_slice());
+    assert_eq!(rt; run.protects.as_slice(), [0x00, 0x80].as_slice());
+    let mut said = Vec::new(rt.alloc());
+    for index in 0..run.count() {
+        let answer = run.read(rt.alloc(), index)?;
+        said.push((answer.took, answer.value))?;
+    }
+    assert_eq!(rt;
+        said.as_slice(),
+        [(false, 0), (true, 0), (false, 2)].as_slice()
+    );
+    Ok(())
+}
+
+/// No answers, and other numbers of values than targets.
+#[test]
+fn starts(rt: HostRuntime) -> Result<(), Fail> {
+    let text = "%run\n%board\n%program\n%answers\nstart  00,00,00 00 ";
+    let lines = lines_of(rt.alloc(), text)?;
+    let run = answers_of(rt.alloc(), &lines)?;
+    assert_eq!(rt; run.pages.as_slice(), [0, 0, 0].as_slice());
+    assert_eq!(rt; run.protects.as_slice(), [0].as_slice());
+    assert_eq!(rt; run.count(), 0);
+    Ok(())
+}
+
+/// What stands below `%answers` on the fourth line, and the line of its fault.
+const BAD_SECTIONS: [(&str, usize); 17] = [
+    ("", 5),
+    ("\n\n# start 00 00\n", 7),
+    ("\n-\n", 5),
+    ("\n\n#\n-\nstart 00 00", 7),
+    ("\nstart", 5),
+    ("\nstart 00", 5),
+    ("\nstart 00 00 00", 5),
+    ("\nstart 0,00 00", 5),
+    ("\nstart 00, 00", 5),
+    ("\nstart 00 ,00", 5),
+    ("\nstart 0a 00", 5),
+    ("\nstart 00;00 00", 5),
+    ("\nSTART 00 00", 5),
+    ("\nstart 00,00 00,00\nrefuse=01\n", 6),
+    ("\nstart 00,00 00,00\n-\n\n-\nstart 00,00 00,00\n", 9),
+    ("\nstart 00,00 00,00\n #\n", 6),
+    ("\nstart 0G 00\nvalue=4G\n", 5),
+];
+
+#[test]
+fn bad_sections(rt: HostRuntime) -> Result<(), Fail> {
+    for (below, line) in BAD_SECTIONS {
+        let text = format!(in rt.alloc(); "%run\n%board\n%program\n%answers{below}")?;
+        let lines = lines_of(rt.alloc(), &text)?;
+        let fault = answers_of(rt.alloc(), &lines).err();
+        assert_eq!(rt;
+            fault,
+            Some(BundleFault::BadAnswer(line).error()),
+            "{below}"
+        );
+    }
+    Ok(())
+}

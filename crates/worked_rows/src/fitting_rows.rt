@@ -1,0 +1,194 @@
+use crate::boards::range_board;
+use crate::targets_rows::{Asked, answer_of, message_of, state_of};
+use board::{Board, BoardFault};
+use smbus::Form;
+use std::alloc::Global;
+use std::process::Abort;
+use std::test::Fail;
+use targets::fits;
+
+/// The holds, the refused byte, the value, the block, whether a write takes effect, and who begins
+/// to alert.
+type Silent = (&'static [u16], Option<u16>, u16, &'static [u8], bool, u16);
+
+fn silence_fits(alloc: Global, board: &Board, silent: Silent) -> Result<bool, BoardFault> {
+    let (holds, refuse, value, bytes, took, alerts) = silent;
+    let state = state_of(alloc, &[1, 0], &[0, 0], 0)?;
+    let mut answer = answer_of(alloc, refuse, value);
+    answer.holds.extend_from_slice(holds)?;
+    answer.bytes.extend_from_slice(bytes)?;
+    answer.took = took;
+    answer.alerts = alerts;
+    Ok(fits(board, &state, None, &answer))
+}
+
+/// What is answered to a step that sends nothing, and whether it may be. Target a may alert.
+const SILENCES: [(Silent, bool); 9] = [
+    ((&[], None, 0, &[], false, 0), true),
+    ((&[], None, 0, &[], false, 1), true),
+    ((&[1], None, 0, &[], false, 0), false),
+    ((&[], Some(0), 0, &[], false, 0), false),
+    ((&[], None, 1, &[], false, 0), false),
+    ((&[], None, 0, &[0], false, 0), false),
+    ((&[], None, 0, &[], true, 0), false),
+    ((&[], None, 0, &[], false, 2), false),
+    ((&[], None, 0, &[], false, 4), false),
+];
+
+fn compare_silences(rt: &impl Abort, alloc: Global, board: &Board) {
+    for (silent, want) in SILENCES {
+        let is_fitting = silence_fits(alloc, board, silent);
+        assert_eq!(rt; is_fitting, Ok(want), "{silent:?}");
+    }
+}
+
+#[test]
+fn targets_alert_where_nothing_is_sent(rt: HostRuntime) -> Result<(), Fail> {
+    let board = range_board(rt.alloc())?;
+    compare_silences(&rt, rt.alloc(), &board);
+    Ok(())
+}
+
+fn may_return(
+    alloc: Global,
+    board: &Board,
+    asked: Asked,
+    value: u16,
+    bytes: &[u8],
+) -> Result<bool, BoardFault> {
+    let state = state_of(alloc, &[1, 0], &[0x20, 0x40], 0)?;
+    let message = message_of(alloc, asked)?;
+    let mut answer = answer_of(alloc, None, value);
+    answer.bytes.extend_from_slice(bytes)?;
+    Ok(fits(board, &state, Some(&message), &answer))
+}
+
+/// What is asked, the number and the block that are returned, and whether they may be.
+type Returned = (Asked, u16, &'static [u8], bool);
+
+fn compare_returned(rt: &impl Abort, alloc: Global, board: &Board, rows: &[Returned]) {
+    for (asked, value, bytes, want) in rows {
+        let is_allowed = may_return(alloc, board, *asked, *value, bytes);
+        assert_eq!(rt; is_allowed, Ok(*want), "{asked:?} {value} {bytes:?}");
+    }
+}
+
+/// Messages that read nothing.
+const WRITES: [Asked; 6] = [
+    (0, Form::Quick(false), 0, &[]),
+    (0, Form::Quick(true), 0, &[]),
+    (0, Form::SendByte, 0x03, &[]),
+    (0, Form::WriteByte, 0x01, &[0x80]),
+    (0, Form::WriteWord, 0x21, &[0x99, 0x11]),
+    (0, Form::BlockWrite, 0xD0, &[1, 2]),
+];
+
+fn compare_writes(rt: &impl Abort, alloc: Global, board: &Board) {
+    for asked in WRITES {
+        let rows = [
+            (asked, 0, b"".as_slice(), true),
+            (asked, 1, b"", false),
+            (asked, 0, b"a", false),
+        ];
+        compare_returned(rt, alloc, board, &rows);
+    }
+}
+
+#[test]
+fn writes_return_nothing(rt: HostRuntime) -> Result<(), Fail> {
+    let board = range_board(rt.alloc())?;
+    compare_writes(&rt, rt.alloc(), &board);
+    Ok(())
+}
+
+const PAGE: Asked = (0, Form::ReadByte, 0x00, &[]);
+
+const PROTECT: Asked = (0, Form::ReadByte, 0x10, &[]);
+
+/// Of PAGE and WRITE_PROTECT what is stored is read.
+const STORED: [Returned; 6] = [
+    (PAGE, 1, &[], true),
+    (PAGE, 0, &[], false),
+    (PROTECT, 0x20, &[], true),
+    (PROTECT, 0, &[], false),
+    ((1, Form::ReadByte, 0x10, &[]), 0x40, &[], true),
+    (PAGE, 1, &[1], false),
+];
+
+const STATUS: Asked = (0, Form::ReadWord, 0x79, &[]);
+
+const RECEIVE: Asked = (0, Form::ReceiveByte, 0, &[]);
+
+/// No entry of target b allows it.
+const RECEIVE_OF_B: Asked = (1, Form::ReceiveByte, 0, &[]);
+
+const CALL: Asked = (0, Form::ProcessCall, 0xD0, &[1, 2]);
+
+/// No entry allows it.
+const OTHER_CALL: Asked = (0, Form::ProcessCall, 0xD1, &[1, 2]);
+
+const NUMBERS: [Returned; 18] = [
+    (STATUS, 4096, &[], true),
+    (STATUS, 4097, &[], false),
+    (STATUS, 1, &[], true),
+    (STATUS, 0, &[], false),
+    (RECEIVE, 3, &[], true),
+    (RECEIVE, 9, &[], true),
+    (RECEIVE, 2, &[], false),
+    (RECEIVE, 10, &[], false),
+    (RECEIVE, 3, &[3], false),
+    (RECEIVE_OF_B, 0, &[], true),
+    (RECEIVE_OF_B, 255, &[], true),
+    (RECEIVE_OF_B, 256, &[], false),
+    (CALL, 256, &[], true),
+    (CALL, 4096, &[], true),
+    (CALL, 255, &[], false),
+    (CALL, 256, &[0], false),
+    (OTHER_CALL, 0, &[], true),
+    (OTHER_CALL, 65535, &[], true),
+];
+
+const QUERY: Asked = (0, Form::BlockProcessCall, 0x1A, &[0x21]);
+
+const MAKER: Asked = (0, Form::BlockRead, 0x99, &[]);
+
+/// No entry allows it.
+const OTHER_READ: Asked = (0, Form::BlockRead, 0xD2, &[]);
+
+const BLOCKS: [Returned; 13] = [
+    (QUERY, 0, &[0xB0, 0], true),
+    (QUERY, 0, &[0xB0], false),
+    (QUERY, 1, &[0xB0, 0], false),
+    (MAKER, 0, &[65, 90], true),
+    (MAKER, 0, &[65, 66, 67], true),
+    (MAKER, 0, &[65], false),
+    (MAKER, 0, &[65, 66, 67, 68], false),
+    (MAKER, 0, &[65, 64], false),
+    (MAKER, 0, &[91, 65], false),
+    (MAKER, 65, &[65, 66], false),
+    (OTHER_READ, 0, &[0xFF], true),
+    (OTHER_READ, 0, &[], false),
+    ((1, Form::BlockRead, 0x99, &[]), 0, &[0], true),
+];
+
+/// Whether a block of so many bytes may be read, which no entry allows.
+fn may_return_bytes(alloc: Global, board: &Board, count: usize) -> Result<bool, BoardFault> {
+    let mut bytes = Vec::new(alloc);
+    bytes.resize(count, 0u8)?;
+    may_return(alloc, board, OTHER_READ, 0, &bytes)
+}
+
+fn compare_counts(rt: &impl Abort, alloc: Global, board: &Board) {
+    assert_eq!(rt; may_return_bytes(alloc, board, 255), Ok(true));
+    assert_eq!(rt; may_return_bytes(alloc, board, 256), Ok(false));
+}
+
+#[test]
+fn reads_lie_in_their_ranges(rt: HostRuntime) -> Result<(), Fail> {
+    let board = range_board(rt.alloc())?;
+    compare_returned(&rt, rt.alloc(), &board, &STORED);
+    compare_returned(&rt, rt.alloc(), &board, &NUMBERS);
+    compare_returned(&rt, rt.alloc(), &board, &BLOCKS);
+    compare_counts(&rt, rt.alloc(), &board);
+    Ok(())
+}

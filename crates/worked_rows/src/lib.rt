@@ -1,0 +1,33 @@
+//! Worked rows: what the layers answer to cases whose answers come from outside.
+#![tactic(auto)]
+
+#[cfg(test)]
+mod bit_bus_rows;
+#[cfg(test)]
+mod board_fault_rows;
+#[cfg(test)]
+mod board_rows;
+#[cfg(test)]
+mod boards;
+#[cfg(test)]
+mod bundles_rows;
+#[cfg(test)]
+mod fitting_rows;
+#[cfg(test)]
+mod outcome_rows;
+#[cfg(test)]
+mod pmbus_table_rows;
+#[cfg(test)]
+mod seq_program_rows;
+#[cfg(test)]
+mod session_rows;
+#[cfg(test)]
+mod simulator_rows;
+#[cfg(test)]
+mod smbus_rows;
+#[cfg(test)]
+mod targets_rows;
+#[cfg(test)]
+mod texts_rows;
+#[cfg(test)]
+mod wires_rows;
