@@ -1,5 +1,5 @@
--- Small programs, of which what the checker promises of every run holds or doesn't, each for one
--- reason.
+-- Small programs, of which what the checker promises of every run holds, or doesn't whatever else the
+-- board says.
 use Rattle.std.specs.Prelude.{◌≡◌, ◌≢◌, ◌<◌, ◌+◌, ◌*◌, ℕ, false, List, [], ◌∷◌, Some, None, IsSome}
 use Rattle.std.specs.Prelude.{slice_index, IsTrue, Contains}
 use Rattle.smbus.specs.declared.message.Form.TheVariants.{SendByte}

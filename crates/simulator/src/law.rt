@@ -67,9 +67,9 @@ pub fn safe_steps_are_safe_runs()
 }
 
 /// What the checker is to promise of every run is told from small programs: it holds of one that
-/// only ends and of one that clears faults, and not of programs with one thing wrong each: a rail
-/// that is turned on before its needs reported good, or after such a report was withdrawn, a form
-/// for which the target has no entry, a write that is protected, a voltage over its limit.
+/// only ends and of one that clears faults, and not, whatever else the board says, of programs that
+/// turn on a rail before its needs reported good, or after such a report was withdrawn, that send a
+/// form for which the target has no entry, write what is protected, or exceed a voltage's limit.
 pub fn small_programs_are_judged()
     ensures ends { EndingIsSafe }
     ensures clears { ClearingIsSafe }
