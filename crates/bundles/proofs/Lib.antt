@@ -10,4 +10,4 @@ pub mod AnswerLineLaw
 pub mod WellFormedBundles
 pub mod ReadBundles
 pub mod NumberedSections
-pub mod SaidAnswers
+pub mod CheckedLines

@@ -1,67 +1,47 @@
-ghost use Rattle.std.specs.Prelude.{◌≡◌, ◌≤◌, ◌<◌, ◌+◌, length, option_map, slice_get, All, IfOk};
-ghost use Rattle.std.specs.Prelude.{Some};
+//! How the targets of a run start, and what they answer.
+
+ghost use Rattle.std.specs.Prelude.{◌≡◌, ◌≤◌, ◌<◌, ◌^◌, length, option_map, All, IfOk};
 ghost use Rattle.texts.specs.Reading.{Gives};
-ghost use Rattle.bundles.specs.Answers.{bytes_in, listed_bytes, start_of, answer_lines_of};
-ghost use Rattle.bundles.specs.Answers.{IsAnswer, answers_said, answers_of, answers_in};
-ghost use Rattle.bundles.specs.CountedLines.{counted_lines};
-ghost use Rattle.bundles.specs.Texts.{texts_of, numbered_texts_of};
+ghost use Rattle.bundles.specs.Answers.{bytes_in, listed_bytes, start_of, answers_of, answers_in};
+ghost use Rattle.bundles.specs.Texts.{texts_of};
 ghost use Rattle.bundles.specs.Views.{section_view};
 
-use crate::answer_lines::answer_line_of;
-use crate::counted::counted_lines;
+use crate::answer_list::AnswerLines;
+use crate::counted::first_counted;
 use crate::fault::BundleFault;
 use crate::field::parts_of;
 use crate::section::Section;
-use smbus::Answer;
 use std::alloc::{AllocError, Global};
 use std::marker::Model;
 use texts::{ReadError, pair_of, words_of};
 
 /// The page and the protection that each target starts with, and what all targets do step by step.
-/// An answer is kept as the line that says it.
 #[derive(Debug, Drop)]
 pub struct Answers<'a> {
     pub pages: Vec<u8>,
     pub protects: Vec<u8>,
-    lines: Vec<(usize, &'a str)>,
+    pub(crate) answers: AnswerLines<'a>,
 }
 
 impl<'a> Model for Answers<'a> {
-    ghost use Rattle.std.specs.Prelude.{All};
-    ghost use Rattle.bundles.specs.Answers.{Answers, IsAnswer, answers_said};
-    ghost use Rattle.bundles.specs.Texts.{numbered_texts_of};
+    ghost use Rattle.bundles.specs.Answers.{Answers};
 
     ghost Value = { Answers };
 
     ghost view = { λ a. record {
       pages = a.pages.items;
       protects = a.protects.items;
-      answers = answers_said (numbered_texts_of a.lines.items);
+      answers = a.answers;
     } };
-
-    ghost invariant = { λ a. All IsAnswer (numbered_texts_of a.lines.items) };
 }
 
 impl<'a> Answers<'a> {
-    /// The number of answers.
-    pub fn count(&self) -> usize
-        ensures { result ≡ length self.now.answers }
+    /// What all targets do, from the first step on.
+    pub fn answers(&self) -> AnswerLines<'a>
+        ensures all { result ≡ self.now.answers }
+        ensures few { length result < 2 ^ 64 }
     {
-        self.lines.len()
-    }
-
-    /// One of the answers.
-    pub fn read(&self, alloc: Global, index: usize) -> Result<Answer, AllocError>
-        requires { index < length self.now.answers }
-        ensures at { IfOk result (λ answer. slice_get self.now.answers index ≡ Some answer) }
-        ensures held { IfOk result (λ answer. All (λ hold. hold ≤ 6999) answer.holds) }
-    {
-        let (number, line) = self.lines[index];
-        match answer_line_of(alloc, number, line) {
-            Ok(answer) => Ok(answer),
-            Err(ReadError::Memory) => Err(AllocError),
-            Err(ReadError::Fault(_)) => unreachable!(),
-        }
+        self.answers.copied()
     }
 }
 
@@ -109,53 +89,8 @@ fn start_of(alloc: Global, words: &[&str]) -> Result<Option<(Vec<u8>, Vec<u8>)>,
     Ok(Some((pages, protects)))
 }
 
-/// The lines, if each of them is an answer.
-#[tactic(auto, unfolding(crate::specs::Answers::answer_lines_of))]
-fn answer_lines_of<'a>(
-    alloc: Global,
-    lines: &[(usize, &'a str)],
-) -> Result<Vec<(usize, &'a str)>, ReadError<BundleFault>>
-    ensures read { IfOk result (λ read. All IsAnswer (numbered_texts_of read.items)) }
-    ensures held { IfOk result (λ read. All (λ answer. All (λ hold. hold ≤ 6999) answer.holds)
-        (answers_said (numbered_texts_of read.items))) }
-    ensures value { Gives (λ read. answers_said (numbered_texts_of read.items)) result
-        (answer_lines_of (numbered_texts_of lines.now)) }
-{
-    let mut read = Vec::new(alloc);
-    for (number, line) in lines {
-        answer_line_of(alloc, *number, line)?;
-        read.push((*number, *line))?;
-    }
-    Ok(read)
-}
-
-/// What the lines that count say, where `end` is the number of the line below the bundle's last.
-#[tactic(auto, unfolding(crate::specs::Answers::answers_of))]
-fn answers_of<'a>(
-    alloc: Global,
-    end: usize,
-    lines: &[(usize, &'a str)],
-) -> Result<Answers<'a>, ReadError<BundleFault>>
-    ensures held { IfOk result
-        (λ a. All (λ answer. All (λ hold. hold ≤ 6999) answer.holds) a.answers) }
-    ensures value { Gives (λ a. a) result (answers_of end (numbered_texts_of lines.now)) }
-{
-    let [(number, line), later @ ..] = lines else {
-        return Err(BundleFault::BadAnswer(end).error());
-    };
-    let words = words_of(alloc, line)?;
-    let Some((pages, protects)) = start_of(alloc, &words)? else {
-        return Err(BundleFault::BadAnswer(*number).error());
-    };
-    let lines = answer_lines_of(alloc, later)?;
-    Ok(Answers {
-        pages,
-        protects,
-        lines,
-    })
-}
-
 /// How the targets of a section start, and what they answer.
+#[tactic(auto, unfolding(crate::specs::Answers::answers_of))]
 pub fn answers_in<'a>(
     alloc: Global,
     section: &Section<'a>,
@@ -164,6 +99,17 @@ pub fn answers_in<'a>(
         (λ a. All (λ answer. All (λ hold. hold ≤ 6999) answer.holds) a.answers) }
     ensures value { Gives (λ a. a) result (answers_in (section_view section.now)) }
 {
-    let counted = counted_lines(alloc, section)?;
-    answers_of(alloc, section.first_line + section.lines.len(), &counted)
+    let Some(first) = first_counted(section) else {
+        return Err(BundleFault::BadAnswer(section.first_line + section.lines.len()).error());
+    };
+    let words = words_of(alloc, first.line)?;
+    let Some((pages, protects)) = start_of(alloc, &words)? else {
+        return Err(BundleFault::BadAnswer(first.number).error());
+    };
+    let answers = AnswerLines::of_section(alloc, &first.below)?;
+    Ok(Answers {
+        pages,
+        protects,
+        answers,
+    })
 }

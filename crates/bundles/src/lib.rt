@@ -2,6 +2,7 @@
 #![tactic(auto)]
 
 mod answer_lines;
+mod answer_list;
 mod answer_words;
 mod answers;
 mod bundle;
@@ -14,6 +15,7 @@ mod message;
 mod section;
 
 pub use answer_lines::answer_line_of;
+pub use answer_list::AnswerLines;
 pub use answers::{Answers, answers_in};
 pub use bundle::{Bundle, read_bundle};
 pub use command::{Command, Header};

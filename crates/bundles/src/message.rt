@@ -5,13 +5,12 @@ ghost use Rattle.texts.specs.Reading.{Gives};
 ghost use Rattle.bundles.specs.Messages.{code_of, form_of, address_for, address_of, asked_of};
 ghost use Rattle.bundles.specs.Messages.{exchange_of, past_asked, only_exchange, exchange_in};
 ghost use Rattle.bundles.specs.AnswerWords.{answer_of, past_bytes};
-ghost use Rattle.bundles.specs.CountedLines.{counted_lines};
 ghost use Rattle.bundles.specs.Texts.{texts_of};
 ghost use Rattle.bundles.specs.Views.{section_view};
 ghost use Rattle.bundles.specs.Fields.{value_of, rest_of, bytes_of};
 
 use crate::answer_words::answer_of;
-use crate::counted::counted_lines;
+use crate::counted::first_counted;
 use crate::fault::BundleFault;
 use crate::field::{Fields, bytes_of};
 use crate::section::Section;
@@ -151,13 +150,12 @@ pub fn exchange_in(alloc: Global, section: &Section<'_>) -> Result<Exchange, Rea
     ensures held { IfOk result (λ exchange. All (λ hold. hold ≤ 6999) exchange.answer.holds) }
     ensures value { Gives (λ e. e) result (exchange_in (section_view section.now)) }
 {
-    let counted = counted_lines(alloc, section)?;
-    match counted.as_slice() {
-        [] => Err(bad_message(section.first_line + section.lines.len())),
-        [(number, line)] => exchange_of(alloc, *number, line),
-        [(number, line), (other, _), ..] => {
-            exchange_of(alloc, *number, line)?;
-            Err(bad_message(*other))
-        }
+    let Some(first) = first_counted(section) else {
+        return Err(bad_message(section.first_line + section.lines.len()));
+    };
+    let exchange = exchange_of(alloc, first.number, first.line)?;
+    match first_counted(&first.below) {
+        Some(second) => Err(bad_message(second.number)),
+        None => Ok(exchange),
     }
 }

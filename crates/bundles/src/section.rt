@@ -1,7 +1,7 @@
 ghost use Rattle.std.specs.Prelude.{◌+◌, ◌<◌, ◌^◌, length};
 
 /// The lines below a header, and the number of the first of them in the bundle.
-#[derive(Debug, Drop)]
+#[derive(Clone, Copy, Debug)]
 pub struct Section<'a> {
     pub first_line: usize,
     pub lines: &'a [&'a str],

@@ -19,17 +19,19 @@ fn run_text(alloc: Global, scenario: &Scenario<'_>) -> Result<String, RunFault>
 {
     let (board, program) = (&scenario.board, &scenario.program);
     let _places = program.places();
-    let answers = &scenario.answers;
-    let mut machine = start(alloc, board, &answers.pages, &answers.protects)?;
+    let answered = &scenario.answers;
+    let mut machine = start(alloc, board, &answered.pages, &answered.protects)?;
+    let mut answers = answered.answers();
     let mut text = String::new(alloc);
+    let mut index = 0;
     let mut ticks = 0;
-    for index in 0..answers.count() {
-        let answer = answers.read(alloc, index)?;
-        let (next, entry) = step_at(alloc, board, program, &machine, &answer, index, ticks)?;
+    while let Some(answer) = answers.next(alloc)? {
+        let (after, entry) = step_at(alloc, board, program, &machine, &answer, index, ticks)?;
         let line = line_of(alloc, &entry)?;
         text.push_str(&line)?;
+        index += 1;
         ticks += entry.ticks;
-        machine = next;
+        machine = after;
     }
     let last = last_line(alloc, machine.ended, ticks)?;
     text.push_str(&last)?;
