@@ -1,6 +1,6 @@
 -- Words joined by spaces, and lines ended by LF, are cut there again.
-use Rattle.std.proofs.Common.{◌≡◌, ℕ, ◌<◌, ◌-◌, Bool, true, false, ◌&&◌, ◌||◌, nat_lt, ◌==◌, List}
-use Rattle.std.proofs.Common.{[], ◌∷◌, ◌++◌, length, filter, take, map, get_or, refl, ap, ◌∙◌, All}
+use Rattle.std.proofs.Common.{◌≡◌, ℕ, ◌<◌, Bool, true, false, ◌&&◌, ◌||◌, nat_lt, ◌==◌, List}
+use Rattle.std.proofs.Common.{[], ◌∷◌, ◌++◌, length, filter, take, map, refl, ap, ◌∙◌, All}
 use Rattle.std.proofs.Common.{arith}
 use Rattle.std.specs.List.{list_all, slice_split, join_with_byte, flat_map, position_or_len}
 use Rattle.std.proofs.lemmas.Bool.{and_parts, and_from, lt-ltb, ltb-true}
@@ -13,7 +13,7 @@ use Rattle.std.proofs.lemmas.List.Sums.{position_or_len_is}
 use Rattle.std.proofs.lemmas.List.Splits.{slice_split_none, slice_split_at, length-slice_split}
 use Rattle.std.proofs.Math.Seq.{take-length}
 use Rattle.texts.specs.Words.{is_nonempty, words_of, without_empty_end, lines_by_feed}
-use Rattle.seq_program.specs.Passes.{without_comment}
+use Rattle.seq_program.specs.Labels.{without_comment}
 
 -- bytes over `#`, which the spaces, the ends of lines and the comments are not
 abbrev pub is_word_byte : ℕ → Bool

@@ -1,7 +1,7 @@
 pub mod EitherCase
 pub mod Endings
 pub mod ElseWords
-pub mod Labels
+pub mod LabelEntries
 pub mod Bytes
 pub mod WrittenValues
 pub mod ValidPrograms
@@ -10,7 +10,7 @@ pub mod PrintedNumbers
 pub mod PrintedCommands
 pub mod PrintedSizes
 pub mod PrintedPlaces
-pub mod PrintedJumps
+pub mod PrintedLabels
 pub mod PrintedPrograms
 pub mod PrintedLines
 pub mod PrintedPlain

@@ -1,5 +1,5 @@
 -- Each board has a program that sends a message.
-use Rattle.std.proofs.Common.{ℕ, ◌<◌, true, List, [], ◌∷◌, length, refl, arith, lit≤, lit<}
+use Rattle.std.proofs.Common.{◌<◌, true, List, [], ◌∷◌, length, refl, arith, lit≤, lit<}
 use Rattle.std.specs.Prelude.{IfSome}
 use Rattle.std.proofs.lemmas.List.Elements.{All-from_recursion}
 use Rattle.seq_program.specs.declared.instr.Instr.{Instr}
@@ -8,7 +8,7 @@ use Rattle.seq_program.specs.Valid.{IsInstr, IsOnBoard, IsProgram, jump_in}
 use Rattle.seq_program.specs.PrintedLaw.{BoardsHavePrograms}
 
 -- a quick command to the first target
-abbrev asks_first : List (Instr ℕ)
+abbrev asks_first : List Instr
 asks_first = instr.Quick 0 true 1 ∷ instr.End ∷ []
 
 is_program : IsProgram asks_first

@@ -27,7 +27,7 @@ use Rattle.seq_program.proofs.PrintedCommands.{name_word, name_at_place, command
 use Rattle.seq_program.proofs.PrintedSizes.{written_back, read_back, sized_word, voltage_name}
 use Rattle.seq_program.proofs.PrintedSizes.{voltage_word}
 use Rattle.seq_program.proofs.PrintedLines.{message_back}
-use Rattle.seq_program.proofs.PrintedPlain.{number_in_back}
+use Rattle.seq_program.proofs.PrintedPlain.{word_in_back}
 use Rattle.seq_program.proofs.PrintedPlaces.{ReadsBack}
 
 -- a target of a board
@@ -51,7 +51,7 @@ pub quick_back : (board : Board) (target place : ℕ) (read : Bool) → IsTarget
 unfolding quick_of
 quick_back board target place read t few =
     message_back board (instr.Quick target read place) message.Quick (codes "quick")
-    (target_name board target) (direction_name read ∷ []) place refl refl few
+    (target_name board target) (direction_name read ∷ []) place refl refl refl few
     (rw (target_word board target t, direction_word read) refl)
     (λ n. rw (direction_back read, target_back board n target t) refl)
 
@@ -61,7 +61,7 @@ pub send_back : (board : Board) (target command place : ℕ) → IsTargetOf boar
 unfolding send_of
 send_back board target command place t takes few =
     message_back board (instr.Send target command place) message.Send (codes "send")
-    (target_name board target) (name_text command ∷ []) place refl refl few
+    (target_name board target) (name_text command ∷ []) place refl refl refl few
     (rw (target_word board target t, command_word command) refl)
     (λ n. rw (target_back board n target t, command_back form.SendByte command takes) refl)
 
@@ -70,7 +70,7 @@ pub receive_back : (board : Board) (target register place : ℕ) → IsTargetOf 
 unfolding receive_of
 receive_back board target register place t r few =
     message_back board (instr.Receive target register place) message.Receive (codes "receive")
-    (target_name board target) (register_name register ∷ []) place refl refl few
+    (target_name board target) (register_name register ∷ []) place refl refl refl few
     (rw (target_word board target t, register_word register r) refl)
     (λ n. rw (register_back register r, target_back board n target t) refl)
 
@@ -101,7 +101,7 @@ unfolding write_of
 write_byte_back board target command value place t takes v few =
     message_back board (instr.Write target command (written.Byte value) place) message.Write
     (codes "write") (target_name board target)
-    (sized_name command width.Byte ∷ decimal value ∷ []) place refl refl few
+    (sized_name command width.Byte ∷ decimal value ∷ []) place refl refl refl few
     (rw (
       target_word board target t,
       sized_word command width.Byte,
@@ -121,7 +121,7 @@ unfolding write_of
 write_word_back board target command value place t takes v few =
     message_back board (instr.Write target command (written.Word value) place) message.Write
     (codes "write") (target_name board target)
-    (sized_name command width.Word ∷ decimal value ∷ []) place refl refl few
+    (sized_name command width.Word ∷ decimal value ∷ []) place refl refl refl few
     (rw (
       target_word board target t,
       sized_word command width.Word,
@@ -141,7 +141,7 @@ unfolding write_of written_of
 write_register_back board target register place t r few =
     message_back board (instr.Write target vout_command_code (written.Register register) place)
     message.Write (codes "write") (target_name board target)
-    (sized_name vout_command_code width.Word ∷ register_name register ∷ []) place refl refl few
+    (sized_name vout_command_code width.Word ∷ register_name register ∷ []) place refl refl refl few
     (rw (
       target_word board target t,
       sized_word vout_command_code width.Word,
@@ -162,7 +162,7 @@ unfolding read_of
 reading_back board target command register place size t takes r few =
     message_back board (instr.Read target command size register place) message.Read (codes "read")
     (target_name board target)
-    (sized_name command size ∷ register_name register ∷ []) place refl refl few
+    (sized_name command size ∷ register_name register ∷ []) place refl refl refl few
     (rw (target_word board target t, sized_word command size, register_word register r) refl)
     (λ n. rw (
       register_back register r,
@@ -182,7 +182,7 @@ unfolding call_of
 call_back board target command value register place t takes v r few =
     message_back board (instr.Call target command value register place) message.Call (codes "call")
     (target_name board target)
-    (name_text command ∷ decimal value ∷ register_name register ∷ []) place refl refl few
+    (name_text command ∷ decimal value ∷ register_name register ∷ []) place refl refl refl few
     (rw (
       target_word board target t,
       command_word command,
@@ -193,7 +193,7 @@ call_back board target command value register place t takes v r few =
       register_back register r,
       target_back board n target t,
       command_back form.ProcessCall command takes,
-      number_in_back n 0 65535 value (omega arith) v (omega arith),
+      word_in_back n value v,
     ) refl)
 
 pub block_write_back : (board : Board) (target command place : ℕ) (bytes : List ℕ)
@@ -204,7 +204,7 @@ unfolding block_write_of
 block_write_back board target command place bytes t takes block few =
     message_back board (instr.BlockWrite target command bytes place) message.BlockWrite
     (codes "blockwrite") (target_name board target)
-    (name_text command ∷ pairs_text bytes ∷ []) place refl refl few
+    (name_text command ∷ pairs_text bytes ∷ []) place refl refl refl few
     (rw (target_word board target t, command_word command, block_word 255 bytes block) refl)
     (λ n. rw (
       block_back 255 bytes block,
@@ -219,7 +219,7 @@ unfolding block_read_of
 block_read_back board target command register place t takes r few =
     message_back board (instr.BlockRead target command register place) message.BlockRead
     (codes "blockread") (target_name board target)
-    (name_text command ∷ register_name register ∷ []) place refl refl few
+    (name_text command ∷ register_name register ∷ []) place refl refl refl few
     (rw (target_word board target t, command_word command, register_word register r) refl)
     (λ n. rw (
       register_back register r,
@@ -235,7 +235,7 @@ unfolding block_call_of
 block_call_back board target command register place bytes t takes block r few =
     message_back board (instr.BlockCall target command bytes register place) message.BlockCall
     (codes "blockcall") (target_name board target)
-    (name_text command ∷ pairs_text bytes ∷ register_name register ∷ []) place refl refl few
+    (name_text command ∷ pairs_text bytes ∷ register_name register ∷ []) place refl refl refl few
     (rw (
       target_word board target t,
       command_word command,
@@ -254,5 +254,5 @@ pub alert_back : (board : Board) (register place : ℕ) → register < 8 → pla
 unfolding alert_of
 alert_back board register place r few =
     message_back board (instr.Alert register place) message.Alert (codes "alert")
-    (register_name register) [] place refl refl few
+    (register_name register) [] place refl refl refl few
     (rw (register_word register r) refl) (λ n. rw (register_back register r) refl)

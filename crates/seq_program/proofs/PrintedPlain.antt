@@ -3,15 +3,15 @@ use Rattle.std.proofs.Common.{◌≡◌, ℕ, ◌<◌, ◌≤◌, [], ◌∷◌,
 use Rattle.std.specs.Fmt.{decimal}
 use Rattle.board.specs.Boards.{Board}
 use Rattle.seq_program.specs.declared.instr.Instr.TheVariants as instr
+use Rattle.seq_program.specs.declared.line.JumpWord.TheVariants as jump
 use Rattle.seq_program.specs.declared.line.PlainWord.TheVariants as plain
-use Rattle.seq_program.specs.MessageLines.{number_in}
-use Rattle.seq_program.specs.PlainLines.{if_alert_of, set_of, add_of, if_of, above_of, count_of}
-use Rattle.seq_program.specs.PlainLines.{again_of, wait_of, goto_of}
-use Rattle.seq_program.specs.PrintedWords.{place_name, register_name, counter_name}
+use Rattle.seq_program.specs.MessageLines.{number_in, word_in}
+use Rattle.seq_program.specs.JumpLines.{bits_of, if_of, above_of, again_of}
+use Rattle.seq_program.specs.PlainLines.{set_of, add_of, count_of, wait_of}
+use Rattle.seq_program.specs.PrintedWords.{register_name, counter_name}
 use Rattle.seq_program.proofs.PrintedNumbers.{number_back, decimal_word, register_back}
-use Rattle.seq_program.proofs.PrintedNumbers.{register_word, counter_back, counter_word, place_word}
-use Rattle.seq_program.proofs.PrintedNumbers.{label_back}
-use Rattle.seq_program.proofs.PrintedLines.{plain_back}
+use Rattle.seq_program.proofs.PrintedNumbers.{register_word, counter_back, counter_word}
+use Rattle.seq_program.proofs.PrintedLines.{jump_back, plain_back}
 use Rattle.seq_program.proofs.PrintedPlaces.{ReadsBack}
 
 pub number_in_back : (n low high v : ℕ) → low ≤ v → v ≤ high → high ≤ 99999999
@@ -19,23 +19,25 @@ pub number_in_back : (n low high v : ℕ) → low ≤ v → v ≤ high → high 
 unfolding number_in
 number_in_back n low high v least most few = rw (number_back low high v least most few) refl
 
+pub word_in_back : (n v : ℕ) → v ≤ 65535 → word_in n (decimal v) ≡ Ok v
+unfolding word_in
+word_in_back n v few = number_in_back n 0 65535 v (omega arith) few (omega arith)
+
 pub if_alert_back : (board : Board) (place : ℕ) → place < 1024
     → ReadsBack board (instr.IfAlert place)
-unfolding if_alert_of
 if_alert_back board place few =
-    plain_back board (instr.IfAlert place) plain.IfAlert (codes "ifalert")
-    (place_name place ∷ []) refl refl refl refl
-    (rw (place_word place few) refl) (λ n. rw (label_back place few) refl)
+    jump_back board (instr.IfAlert place) jump.IfAlert (codes "ifalert") [] place
+    refl refl refl refl refl few refl (λ n. refl)
 
 pub set_back : (board : Board) (register value : ℕ) → register < 8 → value ≤ 65535
     → ReadsBack board (instr.Set register value)
 unfolding set_of
 set_back board register value r v =
     plain_back board (instr.Set register value) plain.Set (codes "set")
-    (register_name register ∷ decimal value ∷ []) refl refl refl refl
+    (register_name register ∷ decimal value ∷ []) refl refl refl refl refl
     (rw (register_word register r, decimal_word value (omega arith)) refl) (λ n. rw (
       register_back register r,
-      number_in_back n 0 65535 value (omega arith) v (omega arith),
+      word_in_back n value v,
     ) refl)
 
 pub add_back : (board : Board) (register value : ℕ) → register < 8 → value ≤ 65535
@@ -43,51 +45,47 @@ pub add_back : (board : Board) (register value : ℕ) → register < 8 → value
 unfolding add_of
 add_back board register value r v =
     plain_back board (instr.Add register value) plain.Add (codes "add")
-    (register_name register ∷ decimal value ∷ []) refl refl refl refl
+    (register_name register ∷ decimal value ∷ []) refl refl refl refl refl
     (rw (register_word register r, decimal_word value (omega arith)) refl) (λ n. rw (
       register_back register r,
-      number_in_back n 0 65535 value (omega arith) v (omega arith),
+      word_in_back n value v,
     ) refl)
+
+bits_back : (n mask value : ℕ) → mask ≤ 65535 → value ≤ 65535
+    → bits_of n (decimal mask) (decimal value) ≡ Ok (mask, value)
+unfolding bits_of
+bits_back n mask value m v = rw (word_in_back n mask m, word_in_back n value v) refl
 
 pub if_back : (board : Board) (register mask value place : ℕ) → register < 8 → mask ≤ 65535
     → value ≤ 65535 → place < 1024 → ReadsBack board (instr.If register mask value place)
 unfolding if_of
 if_back board register mask value place r m v few =
-    plain_back board (instr.If register mask value place) plain.If (codes "if")
-    (register_name register ∷ decimal mask ∷ decimal value ∷ place_name place ∷ []) refl refl refl
-    refl
+    jump_back board (instr.If register mask value place) jump.If (codes "if")
+    (register_name register ∷ decimal mask ∷ decimal value ∷ []) place
+    refl refl refl refl refl few
     (rw (
       register_word register r,
       decimal_word mask (omega arith),
       decimal_word value (omega arith),
-      place_word place few,
     ) refl)
-    (λ n. rw (
-      register_back register r,
-      label_back place few,
-      number_in_back n 0 65535 mask (omega arith) m (omega arith),
-      number_in_back n 0 65535 value (omega arith) v (omega arith),
-    ) refl)
+    (λ n. rw (register_back register r, bits_back n mask value m v) refl)
 
 pub above_back : (board : Board) (register value place : ℕ) → register < 8 → value ≤ 65535
     → place < 1024 → ReadsBack board (instr.Above register value place)
 unfolding above_of
 above_back board register value place r v few =
-    plain_back board (instr.Above register value place) plain.Above (codes "above")
-    (register_name register ∷ decimal value ∷ place_name place ∷ []) refl refl refl refl
-    (rw (register_word register r, decimal_word value (omega arith), place_word place few) refl)
-    (λ n. rw (
-      register_back register r,
-      label_back place few,
-      number_in_back n 0 65535 value (omega arith) v (omega arith),
-    ) refl)
+    jump_back board (instr.Above register value place) jump.Above (codes "above")
+    (register_name register ∷ decimal value ∷ []) place
+    refl refl refl refl refl few
+    (rw (register_word register r, decimal_word value (omega arith)) refl)
+    (λ n. rw (register_back register r, word_in_back n value v) refl)
 
 pub count_back : (board : Board) (counter value : ℕ) → counter < 4 → value ≤ 1000
     → ReadsBack board (instr.Count counter value)
 unfolding count_of
 count_back board counter value c v =
     plain_back board (instr.Count counter value) plain.Count (codes "count")
-    (counter_name counter ∷ decimal value ∷ []) refl refl refl refl
+    (counter_name counter ∷ decimal value ∷ []) refl refl refl refl refl
     (rw (counter_word counter c, decimal_word value (omega arith)) refl) (λ n.
     rw (counter_back counter c, number_in_back n 0 1000 value (omega arith) v (omega arith)) refl)
 
@@ -95,31 +93,30 @@ pub again_back : (board : Board) (counter place : ℕ) → counter < 4 → place
     → ReadsBack board (instr.Again counter place)
 unfolding again_of
 again_back board counter place c few =
-    plain_back board (instr.Again counter place) plain.Again (codes "again")
-    (counter_name counter ∷ place_name place ∷ []) refl refl refl refl
-    (rw (counter_word counter c, place_word place few) refl)
-    (λ n. rw (counter_back counter c, label_back place few) refl)
+    jump_back board (instr.Again counter place) jump.Again (codes "again")
+    (counter_name counter ∷ []) place refl refl refl refl refl few
+    (rw (counter_word counter c) refl) (λ n. rw (counter_back counter c) refl)
 
 pub wait_back : (board : Board) (ticks : ℕ) → 1 ≤ ticks → ticks ≤ 10000000
     → ReadsBack board (instr.Wait ticks)
 unfolding wait_of
 wait_back board ticks some few =
     plain_back board (instr.Wait ticks) plain.Wait (codes "wait")
-    (decimal ticks ∷ []) refl refl refl refl
+    (decimal ticks ∷ []) refl refl refl refl refl
     (rw (decimal_word ticks (omega arith)) refl)
     (λ n. rw (number_in_back n 1 10000000 ticks some few (omega arith)) refl)
 
 pub goto_back : (board : Board) (place : ℕ) → place < 1024 → ReadsBack board (instr.Goto place)
-unfolding goto_of
 goto_back board place few =
-    plain_back board (instr.Goto place) plain.Goto (codes "goto")
-    (place_name place ∷ []) refl refl refl refl
-    (rw (place_word place few) refl) (λ n. rw (label_back place few) refl)
+    jump_back board (instr.Goto place) jump.Goto (codes "goto") [] place
+    refl refl refl refl refl few refl (λ n. refl)
 
 pub end_back : (board : Board) → ReadsBack board instr.End
 end_back board =
-    plain_back board instr.End plain.End (codes "end") [] refl refl refl refl refl (λ n. refl)
+    plain_back board instr.End plain.End (codes "end") [] refl refl refl refl refl refl
+    (λ n. refl)
 
 pub fail_back : (board : Board) → ReadsBack board instr.Fail
 fail_back board =
-    plain_back board instr.Fail plain.Fail (codes "fail") [] refl refl refl refl refl (λ n. refl)
+    plain_back board instr.Fail plain.Fail (codes "fail") [] refl refl refl refl refl refl
+    (λ n. refl)

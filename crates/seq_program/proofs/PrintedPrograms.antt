@@ -1,6 +1,7 @@
 -- A printed program reads back.
 use Rattle.std.proofs.Common.{◌≡◌, ℕ, ◌-◌, ◌<◌, ◌≤◌, true, List, [], length, slice_get, Option}
-use Rattle.std.proofs.Common.{Some, None, IfSome, IsTrue, Ok, refl, All, arith}
+use Rattle.std.proofs.Common.{Some, None, option_map, IfSome, IsTrue, Ok, refl, ap, ◌∙◌, All}
+use Rattle.std.proofs.Common.{arith}
 use Rattle.std.specs.List.{flat_map, enumerate_from}
 use Rattle.texts.specs.Words.{lines_by_feed}
 use Rattle.std.proofs.lemmas.Bool.{and_from}
@@ -11,17 +12,19 @@ use Rattle.seq_program.specs.declared.instr.Instr.{Instr}
 use Rattle.seq_program.specs.declared.instr.Instr.TheVariants as instr
 use Rattle.seq_program.specs.declared.instr.Written.{Written}
 use Rattle.seq_program.specs.declared.instr.Written.TheVariants as written
+use Rattle.seq_program.specs.Labels.{Label, place_of, with_labels}
+use Rattle.seq_program.specs.Labels.{labels_of}
 use Rattle.seq_program.specs.Passes.{after_lines}
 use Rattle.seq_program.specs.PrintedWords.{place_name}
-use Rattle.seq_program.specs.Programs.{place_of, is_end, is_some_end, ends, all_resolved, no_pass}
-use Rattle.seq_program.specs.Programs.{program_of}
+use Rattle.seq_program.specs.Programs.{is_end, is_some_end, ends, no_pass, program_in, program_of}
 use Rattle.seq_program.specs.Valid.{IsInstr, IsWritten, IsOnBoard, IsProgram, jump_in}
 use Rattle.seq_program.specs.Printed.{place_lines, printed}
 use Rattle.seq_program.specs.PrintedLaw.{PrintedProgramsReadBack}
 use Rattle.seq_program.proofs.JoinedWords.{lines_back}
-use Rattle.seq_program.proofs.PrintedPlaces.{ReadsBack, placed_from, labels_from, places_read}
-use Rattle.seq_program.proofs.PrintedPlaces.{all_words, texts_from}
-use Rattle.seq_program.proofs.PrintedJumps.{place_found, labels_below, all_back}
+use Rattle.seq_program.proofs.PrintedPlaces.{ReadsBack, printed_labels}
+use Rattle.seq_program.proofs.PrintedPlaces.{labels_read, places_read, pass_with, all_words}
+use Rattle.seq_program.proofs.PrintedPlaces.{texts_from}
+use Rattle.seq_program.proofs.PrintedLabels.{label_found, labels_below, all_first}
 use Rattle.seq_program.proofs.PrintedPlain.{if_alert_back, set_back, add_back, if_back, above_back}
 use Rattle.seq_program.proofs.PrintedPlain.{count_back, again_back, wait_back, goto_back, end_back}
 use Rattle.seq_program.proofs.PrintedPlain.{fail_back}
@@ -32,39 +35,50 @@ use Rattle.seq_program.proofs.PrintedMessages.{block_write_back, block_read_back
 use Rattle.seq_program.proofs.PrintedMessages.{alert_back}
 
 -- the last instruction ends
-end_at : (o : Option (Instr ℕ)) (i : Instr ℕ) → o ≡ Some i → IfSome o (λ i. IsTrue (is_end i))
+end_at : (o : Option Instr) (i : Instr) → o ≡ Some i → IfSome o (λ i. IsTrue (is_end i))
     → is_some_end o ≡ true
 end_at None i e t = absurd cc
 end_at (Some j) i e t = t
 
-ends_back : (instrs : List (Instr ℕ)) → IsProgram instrs → ends (labels_from 0 instrs) instrs ≡ true
+ends_back : (instrs : List Instr) → IsProgram instrs → ends (printed_labels 0 instrs) instrs ≡ true
 ends_back instrs program =
     and_from _ _ (end_at (slice_get instrs (length instrs - 1)) _
     (slice_get-get_or instrs (length instrs - 1) instr.End (omega arith)) program.last)
     (labels_below (length instrs) instrs 0 (omega arith))
 
-found_at : (instrs : List (Instr ℕ)) (o : Option ℕ) → length instrs ≤ 1024
+found_at : (instrs : List Instr) (o : Option ℕ) → length instrs ≤ 1024
     → IfSome o (λ p. p < length instrs)
-    → IfSome o (λ p. place_of (labels_from 0 instrs) (place_name p) ≡ Some p)
+    → IfSome o (λ p. place_of (printed_labels 0 instrs) (place_name p) ≡ Some p)
 found_at instrs None few less = tt
-found_at instrs (Some p) few less = place_found instrs 0 p (omega arith) (omega arith) (omega arith)
+found_at instrs (Some p) few less =
+    ap (option_map (λ (l : Label). l.place))
+    (label_found instrs 0 p (omega arith) (omega arith) (omega arith))
+
+-- the lines of a program whose instructions read back
+lines_read : (board : Board) (instrs : List Instr) → IsProgram instrs
+    → All (ReadsBack board) instrs → program_in board (texts_from board 0 instrs) ≡ Ok instrs
+unfolding program_in
+lines_read board instrs program back =
+    let few : length instrs ≤ 1024 = program.few in
+    let labels : labels_of (texts_from board 0 instrs) ≡ printed_labels 0 instrs =
+    ap (with_labels []) (labels_read board instrs 0 (omega arith) back)
+    ∙ all_first instrs 0 [] (omega arith) (λ j more less. refl) in
+    let said : after_lines board (printed_labels 0 instrs) 1 no_pass (texts_from board 0 instrs)
+    ≡ Ok (pass_with instrs no_pass) =
+    places_read board (printed_labels 0 instrs) instrs 0 no_pass refl (omega arith)
+    (λ p least most. label_found instrs 0 p least most (omega arith)) back
+    (λ k d less. found_at instrs _ few (program.jumps k d less)) in
+    rw (labels, said, ends_back instrs program) refl
 
 -- a program whose instructions read back
-pub program_back : (board : Board) (instrs : List (Instr ℕ)) → IsProgram instrs
+pub program_back : (board : Board) (instrs : List Instr) → IsProgram instrs
     → All (ReadsBack board) instrs → program_of board (printed board instrs) ≡ Ok instrs
-unfolding program_of
 program_back board instrs program back =
     let few : length instrs ≤ 1024 = program.few in
     let cut : lines_by_feed (printed board instrs) ≡ texts_from board 0 instrs =
     lines_back (flat_map (place_lines board) (enumerate_from 0 instrs))
     (all_words board instrs 0 (omega arith) back) in
-    let said : after_lines board 1 no_pass (texts_from board 0 instrs)
-    ≡ Ok (record { instrs = placed_from 1 instrs; labels = labels_from 0 instrs }) =
-    places_read board instrs 0 1 no_pass refl (omega arith) (λ j more less. refl) back in
-    let made : all_resolved [] (labels_from 0 instrs) (placed_from 1 instrs) ≡ Ok instrs =
-    all_back (labels_from 0 instrs) instrs [] 1
-    (λ k d less. found_at instrs _ few (program.jumps k d less)) in
-    rw (cut, said, made, ends_back instrs program) refl
+    ap (program_in board) cut ∙ lines_read board instrs program back
 
 -- each instruction of a board's program reads back
 written_instr : (board : Board) (target command place : ℕ) (value : Written)
@@ -82,7 +96,7 @@ on_board : (board : Board) (target : ℕ) → IsBoard board → target < length 
 on_board board target good less =
     record { good = good; within = omega (arith, less, good.target_names) }
 
-instr_back : (board : Board) → IsBoard board → (i : Instr ℕ) → IsInstr i
+instr_back : (board : Board) → IsBoard board → (i : Instr) → IsInstr i
     → IsOnBoard (length board.targets) i → IfSome (jump_in i) (λ p. p < 1024)
     → ReadsBack board i
 instr_back board good (instr.Quick target read place) fits t few =

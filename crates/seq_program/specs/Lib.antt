@@ -2,9 +2,10 @@ pub mod Faults
 pub mod Reading
 pub mod Operands
 pub mod CommandWords
-pub mod Views
 pub mod MessageLines
+pub mod JumpLines
 pub mod PlainLines
+pub mod Labels
 pub mod Lines
 pub mod Passes
 pub mod PassViews

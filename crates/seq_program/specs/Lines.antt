@@ -1,6 +1,8 @@
 -- The instruction of a line, by its first word.
 use Rattle.std.specs.Prelude.{ℕ, ◌-◌, List, [], length, take, nat_lt, slice_index_or, Option, Some}
-use Rattle.std.specs.Prelude.{None, option_map, Result, Err, if◌then◌else◌, codes}
+use Rattle.std.specs.Prelude.{Bool}
+use Rattle.std.specs.Prelude.{None, option_map, is_some, unwrap_or, true, Result, Ok, Err}
+use Rattle.std.specs.Prelude.{if◌then◌else◌, codes}
 use Rattle.std.specs.Str.{bytes_eq}
 use Rattle.texts.specs.Reading.{◌>>=◌, some_or}
 use Rattle.board.specs.Boards.{Board}
@@ -8,14 +10,19 @@ use Rattle.seq_program.specs.declared.fault.ProgramFault.{ProgramFault}
 use Rattle.seq_program.specs.declared.fault.ProgramFault.TheVariants.{BadOperand, UnknownWord}
 use Rattle.seq_program.specs.declared.line.MessageWord.{MessageWord}
 use Rattle.seq_program.specs.declared.line.MessageWord.TheVariants as message
+use Rattle.seq_program.specs.declared.line.JumpWord.{JumpWord}
+use Rattle.seq_program.specs.declared.line.JumpWord.TheVariants as jump
 use Rattle.seq_program.specs.declared.line.PlainWord.{PlainWord}
 use Rattle.seq_program.specs.declared.line.PlainWord.TheVariants as plain
+use Rattle.seq_program.specs.declared.line.Jump.{Jump}
+use Rattle.seq_program.specs.declared.line.Said.{Said}
 use Rattle.seq_program.specs.Operands.{label_of}
-use Rattle.seq_program.specs.MessageLines.{Said, quick_of, send_of, receive_of, write_of, read_of}
+use Rattle.seq_program.specs.Labels.{Label, place_of}
+use Rattle.seq_program.specs.MessageLines.{Parsed, quick_of, send_of, receive_of, write_of, read_of}
 use Rattle.seq_program.specs.MessageLines.{call_of, block_write_of, block_read_of, block_call_of}
 use Rattle.seq_program.specs.MessageLines.{alert_of}
-use Rattle.seq_program.specs.PlainLines.{if_alert_of, set_of, add_of, if_of, above_of, count_of}
-use Rattle.seq_program.specs.PlainLines.{again_of, wait_of, goto_of, end_of, fail_of}
+use Rattle.seq_program.specs.JumpLines.{if_alert_of, if_of, above_of, again_of, goto_of}
+use Rattle.seq_program.specs.PlainLines.{set_of, add_of, count_of, wait_of, end_of, fail_of}
 
 -- the first words of lines that send a message, and end with `else L`
 abbrev pub message_word : List ℕ → Option MessageWord
@@ -32,18 +39,23 @@ message_word word =
     else if bytes_eq word (codes "alert") then Some message.Alert
     else None
 
+-- those of lines that jump and send nothing, and end with `L`
+abbrev pub jump_word : List ℕ → Option JumpWord
+jump_word word =
+    if bytes_eq word (codes "ifalert") then Some jump.IfAlert
+    else if bytes_eq word (codes "if") then Some jump.If
+    else if bytes_eq word (codes "above") then Some jump.Above
+    else if bytes_eq word (codes "again") then Some jump.Again
+    else if bytes_eq word (codes "goto") then Some jump.Goto
+    else None
+
 -- those of the others
 abbrev pub plain_word : List ℕ → Option PlainWord
 plain_word word =
-    if bytes_eq word (codes "ifalert") then Some plain.IfAlert
-    else if bytes_eq word (codes "set") then Some plain.Set
+    if bytes_eq word (codes "set") then Some plain.Set
     else if bytes_eq word (codes "add") then Some plain.Add
-    else if bytes_eq word (codes "if") then Some plain.If
-    else if bytes_eq word (codes "above") then Some plain.Above
     else if bytes_eq word (codes "count") then Some plain.Count
-    else if bytes_eq word (codes "again") then Some plain.Again
     else if bytes_eq word (codes "wait") then Some plain.Wait
-    else if bytes_eq word (codes "goto") then Some plain.Goto
     else if bytes_eq word (codes "end") then Some plain.End
     else if bytes_eq word (codes "fail") then Some plain.Fail
     else None
@@ -60,37 +72,74 @@ split_else n words =
     (option_map (λ label. (take (length words - 2) words, label)) (else_label
     (slice_index_or words (length words - 2) []) (slice_index_or words (length words - 1) [])))
 
-abbrev pub message_line : Board → ℕ → MessageWord → List ℕ → List (List ℕ) → Said
-message_line board n message.Quick label words = quick_of board n label words
-message_line board n message.Send label words = send_of board n label words
-message_line board n message.Receive label words = receive_of board n label words
-message_line board n message.Write label words = write_of board n label words
-message_line board n message.Read label words = read_of board n label words
-message_line board n message.Call label words = call_of board n label words
-message_line board n message.BlockWrite label words = block_write_of board n label words
-message_line board n message.BlockRead label words = block_read_of board n label words
-message_line board n message.BlockCall label words = block_call_of board n label words
-message_line board n message.Alert label words = alert_of n label words
+-- the words before a label at the end, and the label
+unfoldable pub split_label : ℕ → List (List ℕ) → Result (List (List ℕ) × List ℕ) ProgramFault
+split_label n words =
+    if nat_lt (length words) 1 then Err (BadOperand n)
+    else some_or (BadOperand n)
+    (option_map (λ label. (take (length words - 1) words, label))
+    (label_of (slice_index_or words (length words - 1) [])))
 
-abbrev pub plain_line : ℕ → PlainWord → List (List ℕ) → Said
-plain_line n plain.IfAlert words = if_alert_of n words
+abbrev pub message_line : Board → ℕ → MessageWord → ℕ → List (List ℕ) → Parsed
+message_line board n message.Quick place words = quick_of board n place words
+message_line board n message.Send place words = send_of board n place words
+message_line board n message.Receive place words = receive_of board n place words
+message_line board n message.Write place words = write_of board n place words
+message_line board n message.Read place words = read_of board n place words
+message_line board n message.Call place words = call_of board n place words
+message_line board n message.BlockWrite place words = block_write_of board n place words
+message_line board n message.BlockRead place words = block_read_of board n place words
+message_line board n message.BlockCall place words = block_call_of board n place words
+message_line board n message.Alert place words = alert_of n place words
+
+abbrev pub jump_line : ℕ → JumpWord → ℕ → List (List ℕ) → Parsed
+jump_line n jump.IfAlert place words = if_alert_of n place words
+jump_line n jump.If place words = if_of n place words
+jump_line n jump.Above place words = above_of n place words
+jump_line n jump.Again place words = again_of n place words
+jump_line n jump.Goto place words = goto_of n place words
+
+abbrev pub plain_line : ℕ → PlainWord → List (List ℕ) → Parsed
 plain_line n plain.Set words = set_of n words
 plain_line n plain.Add words = add_of n words
-plain_line n plain.If words = if_of n words
-plain_line n plain.Above words = above_of n words
 plain_line n plain.Count words = count_of n words
-plain_line n plain.Again words = again_of n words
 plain_line n plain.Wait words = wait_of n words
-plain_line n plain.Goto words = goto_of n words
 plain_line n plain.End words = end_of n words
 plain_line n plain.Fail words = fail_of n words
 
-abbrev pub worded : Board → ℕ → Option MessageWord → Option PlainWord → List (List ℕ) → Said
-worded board n (Some word) other words = split_else n words >>= λ parts.
-    message_line board n word parts.1 parts.0
-worded board n None (Some word) words = plain_line n word words
-worded board n None None words = Err (UnknownWord n)
+-- where a label leads: to some place if it stands nowhere, since there the text is no program
+abbrev pub jump_to : List Label → List ℕ → Jump
+jump_to labels name = record {
+  place = unwrap_or (place_of labels name) 0;
+  is_known = is_some (place_of labels name);
+}
 
--- the instruction of a line's words
-unfoldable pub instr_of : Board → ℕ → List ℕ → List (List ℕ) → Said
-instr_of board n word words = worded board n (message_word word) (plain_word word) words
+-- an instruction whose label is known or not
+abbrev pub said : Bool → Parsed → Result Said ProgramFault
+said is_known parsed = parsed >>= λ i. Ok (record { instr = i; is_known = is_known })
+
+unfoldable pub message_of : Board → List Label → ℕ → MessageWord → List (List ℕ)
+    → Result Said ProgramFault
+message_of board labels n word words = do
+  parts ← split_else n words
+  said (jump_to labels parts.1).is_known
+      (message_line board n word (jump_to labels parts.1).place parts.0)
+
+unfoldable pub jump_of : List Label → ℕ → JumpWord → List (List ℕ) → Result Said ProgramFault
+jump_of labels n word words = do
+  parts ← split_label n words
+  said (jump_to labels parts.1).is_known
+      (jump_line n word (jump_to labels parts.1).place parts.0)
+
+abbrev pub worded : Board → List Label → ℕ → Option MessageWord → Option JumpWord
+    → Option PlainWord → List (List ℕ) → Result Said ProgramFault
+worded board labels n (Some word) jumping other words = message_of board labels n word words
+worded board labels n None (Some word) other words = jump_of labels n word words
+worded board labels n None None (Some word) words = said true (plain_line n word words)
+worded board labels n None None None words = Err (UnknownWord n)
+
+-- what a line's words say
+unfoldable pub instr_of : Board → List Label → ℕ → List ℕ → List (List ℕ)
+    → Result Said ProgramFault
+instr_of board labels n word words =
+    worded board labels n (message_word word) (jump_word word) (plain_word word) words

@@ -17,9 +17,9 @@ use Rattle.seq_program.specs.declared.instr.Written.TheVariants as written
 use Rattle.seq_program.specs.Operands.{register_of, direction_of, number_within, block_of}
 use Rattle.seq_program.specs.CommandWords.{command_in, sized_in}
 
--- an instruction whose jumps are labels
-abbrev pub Said : Type 0
-Said = Result (Instr (List ℕ)) ProgramFault
+-- the instruction of a line's operands, or the line's fault
+abbrev pub Parsed : Type 0
+Parsed = Result Instr ProgramFault
 
 unfoldable pub target_of : Board → ℕ → List ℕ → Result ℕ ProgramFault
 target_of board n word = some_or (UnknownTarget n) (place_of_name word board.target_names)
@@ -27,29 +27,33 @@ target_of board n word = some_or (UnknownTarget n) (place_of_name word board.tar
 unfoldable pub number_in : ℕ → ℕ → ℕ → List ℕ → Result ℕ ProgramFault
 number_in n low high word = some_or (BadNumber n) (number_within low high word)
 
+-- a number of 16 bits
+unfoldable pub word_in : ℕ → List ℕ → Result ℕ ProgramFault
+word_in n word = number_in n 0 65535 word
+
 -- `T r` or `T w`
-unfoldable pub quick_of : Board → ℕ → List ℕ → List (List ℕ) → Said
-quick_of board n label (t ∷ d ∷ []) = do
+unfoldable pub quick_of : Board → ℕ → ℕ → List (List ℕ) → Parsed
+quick_of board n place (t ∷ d ∷ []) = do
   read ← some_or (BadOperand n) (direction_of d)
   target ← target_of board n t
-  Ok (instr.Quick target read label)
-quick_of board n label _ = Err (BadOperand n)
+  Ok (instr.Quick target read place)
+quick_of board n place _ = Err (BadOperand n)
 
 -- `T C`
-unfoldable pub send_of : Board → ℕ → List ℕ → List (List ℕ) → Said
-send_of board n label (t ∷ c ∷ []) = do
+unfoldable pub send_of : Board → ℕ → ℕ → List (List ℕ) → Parsed
+send_of board n place (t ∷ c ∷ []) = do
   target ← target_of board n t
   command ← some_or (UnknownCommand n) (command_in form.SendByte c)
-  Ok (instr.Send target command label)
-send_of board n label _ = Err (BadOperand n)
+  Ok (instr.Send target command place)
+send_of board n place _ = Err (BadOperand n)
 
 -- `T rN`
-unfoldable pub receive_of : Board → ℕ → List ℕ → List (List ℕ) → Said
-receive_of board n label (t ∷ r ∷ []) = do
+unfoldable pub receive_of : Board → ℕ → ℕ → List (List ℕ) → Parsed
+receive_of board n place (t ∷ r ∷ []) = do
   register ← some_or (BadOperand n) (register_of r)
   target ← target_of board n t
-  Ok (instr.Receive target register label)
-receive_of board n label _ = Err (BadOperand n)
+  Ok (instr.Receive target register place)
+receive_of board n place _ = Err (BadOperand n)
 
 -- the register that is written, which only VOUT_COMMAND may have
 abbrev pub source_for : ℕ → List ℕ → Option ℕ → Result (Option ℕ) ProgramFault
@@ -67,65 +71,65 @@ written_of width.Byte None value = option_map written.Byte (number_within 0 255 
 written_of width.Word None value = option_map written.Word (number_within 0 65535 value)
 
 -- `T C V`
-unfoldable pub write_of : Board → ℕ → List ℕ → List (List ℕ) → Said
-write_of board n label (t ∷ c ∷ v ∷ []) = do
+unfoldable pub write_of : Board → ℕ → ℕ → List (List ℕ) → Parsed
+write_of board n place (t ∷ c ∷ v ∷ []) = do
   source ← source_of n c v
   target ← target_of board n t
   sized ← some_or (UnknownCommand n) (sized_in form.WriteByte form.WriteWord c)
   value ← some_or (BadNumber n) (written_of sized.1 source v)
-  Ok (instr.Write target sized.0 value label)
-write_of board n label _ = Err (BadOperand n)
+  Ok (instr.Write target sized.0 value place)
+write_of board n place _ = Err (BadOperand n)
 
 -- `T C rN`
-unfoldable pub read_of : Board → ℕ → List ℕ → List (List ℕ) → Said
-read_of board n label (t ∷ c ∷ r ∷ []) = do
+unfoldable pub read_of : Board → ℕ → ℕ → List (List ℕ) → Parsed
+read_of board n place (t ∷ c ∷ r ∷ []) = do
   register ← some_or (BadOperand n) (register_of r)
   target ← target_of board n t
   sized ← some_or (UnknownCommand n) (sized_in form.ReadByte form.ReadWord c)
-  Ok (instr.Read target sized.0 sized.1 register label)
-read_of board n label _ = Err (BadOperand n)
+  Ok (instr.Read target sized.0 sized.1 register place)
+read_of board n place _ = Err (BadOperand n)
 
 -- `T C V rN`
-unfoldable pub call_of : Board → ℕ → List ℕ → List (List ℕ) → Said
-call_of board n label (t ∷ c ∷ v ∷ r ∷ []) = do
+unfoldable pub call_of : Board → ℕ → ℕ → List (List ℕ) → Parsed
+call_of board n place (t ∷ c ∷ v ∷ r ∷ []) = do
   register ← some_or (BadOperand n) (register_of r)
   target ← target_of board n t
   command ← some_or (UnknownCommand n) (command_in form.ProcessCall c)
-  value ← number_in n 0 65535 v
-  Ok (instr.Call target command value register label)
-call_of board n label _ = Err (BadOperand n)
+  value ← word_in n v
+  Ok (instr.Call target command value register place)
+call_of board n place _ = Err (BadOperand n)
 
 -- `T C X`
-unfoldable pub block_write_of : Board → ℕ → List ℕ → List (List ℕ) → Said
-block_write_of board n label (t ∷ c ∷ x ∷ []) = do
+unfoldable pub block_write_of : Board → ℕ → ℕ → List (List ℕ) → Parsed
+block_write_of board n place (t ∷ c ∷ x ∷ []) = do
   bytes ← some_or (BadOperand n) (block_of 255 x)
   target ← target_of board n t
   command ← some_or (UnknownCommand n) (command_in form.BlockWrite c)
-  Ok (instr.BlockWrite target command bytes label)
-block_write_of board n label _ = Err (BadOperand n)
+  Ok (instr.BlockWrite target command bytes place)
+block_write_of board n place _ = Err (BadOperand n)
 
 -- `T C rN`
-unfoldable pub block_read_of : Board → ℕ → List ℕ → List (List ℕ) → Said
-block_read_of board n label (t ∷ c ∷ r ∷ []) = do
+unfoldable pub block_read_of : Board → ℕ → ℕ → List (List ℕ) → Parsed
+block_read_of board n place (t ∷ c ∷ r ∷ []) = do
   register ← some_or (BadOperand n) (register_of r)
   target ← target_of board n t
   command ← some_or (UnknownCommand n) (command_in form.BlockRead c)
-  Ok (instr.BlockRead target command register label)
-block_read_of board n label _ = Err (BadOperand n)
+  Ok (instr.BlockRead target command register place)
+block_read_of board n place _ = Err (BadOperand n)
 
 -- `T C X rN`, where at least one byte of the 255 is left for the answer
-unfoldable pub block_call_of : Board → ℕ → List ℕ → List (List ℕ) → Said
-block_call_of board n label (t ∷ c ∷ x ∷ r ∷ []) = do
+unfoldable pub block_call_of : Board → ℕ → ℕ → List (List ℕ) → Parsed
+block_call_of board n place (t ∷ c ∷ x ∷ r ∷ []) = do
   bytes ← some_or (BadOperand n) (block_of 254 x)
   register ← some_or (BadOperand n) (register_of r)
   target ← target_of board n t
   command ← some_or (UnknownCommand n) (command_in form.BlockProcessCall c)
-  Ok (instr.BlockCall target command bytes register label)
-block_call_of board n label _ = Err (BadOperand n)
+  Ok (instr.BlockCall target command bytes register place)
+block_call_of board n place _ = Err (BadOperand n)
 
 -- `rN`
-unfoldable pub alert_of : ℕ → List ℕ → List (List ℕ) → Said
-alert_of n label (r ∷ []) = do
+unfoldable pub alert_of : ℕ → ℕ → List (List ℕ) → Parsed
+alert_of n place (r ∷ []) = do
   register ← some_or (BadOperand n) (register_of r)
-  Ok (instr.Alert register label)
-alert_of n label _ = Err (BadOperand n)
+  Ok (instr.Alert register place)
+alert_of n place _ = Err (BadOperand n)

@@ -35,7 +35,7 @@ message_to board target form code out =
 abbrev pub alert_message : Asked
 alert_message = record { address = 0x0C; form = form.Alert; code = 0; out = [] }
 
-abbrev pub message_of : Board → Instr ℕ → List ℕ → Option Asked
+abbrev pub message_of : Board → Instr → List ℕ → Option Asked
 message_of board (instr.Quick target read otherwise) registers =
     message_to board target (form.Quick read) 0 []
 message_of board (instr.Send target command otherwise) registers =

@@ -25,7 +25,7 @@ written_words command (written.Register register) =
     sized_name command width.Word ∷ register_name register ∷ []
 
 -- the words of an instruction, in the order of docs/PROGRAM.md
-abbrev pub words_in : Board → Instr ℕ → List (List ℕ)
+abbrev pub words_in : Board → Instr → List (List ℕ)
 words_in board (instr.Quick target read place) =
     codes "quick" ∷ target_name board target ∷ direction_name read ∷ else_words place
 words_in board (instr.Send target command place) =
@@ -70,12 +70,12 @@ words_in board instr.End = codes "end" ∷ []
 words_in board instr.Fail = codes "fail" ∷ []
 
 -- a place's lines: its label, and its instruction
-abbrev pub place_lines : Board → ℕ × Instr ℕ → List (List (List ℕ))
+abbrev pub place_lines : Board → ℕ × Instr → List (List (List ℕ))
 place_lines board e = ((place_name e.0 ++ codes ":") ∷ []) ∷ words_in board e.1 ∷ []
 
 -- one space between words, and LF at the end
 abbrev pub line_text : List (List ℕ) → List ℕ
 line_text words = join_with_byte 32 words ++ 10 ∷ []
 
-abbrev pub printed : Board → List (Instr ℕ) → List ℕ
+abbrev pub printed : Board → List Instr → List ℕ
 printed board instrs = flat_map line_text (flat_map (place_lines board) (enumerate_from 0 instrs))

@@ -15,7 +15,7 @@ use Rattle.seq_program.specs.declared.instr.Written.TheVariants as written
 use Rattle.seq_program.specs.Programs.{is_end}
 
 -- the target that an instruction sends to
-abbrev pub target_in : {L : Type 0} → Instr L → Option ℕ
+abbrev pub target_in : Instr → Option ℕ
 target_in (instr.Quick target read otherwise) = Some target
 target_in (instr.Send target command otherwise) = Some target
 target_in (instr.Receive target register otherwise) = Some target
@@ -28,7 +28,7 @@ target_in (instr.BlockCall target command bytes register otherwise) = Some targe
 target_in _ = None
 
 -- where it may jump to
-abbrev pub jump_in : {L : Type 0} → Instr L → Option L
+abbrev pub jump_in : Instr → Option ℕ
 jump_in (instr.Quick target read otherwise) = Some otherwise
 jump_in (instr.Send target command otherwise) = Some otherwise
 jump_in (instr.Receive target register otherwise) = Some otherwise
@@ -45,6 +45,10 @@ jump_in (instr.Above register value jump) = Some jump
 jump_in (instr.Again counter jump) = Some jump
 jump_in (instr.Goto jump) = Some jump
 jump_in _ = None
+
+-- it jumps nowhere but to this place
+abbrev pub JumpsTo : ℕ → Instr → Type 0
+JumpsTo place i = IfSome (jump_in i) (λ p. p ≡ place)
 
 -- the forms that write and read so much
 abbrev pub written_form : Width → Form
@@ -68,7 +72,7 @@ IsBlock most bytes =
     (1 ≤ length bytes) × (length bytes ≤ most) × AllByRecursion (λ b. b < 256) bytes
 
 -- commands take their forms, and operands are in their ranges
-abbrev pub IsInstr : {L : Type 0} → Instr L → Type 0
+abbrev pub IsInstr : Instr → Type 0
 IsInstr (instr.Quick target read otherwise) = Unit {0}
 IsInstr (instr.Send target command otherwise) = IsTrue (takes_form command form.SendByte)
 IsInstr (instr.Receive target register otherwise) = register < 8
@@ -97,14 +101,14 @@ IsInstr instr.End = Unit {0}
 IsInstr instr.Fail = Unit {0}
 
 -- its target is one of so many
-abbrev pub IsOnBoard : {L : Type 0} → ℕ → Instr L → Type 0
+abbrev pub IsOnBoard : ℕ → Instr → Type 0
 IsOnBoard targets i = IfSome (target_in i) (λ t. t < targets)
 
 -- an instruction that was read for a board
-abbrev pub IsSaid : {L : Type 0} → ℕ → Instr L → Type 0
+abbrev pub IsSaid : ℕ → Instr → Type 0
 IsSaid targets i = IsInstr i × IsOnBoard targets i
 
-pub record IsProgram (instrs : List (Instr ℕ)) : Type 0 where
+pub record IsProgram (instrs : List Instr) : Type 0 where
   pub some : 1 ≤ length instrs
   pub few : length instrs ≤ 1024
   pub each : All (λ i. IsInstr i) instrs

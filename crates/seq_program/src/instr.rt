@@ -111,70 +111,70 @@ pub enum Written {
     Register(Register),
 }
 
-/// An instruction. Targets are numbered as on the board. Its jumps are places, or labels while a
-/// text is read; `otherwise` is where a message leads that isn't done.
+/// An instruction. Targets are numbered as on the board, and jumps are places; `otherwise` is where
+/// a message leads that isn't done.
 #[derive(Debug, Drop)]
-pub enum Instr<L> {
+pub enum Instr {
     Quick {
         target: usize,
         read: bool,
-        otherwise: L,
+        otherwise: usize,
     },
     Send {
         target: usize,
         command: Command,
-        otherwise: L,
+        otherwise: usize,
     },
     Receive {
         target: usize,
         register: Register,
-        otherwise: L,
+        otherwise: usize,
     },
     Write {
         target: usize,
         command: Command,
         value: Written,
-        otherwise: L,
+        otherwise: usize,
     },
     Read {
         target: usize,
         command: Command,
         width: Width,
         register: Register,
-        otherwise: L,
+        otherwise: usize,
     },
     Call {
         target: usize,
         command: Command,
         value: u16,
         register: Register,
-        otherwise: L,
+        otherwise: usize,
     },
     BlockWrite {
         target: usize,
         command: Command,
         bytes: Block,
-        otherwise: L,
+        otherwise: usize,
     },
     BlockRead {
         target: usize,
         command: Command,
         register: Register,
-        otherwise: L,
+        otherwise: usize,
     },
     BlockCall {
         target: usize,
         command: Command,
         bytes: Block,
         register: Register,
-        otherwise: L,
+        otherwise: usize,
     },
     Alert {
         register: Register,
-        otherwise: L,
+        otherwise: usize,
     },
     IfAlert {
-        jump: L,
+        jump: usize,
     },
     Set {
         register: Register,
@@ -189,13 +189,13 @@ pub enum Instr<L> {
         register: Register,
         mask: u16,
         value: u16,
-        jump: L,
+        jump: usize,
     },
     /// Jumps where the register is greater than the value.
     Above {
         register: Register,
         value: u16,
-        jump: L,
+        jump: usize,
     },
     Count {
         counter: Counter,
@@ -204,13 +204,13 @@ pub enum Instr<L> {
     /// Takes one off the counter and jumps, where it is over 0.
     Again {
         counter: Counter,
-        jump: L,
+        jump: usize,
     },
     Wait {
         ticks: u32,
     },
     Goto {
-        jump: L,
+        jump: usize,
     },
     End,
     Fail,

@@ -4,6 +4,8 @@
 mod command;
 mod fault;
 mod instr;
+mod jump_line;
+mod labels;
 mod law;
 mod line;
 mod message;

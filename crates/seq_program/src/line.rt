@@ -1,16 +1,19 @@
 //! The instruction of a line, by its first word.
 
-ghost use Rattle.std.specs.Prelude.{◌≡◌, ℕ, length, map, option_copied, IfOk};
+ghost use Rattle.std.specs.Prelude.{◌≡◌, ℕ, length, map, option_copied, IfOk, IsTrue, None};
 ghost use Rattle.seq_program.specs.Reading.{Gives};
-ghost use Rattle.seq_program.specs.Views.{map_jump};
-ghost use Rattle.seq_program.specs.Valid.{IsSaid};
-ghost use Rattle.seq_program.specs.Lines.{message_word, plain_word, else_label, split_else};
-ghost use Rattle.seq_program.specs.Lines.{message_line, plain_line, instr_of};
+ghost use Rattle.seq_program.specs.Valid.{IsSaid, JumpsTo, jump_in};
+ghost use Rattle.seq_program.specs.PassViews.{labels_view, IsAmong, Lands};
+ghost use Rattle.seq_program.specs.Lines.{message_word, jump_word, plain_word, else_label};
+ghost use Rattle.seq_program.specs.Lines.{split_else, split_label, message_line, jump_line};
+ghost use Rattle.seq_program.specs.Lines.{plain_line, jump_to, message_of, jump_of, instr_of};
 
 use crate::fault::ProgramFault;
-use crate::message_line::Said;
+use crate::instr::Instr;
+use crate::labels::{Labels, place_of};
+use crate::message_line::Parsed;
 use crate::operand::label_of;
-use crate::{message_line as message, plain_line as plain};
+use crate::{jump_line as jump, message_line as message, plain_line as plain};
 use board::Board;
 use std::alloc::Global;
 
@@ -29,20 +32,39 @@ pub(crate) enum MessageWord {
     Alert,
 }
 
+/// The first word of a line that jumps and sends nothing.
+#[derive(Clone, Copy, Debug, PartialEq, Eq)]
+pub(crate) enum JumpWord {
+    IfAlert,
+    If,
+    Above,
+    Again,
+    Goto,
+}
+
 /// The first word of another line.
 #[derive(Clone, Copy, Debug, PartialEq, Eq)]
 pub(crate) enum PlainWord {
-    IfAlert,
     Set,
     Add,
-    If,
-    Above,
     Count,
-    Again,
     Wait,
-    Goto,
     End,
     Fail,
+}
+
+/// Where a label leads: to some place if it stands nowhere.
+#[derive(Clone, Copy, Debug)]
+pub(crate) struct Jump {
+    pub place: usize,
+    pub is_known: bool,
+}
+
+/// An instruction, and whether the label of its jump stands anywhere.
+#[derive(Debug, Drop)]
+pub(crate) struct Said {
+    pub instr: Instr,
+    pub is_known: bool,
 }
 
 fn message_word(word: &str) -> Option<MessageWord>
@@ -63,19 +85,27 @@ fn message_word(word: &str) -> Option<MessageWord>
     })
 }
 
+fn jump_word(word: &str) -> Option<JumpWord>
+    ensures { result ≡ jump_word word.now }
+{
+    Some(match word {
+        "ifalert" => JumpWord::IfAlert,
+        "if" => JumpWord::If,
+        "above" => JumpWord::Above,
+        "again" => JumpWord::Again,
+        "goto" => JumpWord::Goto,
+        _ => return None,
+    })
+}
+
 fn plain_word(word: &str) -> Option<PlainWord>
     ensures { result ≡ plain_word word.now }
 {
     Some(match word {
-        "ifalert" => PlainWord::IfAlert,
         "set" => PlainWord::Set,
         "add" => PlainWord::Add,
-        "if" => PlainWord::If,
-        "above" => PlainWord::Above,
         "count" => PlainWord::Count,
-        "again" => PlainWord::Again,
         "wait" => PlainWord::Wait,
-        "goto" => PlainWord::Goto,
         "end" => PlainWord::End,
         "fail" => PlainWord::Fail,
         _ => return None,
@@ -108,71 +138,162 @@ fn split_else<'w, 'a>(
     Ok((operands, label))
 }
 
-fn message_line<'a>(
+/// The words before a label at the end, and the label.
+#[tactic(auto, unfolding(crate::specs::Lines::split_label))]
+fn split_label<'w, 'a>(
+    line: usize,
+    words: &'w [&'a str],
+) -> Result<(&'w [&'a str], &'a str), ProgramFault>
+    ensures { Gives (λ parts. (map (λ w. w.now) parts.0.now, parts.1.now)) result
+        (split_label line (map (λ w. w.now) words.now)) }
+{
+    let [operands @ .., label] = words else {
+        return Err(ProgramFault::BadOperand(line));
+    };
+    let label = label_of(label).ok_or(ProgramFault::BadOperand(line))?;
+    Ok((operands, label))
+}
+
+fn message_line(
     alloc: Global,
     board: &Board,
     line: usize,
     word: MessageWord,
-    label: &'a str,
+    otherwise: usize,
     words: &[&str],
-) -> Said<'a>
+) -> Parsed
     ensures fits { IfOk result (λ i. IsSaid (length board.now.targets) i) }
-    ensures value { Gives (map_jump (λ l. l.now)) result
-        (message_line board.now line word label.now (map (λ w. w.now) words.now)) }
+    ensures jumps { IfOk result (λ i. JumpsTo otherwise i) }
+    ensures value { Gives (λ i. i) result
+        (message_line board.now line word otherwise (map (λ w. w.now) words.now)) }
 {
     match word {
-        MessageWord::Quick => message::quick_of(board, line, label, words),
-        MessageWord::Send => message::send_of(board, line, label, words),
-        MessageWord::Receive => message::receive_of(board, line, label, words),
-        MessageWord::Write => message::write_of(board, line, label, words),
-        MessageWord::Read => message::read_of(board, line, label, words),
-        MessageWord::Call => message::call_of(board, line, label, words),
-        MessageWord::BlockWrite => message::block_write_of(alloc, board, line, label, words),
-        MessageWord::BlockRead => message::block_read_of(board, line, label, words),
-        MessageWord::BlockCall => message::block_call_of(alloc, board, line, label, words),
-        MessageWord::Alert => message::alert_of(line, label, words),
+        MessageWord::Quick => message::quick_of(board, line, otherwise, words),
+        MessageWord::Send => message::send_of(board, line, otherwise, words),
+        MessageWord::Receive => message::receive_of(board, line, otherwise, words),
+        MessageWord::Write => message::write_of(board, line, otherwise, words),
+        MessageWord::Read => message::read_of(board, line, otherwise, words),
+        MessageWord::Call => message::call_of(board, line, otherwise, words),
+        MessageWord::BlockWrite => message::block_write_of(alloc, board, line, otherwise, words),
+        MessageWord::BlockRead => message::block_read_of(board, line, otherwise, words),
+        MessageWord::BlockCall => message::block_call_of(alloc, board, line, otherwise, words),
+        MessageWord::Alert => message::alert_of(line, otherwise, words),
     }
 }
 
-fn plain_line<'a>(line: usize, word: PlainWord, words: &[&'a str]) -> Said<'a>
+fn jump_line(line: usize, word: JumpWord, place: usize, words: &[&str]) -> Parsed
     ensures fits { IfOk result (λ i. (targets : ℕ) → IsSaid targets i) }
-    ensures value { Gives (map_jump (λ l. l.now)) result
-        (plain_line line word (map (λ w. w.now) words.now)) }
+    ensures jumps { IfOk result (λ i. JumpsTo place i) }
+    ensures value { Gives (λ i. i) result
+        (jump_line line word place (map (λ w. w.now) words.now)) }
 {
     match word {
-        PlainWord::IfAlert => plain::if_alert_of(line, words),
+        JumpWord::IfAlert => jump::if_alert_of(line, place, words),
+        JumpWord::If => jump::if_of(line, place, words),
+        JumpWord::Above => jump::above_of(line, place, words),
+        JumpWord::Again => jump::again_of(line, place, words),
+        JumpWord::Goto => jump::goto_of(line, place, words),
+    }
+}
+
+fn plain_line(line: usize, word: PlainWord, words: &[&str]) -> Parsed
+    ensures fits { IfOk result (λ i. (targets : ℕ) → IsSaid targets i) }
+    ensures jumps { IfOk result (λ i. jump_in i ≡ None) }
+    ensures value { Gives (λ i. i) result (plain_line line word (map (λ w. w.now) words.now)) }
+{
+    match word {
         PlainWord::Set => plain::set_of(line, words),
         PlainWord::Add => plain::add_of(line, words),
-        PlainWord::If => plain::if_of(line, words),
-        PlainWord::Above => plain::above_of(line, words),
         PlainWord::Count => plain::count_of(line, words),
-        PlainWord::Again => plain::again_of(line, words),
         PlainWord::Wait => plain::wait_of(line, words),
-        PlainWord::Goto => plain::goto_of(line, words),
         PlainWord::End => plain::end_of(line, words),
         PlainWord::Fail => plain::fail_of(line, words),
     }
 }
 
-/// The instruction of a line's words.
-#[tactic(auto, unfolding(crate::specs::Lines::instr_of))]
-pub(crate) fn instr_of<'a>(
+fn jump_to(labels: &Labels, name: &str) -> Jump
+    ensures value { result ≡ jump_to (labels_view labels.now) name.now }
+    ensures among { IsTrue result.is_known → IsAmong (labels_view labels.now) result.place }
+{
+    let place = place_of(labels, name);
+    Jump {
+        place: place.unwrap_or(0),
+        is_known: place.is_some(),
+    }
+}
+
+#[tactic(auto, unfolding(crate::specs::Lines::message_of))]
+fn message_of(
     alloc: Global,
     board: &Board,
+    labels: &Labels,
+    line: usize,
+    word: MessageWord,
+    words: &[&str],
+) -> Result<Said, ProgramFault>
+    ensures fits { IfOk result (λ said. IsSaid (length board.now.targets) said.instr) }
+    ensures lands { IfOk result
+        (λ said. IsTrue said.is_known → Lands (labels_view labels.now) said.instr) }
+    ensures value { Gives (λ said. said) result
+        (message_of board.now (labels_view labels.now) line word (map (λ w. w.now) words.now)) }
+{
+    let (operands, label) = split_else(line, words)?;
+    let jump = jump_to(labels, label);
+    let instr = message_line(alloc, board, line, word, jump.place, operands)?;
+    Ok(Said {
+        instr,
+        is_known: jump.is_known,
+    })
+}
+
+#[tactic(auto, unfolding(crate::specs::Lines::jump_of))]
+fn jump_of(
+    labels: &Labels,
+    line: usize,
+    word: JumpWord,
+    words: &[&str],
+) -> Result<Said, ProgramFault>
+    ensures fits { IfOk result (λ said. (targets : ℕ) → IsSaid targets said.instr) }
+    ensures lands { IfOk result
+        (λ said. IsTrue said.is_known → Lands (labels_view labels.now) said.instr) }
+    ensures value { Gives (λ said. said) result
+        (jump_of (labels_view labels.now) line word (map (λ w. w.now) words.now)) }
+{
+    let (operands, label) = split_label(line, words)?;
+    let jump = jump_to(labels, label);
+    let instr = jump_line(line, word, jump.place, operands)?;
+    Ok(Said {
+        instr,
+        is_known: jump.is_known,
+    })
+}
+
+/// What a line's words say.
+#[tactic(auto, unfolding(crate::specs::Lines::instr_of))]
+pub(crate) fn instr_of(
+    alloc: Global,
+    board: &Board,
+    labels: &Labels,
     line: usize,
     word: &str,
-    words: &[&'a str],
-) -> Said<'a>
-    ensures fits { IfOk result (λ i. IsSaid (length board.now.targets) i) }
-    ensures value { Gives (map_jump (λ l. l.now)) result
-        (instr_of board.now line word.now (map (λ w. w.now) words.now)) }
+    words: &[&str],
+) -> Result<Said, ProgramFault>
+    ensures fits { IfOk result (λ said. IsSaid (length board.now.targets) said.instr) }
+    ensures lands { IfOk result
+        (λ said. IsTrue said.is_known → Lands (labels_view labels.now) said.instr) }
+    ensures value { Gives (λ said. said) result
+        (instr_of board.now (labels_view labels.now) line word.now (map (λ w. w.now) words.now)) }
 {
     if let Some(word) = message_word(word) {
-        let (operands, label) = split_else(line, words)?;
-        return message_line(alloc, board, line, word, label, operands);
+        return message_of(alloc, board, labels, line, word, words);
     }
-    match plain_word(word) {
-        Some(word) => plain_line(line, word, words),
-        None => Err(ProgramFault::UnknownWord(line)),
+    if let Some(word) = jump_word(word) {
+        return jump_of(labels, line, word, words);
     }
+    let word = plain_word(word).ok_or(ProgramFault::UnknownWord(line))?;
+    let instr = plain_line(line, word, words)?;
+    Ok(Said {
+        instr,
+        is_known: true,
+    })
 }

@@ -85,7 +85,7 @@ fn message_to(board: &Board, target: usize, form: Form, code: u8, out: Vec<u8>) 
 pub fn message_of(
     alloc: Global,
     board: &Board,
-    instr: &Instr<usize>,
+    instr: &Instr,
     registers: &[u16; 8],
 ) -> Result<Option<Message>, AllocError>
     ensures { IfOk result (λ m. m ≡ message_of board.now instr.now registers.now) }

@@ -3,9 +3,9 @@
 ghost use Rattle.std.specs.Prelude.{◌≡◌, ◌≤◌, ◌<◌, ℕ, length, map, codes, IfOk, IfSome};
 ghost use Rattle.board.specs.Boards.{place_of_name};
 ghost use Rattle.seq_program.specs.Reading.{Gives};
-ghost use Rattle.seq_program.specs.Views.{map_jump};
-ghost use Rattle.seq_program.specs.Valid.{IsSaid, IsWritten, written_form};
-ghost use Rattle.seq_program.specs.MessageLines.{target_of, number_in, quick_of, send_of};
+ghost use Rattle.seq_program.specs.Valid.{IsSaid, JumpsTo, IsWritten, written_form};
+ghost use Rattle.seq_program.specs.MessageLines.{target_of, number_in, word_in, quick_of};
+ghost use Rattle.seq_program.specs.MessageLines.{send_of};
 ghost use Rattle.seq_program.specs.MessageLines.{receive_of, source_for, source_of, written_of};
 ghost use Rattle.seq_program.specs.MessageLines.{write_of, read_of, call_of, block_write_of};
 ghost use Rattle.seq_program.specs.MessageLines.{block_read_of, block_call_of, alert_of};
@@ -18,8 +18,8 @@ use board::Board;
 use smbus::Form;
 use std::alloc::Global;
 
-/// An instruction whose jumps are labels.
-pub(crate) type Said<'a> = Result<Instr<&'a str>, ProgramFault>;
+/// The instruction of a line's operands, or the line's fault.
+pub(crate) type Parsed = Result<Instr, ProgramFault>;
 
 fn target_named(board: &Board, word: &str) -> Option<usize>
     ensures value { result ≡ place_of_name word.now board.now.target_names }
@@ -44,16 +44,22 @@ pub(crate) fn number_in(line: usize, low: u32, high: u32, word: &str) -> Result<
     number_within(low, high, word).ok_or(ProgramFault::BadNumber(line))
 }
 
+/// A number of 16 bits.
+#[tactic(auto, unfolding(crate::specs::MessageLines::word_in))]
+pub(crate) fn word_in(line: usize, word: &str) -> Result<u16, ProgramFault>
+    ensures value { Gives (λ n. n) result (word_in line word.now) }
+    ensures within { IfOk result (λ n. n ≤ 65535) }
+{
+    let number = number_in(line, 0, 65_535, word)?;
+    Ok(number as u16)
+}
+
 #[tactic(auto, unfolding(crate::specs::MessageLines::quick_of))]
-pub(crate) fn quick_of<'a>(
-    board: &Board,
-    line: usize,
-    otherwise: &'a str,
-    words: &[&str],
-) -> Said<'a>
+pub(crate) fn quick_of(board: &Board, line: usize, otherwise: usize, words: &[&str]) -> Parsed
     ensures fits { IfOk result (λ i. IsSaid (length board.now.targets) i) }
-    ensures value { Gives (map_jump (λ l. l.now)) result
-        (quick_of board.now line otherwise.now (map (λ w. w.now) words.now)) }
+    ensures jumps { IfOk result (λ i. JumpsTo otherwise i) }
+    ensures value { Gives (λ i. i) result
+        (quick_of board.now line otherwise (map (λ w. w.now) words.now)) }
 {
     let [target, direction] = words else {
         return Err(ProgramFault::BadOperand(line));
@@ -68,15 +74,11 @@ pub(crate) fn quick_of<'a>(
 }
 
 #[tactic(auto, unfolding(crate::specs::MessageLines::send_of))]
-pub(crate) fn send_of<'a>(
-    board: &Board,
-    line: usize,
-    otherwise: &'a str,
-    words: &[&str],
-) -> Said<'a>
+pub(crate) fn send_of(board: &Board, line: usize, otherwise: usize, words: &[&str]) -> Parsed
     ensures fits { IfOk result (λ i. IsSaid (length board.now.targets) i) }
-    ensures value { Gives (map_jump (λ l. l.now)) result
-        (send_of board.now line otherwise.now (map (λ w. w.now) words.now)) }
+    ensures jumps { IfOk result (λ i. JumpsTo otherwise i) }
+    ensures value { Gives (λ i. i) result
+        (send_of board.now line otherwise (map (λ w. w.now) words.now)) }
 {
     let [target, command] = words else {
         return Err(ProgramFault::BadOperand(line));
@@ -91,15 +93,11 @@ pub(crate) fn send_of<'a>(
 }
 
 #[tactic(auto, unfolding(crate::specs::MessageLines::receive_of))]
-pub(crate) fn receive_of<'a>(
-    board: &Board,
-    line: usize,
-    otherwise: &'a str,
-    words: &[&str],
-) -> Said<'a>
+pub(crate) fn receive_of(board: &Board, line: usize, otherwise: usize, words: &[&str]) -> Parsed
     ensures fits { IfOk result (λ i. IsSaid (length board.now.targets) i) }
-    ensures value { Gives (map_jump (λ l. l.now)) result
-        (receive_of board.now line otherwise.now (map (λ w. w.now) words.now)) }
+    ensures jumps { IfOk result (λ i. JumpsTo otherwise i) }
+    ensures value { Gives (λ i. i) result
+        (receive_of board.now line otherwise (map (λ w. w.now) words.now)) }
 {
     let [target, register] = words else {
         return Err(ProgramFault::BadOperand(line));
@@ -156,15 +154,11 @@ fn written_of(width: Width, source: Option<Register>, value: &str) -> Option<Wri
 }
 
 #[tactic(auto, unfolding(crate::specs::MessageLines::write_of))]
-pub(crate) fn write_of<'a>(
-    board: &Board,
-    line: usize,
-    otherwise: &'a str,
-    words: &[&str],
-) -> Said<'a>
+pub(crate) fn write_of(board: &Board, line: usize, otherwise: usize, words: &[&str]) -> Parsed
     ensures fits { IfOk result (λ i. IsSaid (length board.now.targets) i) }
-    ensures value { Gives (map_jump (λ l. l.now)) result
-        (write_of board.now line otherwise.now (map (λ w. w.now) words.now)) }
+    ensures jumps { IfOk result (λ i. JumpsTo otherwise i) }
+    ensures value { Gives (λ i. i) result
+        (write_of board.now line otherwise (map (λ w. w.now) words.now)) }
 {
     let [target, command, value] = words else {
         return Err(ProgramFault::BadOperand(line));
@@ -184,15 +178,11 @@ pub(crate) fn write_of<'a>(
 }
 
 #[tactic(auto, unfolding(crate::specs::MessageLines::read_of))]
-pub(crate) fn read_of<'a>(
-    board: &Board,
-    line: usize,
-    otherwise: &'a str,
-    words: &[&str],
-) -> Said<'a>
+pub(crate) fn read_of(board: &Board, line: usize, otherwise: usize, words: &[&str]) -> Parsed
     ensures fits { IfOk result (λ i. IsSaid (length board.now.targets) i) }
-    ensures value { Gives (map_jump (λ l. l.now)) result
-        (read_of board.now line otherwise.now (map (λ w. w.now) words.now)) }
+    ensures jumps { IfOk result (λ i. JumpsTo otherwise i) }
+    ensures value { Gives (λ i. i) result
+        (read_of board.now line otherwise (map (λ w. w.now) words.now)) }
 {
     let [target, command, register] = words else {
         return Err(ProgramFault::BadOperand(line));
@@ -212,15 +202,11 @@ pub(crate) fn read_of<'a>(
 }
 
 #[tactic(auto, unfolding(crate::specs::MessageLines::call_of))]
-pub(crate) fn call_of<'a>(
-    board: &Board,
-    line: usize,
-    otherwise: &'a str,
-    words: &[&str],
-) -> Said<'a>
+pub(crate) fn call_of(board: &Board, line: usize, otherwise: usize, words: &[&str]) -> Parsed
     ensures fits { IfOk result (λ i. IsSaid (length board.now.targets) i) }
-    ensures value { Gives (map_jump (λ l. l.now)) result
-        (call_of board.now line otherwise.now (map (λ w. w.now) words.now)) }
+    ensures jumps { IfOk result (λ i. JumpsTo otherwise i) }
+    ensures value { Gives (λ i. i) result
+        (call_of board.now line otherwise (map (λ w. w.now) words.now)) }
 {
     let [target, command, value, register] = words else {
         return Err(ProgramFault::BadOperand(line));
@@ -228,7 +214,7 @@ pub(crate) fn call_of<'a>(
     let register = register_of(register).ok_or(ProgramFault::BadOperand(line))?;
     let target = target_of(board, line, target)?;
     let command = command_in(Form::ProcessCall, command).ok_or(ProgramFault::UnknownCommand(line))?;
-    let value = number_in(line, 0, 65_535, value)? as u16;
+    let value = word_in(line, value)?;
     Ok(Instr::Call {
         target,
         command,
@@ -239,16 +225,17 @@ pub(crate) fn call_of<'a>(
 }
 
 #[tactic(auto, unfolding(crate::specs::MessageLines::block_write_of))]
-pub(crate) fn block_write_of<'a>(
+pub(crate) fn block_write_of(
     alloc: Global,
     board: &Board,
     line: usize,
-    otherwise: &'a str,
+    otherwise: usize,
     words: &[&str],
-) -> Said<'a>
+) -> Parsed
     ensures fits { IfOk result (λ i. IsSaid (length board.now.targets) i) }
-    ensures value { Gives (map_jump (λ l. l.now)) result
-        (block_write_of board.now line otherwise.now (map (λ w. w.now) words.now)) }
+    ensures jumps { IfOk result (λ i. JumpsTo otherwise i) }
+    ensures value { Gives (λ i. i) result
+        (block_write_of board.now line otherwise (map (λ w. w.now) words.now)) }
 {
     let [target, command, bytes] = words else {
         return Err(ProgramFault::BadOperand(line));
@@ -265,15 +252,11 @@ pub(crate) fn block_write_of<'a>(
 }
 
 #[tactic(auto, unfolding(crate::specs::MessageLines::block_read_of))]
-pub(crate) fn block_read_of<'a>(
-    board: &Board,
-    line: usize,
-    otherwise: &'a str,
-    words: &[&str],
-) -> Said<'a>
+pub(crate) fn block_read_of(board: &Board, line: usize, otherwise: usize, words: &[&str]) -> Parsed
     ensures fits { IfOk result (λ i. IsSaid (length board.now.targets) i) }
-    ensures value { Gives (map_jump (λ l. l.now)) result
-        (block_read_of board.now line otherwise.now (map (λ w. w.now) words.now)) }
+    ensures jumps { IfOk result (λ i. JumpsTo otherwise i) }
+    ensures value { Gives (λ i. i) result
+        (block_read_of board.now line otherwise (map (λ w. w.now) words.now)) }
 {
     let [target, command, register] = words else {
         return Err(ProgramFault::BadOperand(line));
@@ -290,16 +273,17 @@ pub(crate) fn block_read_of<'a>(
 }
 
 #[tactic(auto, unfolding(crate::specs::MessageLines::block_call_of))]
-pub(crate) fn block_call_of<'a>(
+pub(crate) fn block_call_of(
     alloc: Global,
     board: &Board,
     line: usize,
-    otherwise: &'a str,
+    otherwise: usize,
     words: &[&str],
-) -> Said<'a>
+) -> Parsed
     ensures fits { IfOk result (λ i. IsSaid (length board.now.targets) i) }
-    ensures value { Gives (map_jump (λ l. l.now)) result
-        (block_call_of board.now line otherwise.now (map (λ w. w.now) words.now)) }
+    ensures jumps { IfOk result (λ i. JumpsTo otherwise i) }
+    ensures value { Gives (λ i. i) result
+        (block_call_of board.now line otherwise (map (λ w. w.now) words.now)) }
 {
     let [target, command, bytes, register] = words else {
         return Err(ProgramFault::BadOperand(line));
@@ -320,10 +304,11 @@ pub(crate) fn block_call_of<'a>(
 }
 
 #[tactic(auto, unfolding(crate::specs::MessageLines::alert_of))]
-pub(crate) fn alert_of<'a>(line: usize, otherwise: &'a str, words: &[&str]) -> Said<'a>
+pub(crate) fn alert_of(line: usize, otherwise: usize, words: &[&str]) -> Parsed
     ensures fits { IfOk result (λ i. (targets : ℕ) → IsSaid targets i) }
-    ensures value { Gives (map_jump (λ l. l.now)) result
-        (alert_of line otherwise.now (map (λ w. w.now) words.now)) }
+    ensures jumps { IfOk result (λ i. JumpsTo otherwise i) }
+    ensures value { Gives (λ i. i) result
+        (alert_of line otherwise (map (λ w. w.now) words.now)) }
 {
     let [register] = words else {
         return Err(ProgramFault::BadOperand(line));

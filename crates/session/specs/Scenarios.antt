@@ -25,7 +25,7 @@ use Rattle.session.specs.SectionTexts.{section_text}
 abbrev pub board_in : Section → Result Board InputFault
 board_in section = faulted faults.Board (read_of (section_text section))
 
-abbrev pub program_in : Board → Section → Result (List (Instr ℕ)) InputFault
+abbrev pub program_in : Board → Section → Result (List Instr) InputFault
 program_in board section = faulted faults.Program (program_of board (section_text section))
 
 -- the sections in order

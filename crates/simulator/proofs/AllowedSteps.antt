@@ -1,5 +1,5 @@
 -- The frame of a step is allowed where its message is.
-use Rattle.std.proofs.Common.{◌≡◌, ◌≤◌, ◌⊎◌, inl, inr, Bool, Some, None, is_some, IsTrue, List, []}
+use Rattle.std.proofs.Common.{◌≡◌, ◌≤◌, ◌⊎◌, inl, inr, Some, None, List, []}
 use Rattle.std.proofs.Common.{◌∷◌, length, sym, subst, arith}
 use Rattle.wires.specs.declared.lines.Sample.{Sample}
 use Rattle.wires.specs.Events.{events_of}

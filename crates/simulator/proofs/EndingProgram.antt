@@ -32,13 +32,13 @@ pub record Ends (m : Machine) (a : Answered) (e : Entry) (next : Machine) : Type
   pub entry : e ≡ entry_of End None a m
   pub ended : next.ended ≡ Finished
 
-pub step_of : (b : Board) (p : List (Instr ℕ)) (m : Machine) (a : Answered) (e : Entry)
+pub step_of : (b : Board) (p : List Instr) (m : Machine) (a : Answered) (e : Entry)
     (next : Machine) → slice_get p m.place ≡ Some End → IsStep b p m a e next → Ends m a e next
 step_of b p m a e next at step =
     let same : End ≡ step.instr =
     let two : Some End ≡ Some step.instr = sym at ∙ step.here in cc in
     let of : IsStepOf b End None m a e next =
-    subst (λ (i : Instr ℕ). IsStepOf b i (message_of b i m.regs) m a e next)
+    subst (λ (i : Instr). IsStepOf b i (message_of b i m.regs) m a e next)
     (sym same) step.step in
     record { entry = of.entry_is; ended = ap (λ (m : Machine). m.ended) of.next_is }
 

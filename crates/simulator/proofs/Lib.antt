@@ -2,8 +2,10 @@ pub mod PlainSteps
 pub mod UnsafePrograms
 pub mod UnlistedForm
 pub mod WithdrawnNeed
-pub mod ClearingProgram
-pub mod JudgedBoard
+pub mod OneMessage
+pub mod SafePrograms
+pub mod JudgedBoards
+pub mod JudgedPrograms
 pub mod AllowedSteps
 pub mod SafeRuns
 pub mod Doing

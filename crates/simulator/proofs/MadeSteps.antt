@@ -19,7 +19,7 @@ use Rattle.simulator.specs.Steps.{step_samples, sent_outcome, entry_of, IsStepOf
 use Rattle.simulator.specs.Traces.{IsSeen}
 use Rattle.simulator.proofs.Seen.{silent_seen, message_seen}
 
-pub moved_bus : (i : Instr ℕ) (o : Option Asked) (outcome : Outcome) (new : BusState) (m : Machine)
+pub moved_bus : (i : Instr) (o : Option Asked) (outcome : Outcome) (new : BusState) (m : Machine)
     → (moved i o outcome new m).bus ≡ new
 moved_bus i None outcome new m = refl
 moved_bus i (Some asked) outcome new m = refl
@@ -35,7 +35,7 @@ abbrev pub entry_from : ℕ → BusState → List Sample → Option Outcome → 
 entry_from place before samples outcome ticks =
     record { place = place; before = before; samples = samples; outcome = outcome; ticks = ticks }
 
-pub same_entry : (i : Instr ℕ) (o : Option Asked) (a : Answered) (m : Machine) (place : ℕ)
+pub same_entry : (i : Instr) (o : Option Asked) (a : Answered) (m : Machine) (place : ℕ)
     (before : BusState) (samples : List Sample) (outcome : Option Outcome) (ticks : ℕ)
     → place ≡ m.place → before ≡ m.bus → samples ≡ step_samples m.bus i o a
     → outcome ≡ sent_outcome o a → ticks ≡ length samples
@@ -48,7 +48,7 @@ same_entry i o a m place before samples outcome ticks p b s r t =
     ∙ ap (λ (x : Option Outcome).
     entry_from m.place m.bus (step_samples m.bus i o a) x (length (step_samples m.bus i o a))) r
 
-pub made_step : (b : Board) (i : Instr ℕ) (o : Option Asked) (m : Machine) (a : Answered)
+pub made_step : (b : Board) (i : Instr) (o : Option Asked) (m : Machine) (a : Answered)
     (bus : BusState) (outcome : Outcome) (next : Machine) (e : Entry)
     → FitsStep b m.bus o a → IsAfter b m.bus o a bus → outcome ≡ outcome_of o a
     → next ≡ moved i o outcome bus m → e ≡ entry_of i o a m → IsStepOf b i o m a e next
@@ -63,7 +63,7 @@ made_step b i o m a bus outcome next e fits after ends goes is =
       entry_is = is;
     }
 
-pub seen_entry : (i : Instr ℕ) (o : Option Asked) (a : Answered) (m : Machine) → ReadsBack
+pub seen_entry : (i : Instr) (o : Option Asked) (a : Answered) (m : Machine) → ReadsBack
     → SlotsAreOneFrame → IfSome o (λ asked. CanBeSent asked a) → IsSeen (entry_of i o a m)
 seen_entry i None a m reads slots can = silent_seen i a m
 seen_entry i (Some asked) a m reads slots can = message_seen i asked a m reads slots can

@@ -34,11 +34,11 @@ pub at_place : {X : Type 0} (P : X → Type 0) (xs : List X) (i : ℕ) (x : X) �
     → slice_get xs i ≡ Some x → P x
 at_place P xs i x all e = subst (λ o. IfSome o P) e (got P xs i (recursion_from_All P xs all))
 
-pub is_instr : (p : List (Instr ℕ)) (place : ℕ) (i : Instr ℕ) → IsProgram p
+pub is_instr : (p : List Instr) (place : ℕ) (i : Instr) → IsProgram p
     → slice_get p place ≡ Some i → IsInstr i
 is_instr p place i is e = at_place (λ i. IsInstr i) p place i is.each e
 
-sends_on : (b : Board) (i : Instr ℕ) (regs : List ℕ) (m : Asked) → message_of b i regs ≡ Some m
+sends_on : (b : Board) (i : Instr) (regs : List ℕ) (m : Asked) → message_of b i regs ≡ Some m
     → is_end i ≡ false
 sends_on b (instr.Quick t r l) regs m e = refl
 sends_on b (instr.Send t c l) regs m e = refl
@@ -63,7 +63,7 @@ sends_on b instr.End regs m e = cc
 sends_on b instr.Fail regs m e = cc
 
 -- only the last instruction has no place after it
-next_place : (p : List (Instr ℕ)) (place : ℕ) (i : Instr ℕ) → IsProgram p
+next_place : (p : List Instr) (place : ℕ) (i : Instr) → IsProgram p
     → slice_get p place ≡ Some i → is_end i ≡ false → place + 1 < length p
 next_place p place i is here goes =
     elim (cases_lt (place + 1) (length p)) [
@@ -75,12 +75,12 @@ next_place p place i is here goes =
           let same : slice_get p (length p - 1) ≡ Some i =
           ap (λ (n : ℕ). slice_get p n) last ∙ here in
           let bad : IsTrue (is_end i) =
-          subst (λ (o : Option (Instr ℕ)). IfSome o (λ i. IsTrue (is_end i))) same ends in
+          subst (λ (o : Option Instr). IfSome o (λ i. IsTrue (is_end i))) same ends in
           let no : true ≡ false = sym bad ∙ goes in
           cc
     ]
 
-jump_lands : (p : List (Instr ℕ)) (place : ℕ) (i : Instr ℕ) → IsProgram p
+jump_lands : (p : List Instr) (place : ℕ) (i : Instr) → IsProgram p
     → slice_get p place ≡ Some i → IfSome (jump_in i) (λ to. to < length p)
 jump_lands p place i is here =
     at_place (λ i. IfSome (jump_in i) (λ to. to < length p)) p place i is.jumps here
@@ -95,7 +95,7 @@ jump_or_stay : (o : Option ℕ) (place n : ℕ) → IfSome o (λ to. to < n) →
 jump_or_stay None place n j s = s
 jump_or_stay (Some to) place n j s = j
 
-silent_place : (p : List (Instr ℕ)) (i : Instr ℕ) (m : Machine) → IsProgram p
+silent_place : (p : List Instr) (i : Instr) (m : Machine) → IsProgram p
     → slice_get p m.place ≡ Some i → (silently i m).place < length p
 silent_place p (instr.Quick t r l) m is here = slice_get_within p m.place (instr.Quick t r l) here
 silent_place p (instr.Send t c l) m is here = slice_get_within p m.place (instr.Send t c l) here
@@ -134,7 +134,7 @@ silent_place p (instr.Goto l) m is here = jump_lands p m.place (instr.Goto l) is
 silent_place p instr.End m is here = slice_get_within p m.place instr.End here
 silent_place p instr.Fail m is here = slice_get_within p m.place instr.Fail here
 
-message_place : (p : List (Instr ℕ)) (i : Instr ℕ) (outcome : Outcome) (m : Machine) → IsProgram p
+message_place : (p : List Instr) (i : Instr) (outcome : Outcome) (m : Machine) → IsProgram p
     → slice_get p m.place ≡ Some i → is_end i ≡ false → (after_message i outcome m).place < length p
 message_place p i (Done v) m is here goes = next_place p m.place i is here goes
 message_place p i NotAcknowledged m is here goes =
@@ -144,7 +144,7 @@ message_place p i TimedOut m is here goes =
     jump_or_stay (jump_in i) m.place (length p) (jump_lands p m.place i is here)
     (slice_get_within p m.place i here)
 
-pub moved_place : (b : Board) (p : List (Instr ℕ)) (i : Instr ℕ) (o : Option Asked)
+pub moved_place : (b : Board) (p : List Instr) (i : Instr) (o : Option Asked)
     (outcome : Outcome) (new : BusState) (m : Machine)
     → IsProgram p → slice_get p m.place ≡ Some i → o ≡ message_of b i m.regs
     → (moved i o outcome new m).place < length p
@@ -152,7 +152,7 @@ moved_place b p i None outcome new m is here e = silent_place p i m is here
 moved_place b p i (Some asked) outcome new m is here e =
     message_place p i outcome m is here (sends_on b i m.regs asked (sym e))
 
-pub stepped_place : (b : Board) (p : List (Instr ℕ)) (i : Instr ℕ) (o : Option Asked) (m : Machine)
+pub stepped_place : (b : Board) (p : List Instr) (i : Instr) (o : Option Asked) (m : Machine)
     (a : Answered) (e : Entry) (next : Machine)
     → IsProgram p → slice_get p m.place ≡ Some i → o ≡ message_of b i m.regs
     → IsStepOf b i o m a e next → next.place < length p

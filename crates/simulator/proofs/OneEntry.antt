@@ -1,7 +1,7 @@
 -- The samples of a message and an answer have one frame.
-use Rattle.std.proofs.Common.{◌≡◌, ℕ, ◌+◌, ◌-◌, ◌*◌, ◌≤◌, ◌⊎◌, inl, inr, Bool, true, false, Option}
-use Rattle.std.proofs.Common.{Some, None, is_some, IsTrue, List, length, All, refl, sym, ap, subst}
-use Rattle.std.proofs.Common.{◌∙◌, arith}
+use Rattle.std.proofs.Common.{◌≡◌, ℕ, ◌+◌, ◌-◌, ◌*◌, ◌≤◌, ◌⊎◌, inl, inr, Bool, Option}
+use Rattle.std.proofs.Common.{Some, None, List, length, All, refl, sym, ap, subst}
+use Rattle.std.proofs.Common.{arith}
 use Rattle.std.proofs.lemmas.List.Elements.{recursion_from_All, All-from_recursion}
 use Rattle.bit_bus.specs.declared.plan.Slot.{Slot}
 use Rattle.bit_bus.specs.Levels.{levels, first_cut}
@@ -10,7 +10,6 @@ use Rattle.bit_bus.specs.SampleCounts.{LevelsAreFew}
 use Rattle.smbus.specs.Asked.{Asked}
 use Rattle.smbus.specs.Answered.{Answered}
 use Rattle.smbus.specs.Shown.{Shown}
-use Rattle.smbus.specs.Protocol.{marks_of, whole}
 use Rattle.smbus.specs.Slots.{slots_of, plan_of}
 use Rattle.smbus.specs.SlotCounts.{most_slots}
 use Rattle.smbus.specs.Whole.{IsWhole, IsBrokenOff}

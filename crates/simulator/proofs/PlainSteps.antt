@@ -1,8 +1,8 @@
 -- Steps that send a message under an answer that acknowledges each byte, holds no slot and leaves
 -- the targets as they are.
-use Rattle.std.proofs.Common.{◌≡◌, ◌≢◌, ◌≤◌, ◌<◌, ◌⊎◌, inl, inr, ℕ, ◌+◌, Bool, false, Option, Some}
+use Rattle.std.proofs.Common.{◌≡◌, ◌≢◌, ◌≤◌, inl, inr, ℕ, ◌+◌, Bool, false, Option, Some}
 use Rattle.std.proofs.Common.{None}
-use Rattle.std.proofs.Common.{List, [], ◌∷◌, slice_get, IsTrue, refl, sym, ap, subst, ◌∙◌, arith}
+use Rattle.std.proofs.Common.{List, [], ◌∷◌, slice_get, refl, sym, ap, subst, ◌∙◌, arith}
 use Rattle.std.specs.List.{position_from}
 use Rattle.std.proofs.lemmas.List.Elements.{All-nil}
 use Rattle.bit_bus.specs.declared.plan.Slot.{Slot}
@@ -26,7 +26,7 @@ use Rattle.seq_program.specs.Valid.{IsProgram}
 use Rattle.simulator.specs.declared.machine.Ending.TheVariants.{Running}
 use Rattle.simulator.specs.Machines.{Machine, Entry}
 use Rattle.simulator.specs.Moves.{moved}
-use Rattle.simulator.specs.Steps.{entry_of, IsStepOf, IsStep}
+use Rattle.simulator.specs.Steps.{entry_of, IsStep}
 use Rattle.simulator.specs.StepDoes.{StepDoes}
 use Rattle.simulator.specs.StepLaws.{IsReady, SeesMessage, Sees, StepsAreSeen}
 
@@ -92,15 +92,15 @@ unchanged b s m value leaves = record {
     alerts i (inr stays) = stays.0
 
 -- the step
-abbrev pub entry_by : Instr ℕ → Asked → ℕ → Machine → Entry
+abbrev pub entry_by : Instr → Asked → ℕ → Machine → Entry
 entry_by i m value machine = entry_of i (Some m) (plain value) machine
 
-abbrev pub next_by : Instr ℕ → Asked → ℕ → Machine → Machine
+abbrev pub next_by : Instr → Asked → ℕ → Machine → Machine
 next_by i m value machine =
     moved i (Some m) (outcome_of (Some m) (plain value)) machine.bus machine
 
 -- what is known of an instruction that sends such a message
-pub record Sends (b : Board) (p : List (Instr ℕ)) (machine : Machine) (i : Instr ℕ) (m : Asked)
+pub record Sends (b : Board) (p : List Instr) (machine : Machine) (i : Instr) (m : Asked)
     (value : ℕ) : Type 0 where
   pub running : machine.ended ≡ Running
   pub here : slice_get p machine.place ≡ Some i
@@ -108,7 +108,7 @@ pub record Sends (b : Board) (p : List (Instr ℕ)) (machine : Machine) (i : Ins
   pub leaves : LeavesTargets m
   pub reads : FitsForm m.form b machine.bus m (plain value)
 
-unfoldable pub plain_step : (b : Board) (p : List (Instr ℕ)) (machine : Machine) (i : Instr ℕ)
+unfoldable pub plain_step : (b : Board) (p : List Instr) (machine : Machine) (i : Instr)
     (m : Asked)
     (value : ℕ) → Sends b p machine i m value
     → IsStep b p machine (plain value) (entry_by i m value machine) (next_by i m value machine)
@@ -125,13 +125,13 @@ plain_step b p machine i m value sends = record {
 }
 
 -- what it is seen to be and to do
-pub record StepSeen (b : Board) (p : List (Instr ℕ)) (machine : Machine) (i : Instr ℕ) (m : Asked)
+pub record StepSeen (b : Board) (p : List Instr) (machine : Machine) (i : Instr) (m : Asked)
     (value : ℕ) : Type 0 where
   pub sees : SeesMessage machine.bus m (plain value) (entry_by i m value machine)
   pub does : StepDoes b machine.bus (Some m) (plain value) (entry_by i m value machine)
   pub ready : IsReady b p (next_by i m value machine)
 
-pub step_seen : StepsAreSeen → (b : Board) (p : List (Instr ℕ)) (machine : Machine) (i : Instr ℕ)
+pub step_seen : StepsAreSeen → (b : Board) (p : List Instr) (machine : Machine) (i : Instr)
     (m : Asked) (value : ℕ) → IsBoard b → IsProgram p → IsReady b p machine
     → Sends b p machine i m value → StepSeen b p machine i m value
 step_seen steps b p machine i m value is program ready sends =
@@ -143,7 +143,7 @@ step_seen steps b p machine i m value is program ready sends =
     let same : i ≡ seen.instr =
     let two : Some i ≡ Some seen.instr = sym sends.here ∙ seen.here in cc in
     let asked : message_of b seen.instr machine.regs ≡ Some m =
-    subst (λ (x : Instr ℕ). message_of b x machine.regs ≡ Some m) same sends.message in
+    subst (λ (x : Instr). message_of b x machine.regs ≡ Some m) same sends.message in
     record {
       sees = subst (λ (o : Option Asked). Sees machine.bus o a e) asked seen.sees;
       does = subst (λ (o : Option Asked). StepDoes b machine.bus o a e) asked seen.does;

@@ -15,7 +15,7 @@ use Rattle.simulator.specs.Steps.{IsStep, IsRun, total_ticks}
 use Rattle.simulator.specs.Traces.{IsSeen}
 use Rattle.simulator.proofs.Taken.{take_more}
 
-pub one_more : (b : Board) (p : List (Instr ℕ)) (m mid last : Machine) (answers : List Answered)
+pub one_more : (b : Board) (p : List Instr) (m mid last : Machine) (answers : List Answered)
     (entries : List Entry) (a : Answered) (e : Entry)
     → IsRun b p m answers entries mid → IsStep b p mid a e last
     → IsRun b p m (answers ++ a ∷ []) (entries ++ e ∷ []) last
@@ -46,7 +46,7 @@ at_index (x ∷ xs) (suc i) d lt =
     let within : i < length xs = omega (arith, lt) in
     at_index xs i d within
 
-pub fails_here : (b : Board) (p : List (Instr ℕ)) (m reached : Machine) (answers : List Answered)
+pub fails_here : (b : Board) (p : List Instr) (m reached : Machine) (answers : List Answered)
     (entries : List Entry) (index ticks : ℕ) (a : Answered) (fault : RunFault)
     → IsRun b p m (take index answers) entries reached → ticks ≡ total_ticks entries
     → ticks ≤ most_ticks → index < length answers → a ≡ slice_index_or answers index a
@@ -73,7 +73,7 @@ pub out_of_memory : {T : Type 0} (r : Result T RunFault) (P : RunFault → Type 
 out_of_memory (Ok t) P is = tt
 out_of_memory (Err e) P is = λ real. absurd (real is)
 
-pub next_run : (b : Board) (p : List (Instr ℕ)) (m mid last : Machine) (answers : List Answered)
+pub next_run : (b : Board) (p : List Instr) (m mid last : Machine) (answers : List Answered)
     (entries : List Entry) (index : ℕ) (a : Answered) (e : Entry)
     → index < length answers → a ≡ slice_index_or answers index a
     → IsRun b p m (take index answers) entries mid → IsStep b p mid a e last

@@ -30,11 +30,11 @@ one_frame alert m a reads slots can =
     reads alert alert (plan_of m a) in
     (one.frame, rw same one.is_only)
 
-pub silent_seen : (i : Instr ℕ) (a : Answered) (m : Machine) → IsSeen (entry_of i None a m)
+pub silent_seen : (i : Instr) (a : Answered) (m : Machine) → IsSeen (entry_of i None a m)
 silent_seen i a m =
     record { frames = no_events (alert_level m.bus) (suc (idle_ticks i)); ticks = refl }
 
-pub message_seen : (i : Instr ℕ) (asked : Asked) (a : Answered) (m : Machine) → ReadsBack
+pub message_seen : (i : Instr) (asked : Asked) (a : Answered) (m : Machine) → ReadsBack
     → SlotsAreOneFrame → CanBeSent asked a → IsSeen (entry_of i (Some asked) a m)
 message_seen i asked a m reads slots can =
     record { frames = one_frame (alert_level m.bus) asked a reads slots can; ticks = refl }

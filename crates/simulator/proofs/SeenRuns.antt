@@ -65,7 +65,7 @@ framed s (Some m) a e sees =
 abbrev lines_of : List Entry → List (List Sample)
 lines_of entries = map (λ (e : Entry). e.samples) entries
 
-record Walked (b : Board) (p : List (Instr ℕ)) (m : Machine) (answers : List Answered)
+record Walked (b : Board) (p : List Instr) (m : Machine) (answers : List Answered)
     (entries : List Entry) (last : Machine) : Type 0 where
   pub frames : List (List Shown)
   pub steps : AreRunFrames b p m answers entries frames
@@ -74,7 +74,7 @@ record Walked (b : Board) (p : List (Instr ℕ)) (m : Machine) (answers : List A
   pub ready : IsReady b p last
 
 walked : StepsAreSeen
-    → (b : Board) (p : List (Instr ℕ)) (m last : Machine) (answers : List Answered)
+    → (b : Board) (p : List Instr) (m last : Machine) (answers : List Answered)
     (entries : List Entry) → IsBoard b → IsProgram p → IsReady b p m
     → IsRun b p m answers entries last → Walked b p m answers entries last
 walked steps b p m last [] [] is program ready run = record {

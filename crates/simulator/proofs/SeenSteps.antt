@@ -41,7 +41,7 @@ abbrev Words : List ℕ → Type 0
 Words regs = AllByRecursion (λ word. word < 65536) regs
 
 -- a message of a machine that is ready is one on the wire
-asked_on_wire : LeastByteWins → (b : Board) (i : Instr ℕ) (m : Machine) (msg : Asked) (a : Answered)
+asked_on_wire : LeastByteWins → (b : Board) (i : Instr) (m : Machine) (msg : Asked) (a : Answered)
     → IsBoard b
     → IsInstr i → Belongs b m.bus → Words m.regs → message_of b i m.regs ≡ Some msg
     → Fits b m.bus msg a → AreAsked msg a
@@ -71,13 +71,13 @@ result_word : (o : Option ℕ) (v : ℕ) (regs : List ℕ) → Words regs → v 
 result_word None v regs words lt = words
 result_word (Some r) v regs words lt = set_word regs r v words lt
 
-message_words : (i : Instr ℕ) (outcome : Outcome) (m : Machine) → Words m.regs
+message_words : (i : Instr) (outcome : Outcome) (m : Machine) → Words m.regs
     → ((v : ℕ) → outcome ≡ Done v → v < 65536) → Words (after_message i outcome m).regs
 message_words i (Done v) m words lt = result_word (result_in i) v m.regs words (lt v refl)
 message_words i NotAcknowledged m words lt = words
 message_words i TimedOut m words lt = words
 
-silent_words : (i : Instr ℕ) (m : Machine) → IsInstr i → Words m.regs → Words (silently i m).regs
+silent_words : (i : Instr) (m : Machine) → IsInstr i → Words m.regs → Words (silently i m).regs
 silent_words (instr.Set r v) m ok words =
     let le : v ≤ 65535 = ok.1 in
     set_word m.regs r v words (omega (arith, le))
@@ -140,7 +140,7 @@ outcome_small msg a v wire e =
     (returned_small msg.form a.value a.bytes wire.value
     (recursion_from_All (λ byte. byte < 256) a.bytes wire.read)) e
 
-record Seen (b : Board) (i : Instr ℕ) (o : Option Asked) (m : Machine) (a : Answered) (e : Entry)
+record Seen (b : Board) (i : Instr) (o : Option Asked) (m : Machine) (a : Answered) (e : Entry)
     (next : Machine) : Type 0 where
   pub sees : Sees m.bus o a e
   pub does : StepDoes b m.bus o a e
@@ -157,7 +157,7 @@ same_regs : (x y : Machine) → x ≡ y → x.regs ≡ y.regs
 same_regs x y is = ap (λ (m : Machine). m.regs) is
 
 by_message : LeastByteWins → EntriesReadBack → EntriesDoAsAsked → IdleReadsBack
-    → (b : Board) (i : Instr ℕ) (o : Option Asked) (m : Machine) (a : Answered) (e : Entry)
+    → (b : Board) (i : Instr) (o : Option Asked) (m : Machine) (a : Answered) (e : Entry)
     (next : Machine)
     → IsBoard b → IsInstr i → Belongs b m.bus → Words m.regs → message_of b i m.regs ≡ o
     → IsStepOf b i o m a e next → Seen b i o m a e next

@@ -78,7 +78,7 @@ good_write b t c (written.Register r) regs m e =
     by_made m form.WriteWord (low_byte_first (slice_index regs r))
     (made b t form.WriteWord c (low_byte_first (slice_index regs r)) m e) refl
 
-good_out : (b : Board) (i : Instr ℕ) (regs : List ℕ) (m : Asked) → IsInstr i
+good_out : (b : Board) (i : Instr) (regs : List ℕ) (m : Asked) → IsInstr i
     → message_of b i regs ≡ Some m → GoodOut m.form (length m.out)
 good_out b (instr.Quick t r l) regs m is e =
     by_made m (form.Quick r) [] (made b t (form.Quick r) 0 [] m e) refl
@@ -146,7 +146,7 @@ good_counts b s m a form.BlockProcessCall is g fits =
     (g, some_read b m (length m.out) a.bytes is fits.0, fits.0.both)
 good_counts b s m a form.Alert is g fits = tt
 
-can_be_sent : (b : Board) (s : BusState) (i : Instr ℕ) (regs : List ℕ) (m : Asked) (a : Answered)
+can_be_sent : (b : Board) (s : BusState) (i : Instr) (regs : List ℕ) (m : Asked) (a : Answered)
     → IsBoard b → IsInstr i → message_of b i regs ≡ Some m → Fits b s m a → CanBeSent m a
 can_be_sent b s i regs m a is instr e fits =
     let good = good_out b i regs m instr e in
@@ -157,7 +157,7 @@ can_be_sent b s i regs m a is instr e fits =
       holds = below (largest_stretch b.targets) (stretches b is) a.holds fits.holds;
     }
 
-pub sendable : (b : Board) (s : BusState) (i : Instr ℕ) (regs : List ℕ) (o : Option Asked)
+pub sendable : (b : Board) (s : BusState) (i : Instr) (regs : List ℕ) (o : Option Asked)
     (a : Answered) → IsBoard b → IsInstr i → o ≡ message_of b i regs → FitsStep b s o a
     → IfSome o (λ m. CanBeSent m a)
 sendable b s i regs None a is instr e fits = tt

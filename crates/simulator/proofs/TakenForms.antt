@@ -42,7 +42,7 @@ written_takes code (written.Byte v) w = λ _. w.0
 written_takes code (written.Word v) w = λ _. w.0
 written_takes code (written.Register r) w = λ _. voltage_word code w.0
 
-pub takes_own_form : (b : Board) (i : Instr ℕ) (regs : List ℕ) (m : Asked) → IsInstr i
+pub takes_own_form : (b : Board) (i : Instr) (regs : List ℕ) (m : Asked) → IsInstr i
     → message_of b i regs ≡ Some m → Takes m.code m.form
 takes_own_form b (instr.Quick n r l) regs m ok e = to_target b n (form.Quick r) 0 [] m (λ t. cc) e
 takes_own_form b (instr.Send n c l) regs m ok e = to_target b n form.SendByte c [] m (λ _. ok) e

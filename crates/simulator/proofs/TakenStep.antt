@@ -1,5 +1,5 @@
 -- There is a step that sends a message: a value is written to OPERATION of a target.
-use Rattle.std.proofs.Common.{◌≡◌, ℕ, Some, slice_get, [], ◌∷◌, refl, arith, lit≤, lit<}
+use Rattle.std.proofs.Common.{◌≡◌, Some, slice_get, [], ◌∷◌, refl, arith, lit≤, lit<}
 use Rattle.board.specs.Boards.{Target}
 use Rattle.targets.specs.StateLaws.{StartsBelong}
 use Rattle.targets.specs.SomeAnswer.{SomeCase}

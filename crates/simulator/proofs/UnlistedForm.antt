@@ -1,22 +1,19 @@
 -- A message in a form for which its target has no entry isn't safe, whatever other messages look
 -- like it on the wire.
-use Rattle.std.proofs.Common.{◌≡◌, ◌≤◌, ◌<◌, ◌⊎◌, inl, inr, ℕ, false, Option, Some, None, is_some}
-use Rattle.std.proofs.Common.{List, [], ◌∷◌, IsTrue, refl, sym, ap, subst, ◌∙◌, arith, lit<}
-use Rattle.std.proofs.lemmas.Bool.Decides.{nat_tests}
+use Rattle.std.proofs.Common.{◌≡◌, ◌≤◌, ◌<◌, ◌⊎◌, inl, inr, ℕ, Option, Some, None, is_some}
+use Rattle.std.proofs.Common.{List, [], IsTrue, refl, sym, subst, ◌∙◌, lit<}
 use Rattle.std.proofs.lemmas.List.Elements.{All-nil}
 use Rattle.wires.specs.declared.lines.Sample.{Sample}
-use Rattle.bit_bus.specs.declared.plan.Slot.{Slot}
 use Rattle.bit_bus.specs.Levels.{first_cut, HasTimeout}
 use Rattle.smbus.specs.declared.message.Form.{Form}
 use Rattle.smbus.specs.declared.message.Form.TheVariants.{SendByte, Alert}
-use Rattle.smbus.specs.Asked.{Asked}
 use Rattle.smbus.specs.Answered.{Answered}
 use Rattle.smbus.specs.Shown.{Shown}
 use Rattle.smbus.specs.Protocol.{whole, sent_count, refused_at, marks_of, IsNumbered}
 use Rattle.smbus.specs.Slots.{slots_of, plan_of}
 use Rattle.smbus.specs.Whole.{shown_marks, IsWhole, IsBrokenOff}
 use Rattle.smbus.specs.MessageFrame.{send_byte, IsSendByte, AreAsked, MessagesHaveOneFrame}
-use Rattle.board.specs.Boards.{Target, Board, Allow, entry_of}
+use Rattle.board.specs.Boards.{Target, Board, entry_of}
 use Rattle.board.specs.Valid.{IsBoard, IsTarget}
 use Rattle.targets.specs.States.{BusState, IsTargetAt}
 use Rattle.targets.proofs.Addresses.{only_one}

@@ -1,11 +1,11 @@
 -- Programs that aren't safe: a write that is protected, and a voltage over a limit.
-use Rattle.std.proofs.Common.{◌≡◌, ◌≢◌, ◌≤◌, ◌<◌, ◌+◌, ◌*◌, ◌/◌, ◌%◌, ℕ, true, false, inr, Some}
-use Rattle.std.proofs.Common.{List, []}
-use Rattle.std.proofs.Common.{◌∷◌, length, slice_get, slice_index, IfSome, IsTrue, refl, sym, ap}
+use Rattle.std.proofs.Common.{◌≡◌, ◌≤◌, ◌<◌, ◌+◌, ◌*◌, ◌/◌, ◌%◌, ℕ, true, inr, Some}
+use Rattle.std.proofs.Common.{[]}
+use Rattle.std.proofs.Common.{◌∷◌, length, slice_index, IfSome, IsTrue, refl, ap}
 use Rattle.std.proofs.Common.{subst}
-use Rattle.std.proofs.Common.{◌∙◌, arith, lit≤, lit<}
+use Rattle.std.proofs.Common.{arith, lit≤, lit<}
 use Rattle.std.proofs.lemmas.List.Elements.{All-from_recursion}
-use Rattle.smbus.specs.declared.message.Form.TheVariants.{SendByte, WriteWord}
+use Rattle.smbus.specs.declared.message.Form.TheVariants.{WriteWord}
 use Rattle.smbus.specs.Asked.{Asked}
 use Rattle.smbus.specs.FirstSegment.{bytes_out}
 use Rattle.smbus.specs.MessageFrame.{send_byte}
@@ -23,7 +23,7 @@ use Rattle.seq_program.specs.declared.instr.Written.TheVariants as written
 use Rattle.seq_program.specs.Messages.{low_byte_first}
 use Rattle.seq_program.specs.Valid.{IsInstr, IsProgram, jump_in}
 use Rattle.simulator.specs.Does.{BeginsWith}
-use Rattle.simulator.specs.Machines.{Entry, start_at}
+use Rattle.simulator.specs.Machines.{start_at}
 use Rattle.simulator.specs.Reports.{write_to, WritesTo}
 use Rattle.simulator.specs.StepLaws.{StepsAreSeen, StartsAreReady}
 use Rattle.simulator.specs.Headline.{RunsAreSafe, IsSafeWithin}
@@ -34,26 +34,26 @@ use Rattle.simulator.proofs.PlainSteps.{StepSeen, step_seen}
 use Rattle.simulator.proofs.WorkedDefinitions.{done_out}
 
 -- two instructions, of which the second ends
-pub two_places : (i : Instr ℕ) → IsInstr i → IfSome (jump_in i) (λ place. place < 2)
+pub two_places : (i : Instr) → IsInstr i → IfSome (jump_in i) (λ place. place < 2)
     → IsProgram (i ∷ instr.End ∷ [])
 two_places i ok lands = record {
   some = lit≤ tt;
   few = lit≤ tt;
-  each = All-from_recursion (λ (x : Instr ℕ). IsInstr x) (i ∷ instr.End ∷ []) (ok, (tt, tt));
+  each = All-from_recursion (λ (x : Instr). IsInstr x) (i ∷ instr.End ∷ []) (ok, (tt, tt));
   jumps =
-      All-from_recursion (λ (x : Instr ℕ). IfSome (jump_in x) (λ place. place < 2))
+      All-from_recursion (λ (x : Instr). IfSome (jump_in x) (λ place. place < 2))
       (i ∷ instr.End ∷ []) (lands, (tt, tt));
   last = refl;
 }
 
 -- the first step of such a program, which is safe if its runs are
-pub record FirstStep (b : Board) (s : BusState) (i : Instr ℕ) (m : Asked)
+pub record FirstStep (b : Board) (s : BusState) (i : Instr) (m : Asked)
     (bound : ℕ) : Type 0 where
   pub seen : StepSeen b (i ∷ instr.End ∷ []) (start_at s) i m 0
   pub safe : IsSafeWithin b (i ∷ instr.End ∷ []) bound (entry_by i m 0 (start_at s) ∷ [])
       (next_by i m 0 (start_at s))
 
-pub first_step : StepsAreSeen → StartsAreReady → (b : Board) (s : BusState) (i : Instr ℕ)
+pub first_step : StepsAreSeen → StartsAreReady → (b : Board) (s : BusState) (i : Instr)
     (m : Asked) (bound : ℕ) → IsBoard b → IsStart b s → IsProgram (i ∷ instr.End ∷ [])
     → Sends b (i ∷ instr.End ∷ []) (start_at s) i m 0 → RunsAreSafe b (i ∷ instr.End ∷ []) bound
     → FirstStep b s i m bound
@@ -70,7 +70,7 @@ first_step steps ready b s i m bound is starts program sends runs =
 
 -- ---- a Send Byte
 
-abbrev pub sending : ℕ → ℕ → Instr ℕ
+abbrev pub sending : ℕ → ℕ → Instr
 sending i code = instr.Send i code 1
 
 pub sends_code : (b : Board) (s : BusState) (i code : ℕ) (t : Target) → IsTargetAt b i t
@@ -101,10 +101,10 @@ protected_write_is_unsafe steps ready b s i protect t code bound is starts at st
 
 -- ---- a voltage
 
-abbrev volts : ℕ → ℕ → Instr ℕ
+abbrev pub volts : ℕ → ℕ → Instr
 volts i word = instr.Write i vout_command_code (written.Word word) 1
 
-abbrev volts_asked : Target → ℕ → Asked
+abbrev pub volts_asked : Target → ℕ → Asked
 volts_asked t word = record {
   address = t.address;
   form = WriteWord;
@@ -112,7 +112,7 @@ volts_asked t word = record {
   out = low_byte_first word;
 }
 
-takes_word : IsTrue (takes_form vout_command_code WriteWord)
+pub takes_word : IsTrue (takes_form vout_command_code WriteWord)
 unfolding table
 takes_word = refl
 

@@ -84,7 +84,7 @@ written_bytes b n code (written.Register r) regs m is w words e =
     to_target b n form.WriteWord code (low_byte_first (slice_index regs r)) m is (λ a. cc)
     (omega (arith, vout)) (word_bytes (slice_index regs r) (reg_word regs r words)) e
 
-pub sent_bytes : (b : Board) (i : Instr ℕ) (regs : List ℕ) (m : Asked) → IsBoard b → IsInstr i
+pub sent_bytes : (b : Board) (i : Instr) (regs : List ℕ) (m : Asked) → IsBoard b → IsInstr i
     → AllByRecursion (λ word. word < 65536) regs → message_of b i regs ≡ Some m → AreBytes m
 sent_bytes b (instr.Quick n r l) regs m is ok words e =
     to_target b n (form.Quick r) 0 [] m is (λ a. cc) (omega arith) tt e

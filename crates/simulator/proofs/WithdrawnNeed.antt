@@ -1,20 +1,18 @@
 -- Turning off what was reported good, and then turning on what needs it, isn't safe.
-use Rattle.std.proofs.Common.{◌≡◌, ◌≤◌, ◌<◌, ◌+◌, ◌⊎◌, inl, inr, ℕ, true, Option, Some, None, List}
+use Rattle.std.proofs.Common.{◌≡◌, ◌<◌, ◌+◌, inl, inr, ℕ, Some, None, List}
 use Rattle.std.proofs.Common.{[]}
-use Rattle.std.proofs.Common.{◌∷◌, length, slice_get, IfSome, IsTrue, refl, sym, ap, subst, ◌∙◌}
+use Rattle.std.proofs.Common.{◌∷◌, slice_get, IfSome, IsTrue, refl, sym, ap, subst, ◌∙◌}
 use Rattle.std.proofs.Common.{arith, lit≤, lit<}
-use Rattle.std.specs.List.{Contains, AllByRecursion}
-use Rattle.std.proofs.lemmas.List.Elements.{All-from_recursion, recursion_from_All}
+use Rattle.std.proofs.lemmas.List.Elements.{All-from_recursion}
 use Rattle.smbus.specs.declared.message.Form.TheVariants.{WriteByte, ReadWord}
 use Rattle.smbus.specs.Asked.{Asked}
-use Rattle.smbus.specs.FirstSegment.{bytes_out}
 use Rattle.smbus.specs.MessageFrame.{read_word}
 use Rattle.pmbus_table.specs.Codes.{operation_code, status_word_code}
 use Rattle.pmbus_table.specs.Commands.{takes_form}
 use Rattle.pmbus_table.specs.Table.{table}
 use Rattle.board.specs.Boards.{Target, Rail, Board}
 use Rattle.board.specs.Valid.{IsBoard, IsRail}
-use Rattle.targets.specs.States.{BusState, IsStart, IsTargetAt}
+use Rattle.targets.specs.States.{BusState, IsTargetAt}
 use Rattle.targets.specs.Fitting.{values_for}
 use Rattle.targets.specs.Outcomes.{outcome_of, returned_by, ending_of}
 use Rattle.targets.specs.declared.outcome.Outcome.{Outcome}
@@ -32,17 +30,17 @@ use Rattle.simulator.specs.Reports.{write_to, Selects, Reports, Withdraws, LastR
 use Rattle.simulator.specs.Reports.{IsReportedGood}
 use Rattle.simulator.specs.Steps.{IsRun}
 use Rattle.simulator.specs.StepDoes.{StepDoes}
-use Rattle.simulator.specs.StepLaws.{IsReady, StepsAreSeen, StartsAreReady}
+use Rattle.simulator.specs.StepLaws.{StepsAreSeen, StartsAreReady}
 use Rattle.simulator.specs.SmallPrograms.{withdrawing_program, WithdrawnNeedIsUnsafe}
 use Rattle.simulator.proofs.NextPlaces.{at_place}
 use Rattle.simulator.proofs.PlainSteps.{plain, none_cut, is_done, Sends, entry_by, next_by}
-use Rattle.simulator.proofs.PlainSteps.{plain_step, StepSeen, step_seen}
+use Rattle.simulator.proofs.PlainSteps.{plain_step, step_seen}
 use Rattle.simulator.proofs.WorkedDefinitions.{writes_operation}
 
-abbrev asking : ℕ → Instr ℕ
-asking i = instr.Read i status_word_code width.Word 0 1
+abbrev asking : ℕ → ℕ → Instr
+asking i label = instr.Read i status_word_code width.Word 0 label
 
-abbrev pub turning : ℕ → ℕ → ℕ → Instr ℕ
+abbrev pub turning : ℕ → ℕ → ℕ → Instr
 turning i value next = instr.Write i operation_code (written.Byte value) next
 
 abbrev pub turn : Target → ℕ → Asked
@@ -57,16 +55,16 @@ takes_word : IsTrue (takes_form status_word_code ReadWord)
 unfolding table
 takes_word = refl
 
-is_program : (i j : ℕ) → IsProgram (withdrawing_program i j)
-is_program i j = record {
+is_program : (label i j : ℕ) → label < 4 → IsProgram (withdrawing_program label i j)
+is_program label i j lands = record {
   some = lit≤ tt;
   few = lit≤ tt;
   each =
-      All-from_recursion (λ (x : Instr ℕ). IsInstr x) (withdrawing_program i j)
+      All-from_recursion (λ (x : Instr). IsInstr x) (withdrawing_program label i j)
       ((takes_word, lit< tt), ((takes_byte, lit≤ tt), ((takes_byte, lit≤ tt), (tt, tt))));
   jumps =
-      All-from_recursion (λ (x : Instr ℕ). IfSome (jump_in x) (λ place. place < 4))
-      (withdrawing_program i j) (lit< tt, (lit< tt, (lit< tt, (tt, tt))));
+      All-from_recursion (λ (x : Instr). IfSome (jump_in x) (λ place. place < 4))
+      (withdrawing_program label i j) (lands, (lit< tt, (lit< tt, (tt, tt))));
   last = refl;
 }
 
@@ -75,17 +73,17 @@ done_so : (m : Asked) (value : ℕ) → outcome_of (Some m) (plain value)
     ≡ ending_of None None (returned_by m.form value [])
 done_so m value = rw (none_cut m value) refl
 
-next_place : (i : Instr ℕ) (m : Asked) (value : ℕ) (machine : Machine)
+next_place : (i : Instr) (m : Asked) (value : ℕ) (machine : Machine)
     → (next_by i m value machine).place ≡ machine.place + 1
 next_place i m value machine =
     ap (λ (o : Outcome). (moved i (Some m) o machine.bus machine).place) (done_so m value)
 
-next_ended : (i : Instr ℕ) (m : Asked) (value : ℕ) (machine : Machine)
+next_ended : (i : Instr) (m : Asked) (value : ℕ) (machine : Machine)
     → (next_by i m value machine).ended ≡ machine.ended
 next_ended i m value machine =
     ap (λ (o : Outcome). (moved i (Some m) o machine.bus machine).ended) (done_so m value)
 
-pub sends_turn : (b : Board) (p : List (Instr ℕ)) (machine : Machine) (i value next : ℕ)
+pub sends_turn : (b : Board) (p : List Instr) (machine : Machine) (i value next : ℕ)
     (t : Target)
     → IsTargetAt b i t → machine.ended ≡ Running
     → slice_get p machine.place ≡ Some (turning i value next)
@@ -98,11 +96,11 @@ sends_turn b p machine i value next t at running here = record {
   reads = record { value = refl; bytes = refl };
 }
 
-sends_ask : (b : Board) (p : List (Instr ℕ)) (machine : Machine) (i : ℕ) (t : Target) → IsBoard b
-    → IsTargetAt b i t → machine.ended ≡ Running → slice_get p machine.place ≡ Some (asking i)
-    → Sends b p machine (asking i) (read_word t.address status_word_code)
+sends_ask : (b : Board) (p : List Instr) (machine : Machine) (i label : ℕ) (t : Target) → IsBoard b
+    → IsTargetAt b i t → machine.ended ≡ Running → slice_get p machine.place ≡ Some (asking i label)
+    → Sends b p machine (asking i label) (read_word t.address status_word_code)
     (values_for b (read_word t.address status_word_code)).low
-sends_ask b p machine i t is at running here =
+sends_ask b p machine i label t is at running here =
     let m = read_word t.address status_word_code in
     let within = values_within b m is in
     record {
@@ -146,12 +144,12 @@ not_good b e before n none off good = by good.last
     by (inr kept) = kept.1 off
 
 pub withdrawn_need_is_unsafe : StepsAreSeen → StartsAreReady → WithdrawnNeedIsUnsafe
-withdrawn_need_is_unsafe steps ready b s n d need r bound is starts need_selected selected needs
-    runs =
+withdrawn_need_is_unsafe steps ready b s n d need r label bound is starts lands need_selected
+    selected needs runs =
     let i = need.target in
     let j = r.target in
-    let p = withdrawing_program i j in
-    let program = is_program i j in
+    let p = withdrawing_program label i j in
+    let program = is_program label i j lands in
     let first_rail : IsRail b need =
     at_place (IsRail b) b.rails n need is.rails need_selected.rail in
     let rail : IsRail b r = at_place (IsRail b) b.rails d r is.rails selected.rail in
@@ -162,10 +160,10 @@ withdrawn_need_is_unsafe steps ready b s n d need r bound is starts need_selecte
     let ask = read_word t.address status_word_code in
     let word = (values_for b ask).low in
     let first = start_at s in
-    let asks = sends_ask b p first i t is ti refl refl in
-    let second = next_by (asking i) ask word first in
-    let at_second : second.place ≡ 1 = next_place (asking i) ask word first in
-    let offs = sends_turn b p second i 0x00 2 t ti (next_ended (asking i) ask word first)
+    let asks = sends_ask b p first i label t is ti refl refl in
+    let second = next_by (asking i label) ask word first in
+    let at_second : second.place ≡ 1 = next_place (asking i label) ask word first in
+    let offs = sends_turn b p second i 0x00 2 t ti (next_ended (asking i label) ask word first)
     (rw at_second refl) in
     let third = next_by (turning i 0x00 2) (turn t 0x00) 0 second in
     let at_third : third.place ≡ 2 =
@@ -173,13 +171,14 @@ withdrawn_need_is_unsafe steps ready b s n d need r bound is starts need_selecte
     omega (arith, more, at_second)
     in
     let ons = sends_turn b p third j 0x80 3 u uj
-    (next_ended (turning i 0x00 2) (turn t 0x00) 0 second ∙ next_ended (asking i) ask word first)
+    (next_ended (turning i 0x00 2) (turn t 0x00) 0 second
+    ∙ next_ended (asking i label) ask word first)
     (rw at_third refl) in
     let fourth = next_by (turning j 0x80 3) (turn u 0x80) 0 third in
-    let e = entry_by (asking i) ask word first in
+    let e = entry_by (asking i label) ask word first in
     let f = entry_by (turning i 0x00 2) (turn t 0x00) 0 second in
     let g = entry_by (turning j 0x80 3) (turn u 0x80) 0 third in
-    let seen = step_seen steps b p first (asking i) ask word is program
+    let seen = step_seen steps b p first (asking i label) ask word is program
     (ready b p s is program starts) asks in
     let seen_off =
     step_seen steps b p second (turning i 0x00 2) (turn t 0x00) 0 is program seen.ready
@@ -188,7 +187,7 @@ withdrawn_need_is_unsafe steps ready b s n d need r bound is starts need_selecte
     seen_off.ready ons in
     let run : IsRun b p first (plain word ∷ plain 0 ∷ plain 0 ∷ []) (e ∷ f ∷ g ∷ []) fourth = (
       second,
-      plain_step b p first (asking i) ask word asks,
+      plain_step b p first (asking i label) ask word asks,
       (
         third,
         plain_step b p second (turning i 0x00 2) (turn t 0x00) 0 offs,

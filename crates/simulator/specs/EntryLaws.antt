@@ -1,5 +1,5 @@
 -- What is read back from the samples of entries.
-use Rattle.std.specs.Prelude.{ℕ, ◌+◌, ◌*◌, ◌≡◌, ◌<◌, ◌≤◌, ◌⊎◌, ◌↔◌, Bool, true, Some, None, is_some}
+use Rattle.std.specs.Prelude.{ℕ, ◌+◌, ◌*◌, ◌≡◌, ◌<◌, ◌≤◌, ◌⊎◌, ◌↔◌, Bool, Some, None, is_some}
 use Rattle.std.specs.Prelude.{IsTrue, List, [], length, All}
 use Rattle.std.specs.List.{flat_map}
 use Rattle.wires.specs.declared.lines.Sample.{Sample}

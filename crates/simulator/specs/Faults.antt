@@ -36,14 +36,14 @@ abbrev pub most_ticks : ℕ
 most_ticks = 1000000
 
 -- the targets can't answer so to the instruction at the machine's place
-pub record DoesNotFit (b : Board) (p : List (Instr ℕ)) (m : Machine) (a : Answered) : Type 0 where
+pub record DoesNotFit (b : Board) (p : List Instr) (m : Machine) (a : Answered) : Type 0 where
   pub running : m.ended ≡ Running
-  pub instr : Instr ℕ
+  pub instr : Instr
   pub here : slice_get p m.place ≡ Some instr
   pub outside : FitsStep b m.bus (message_of b instr m.regs) a → ⊥
 
 -- the step would go past the most samples, where so many stand before it
-pub record IsTooLong (b : Board) (p : List (Instr ℕ)) (m : Machine) (a : Answered)
+pub record IsTooLong (b : Board) (p : List Instr) (m : Machine) (a : Answered)
     (before : ℕ) : Type 0 where
   pub entry : Entry
   pub next : Machine
@@ -51,14 +51,14 @@ pub record IsTooLong (b : Board) (p : List (Instr ℕ)) (m : Machine) (a : Answe
   pub long : most_ticks < before + entry.ticks
 
 -- why the answer of an index gives no step, where so many samples stand before it
-abbrev pub IsStepFault : Board → List (Instr ℕ) → Machine → Answered → ℕ → ℕ → RunFault → Type 0
+abbrev pub IsStepFault : Board → List Instr → Machine → Answered → ℕ → ℕ → RunFault → Type 0
 IsStepFault b p m a before index (fault.AfterEnd i) = (m.ended ≢ Running) × (i ≡ index)
 IsStepFault b p m a before index (fault.AnswerDoesNotFit i) = DoesNotFit b p m a × (i ≡ index)
 IsStepFault b p m a before index fault.TooLong = IsTooLong b p m a before
 IsStepFault b p m a before index other = ⊥
 
 -- the run goes as far as an answer, and there it fails
-pub record FailsAt (b : Board) (p : List (Instr ℕ)) (m : Machine) (answers : List Answered)
+pub record FailsAt (b : Board) (p : List Instr) (m : Machine) (answers : List Answered)
     (fault : RunFault) : Type 0 where
   pub index : ℕ
   pub entries : List Entry

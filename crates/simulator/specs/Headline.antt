@@ -38,12 +38,12 @@ pub record ReadsAllowed (b : Board) (entries : List Entry) : Type 0 where
   pub allowed : AreAllowedFrames b entries frames
 
 -- the machine isn't stuck: at its place stands an instruction, to which the targets can answer
-pub record GoesOn (b : Board) (p : List (Instr ℕ)) (m : Machine) : Type 0 where
-  pub instr : Instr ℕ
+pub record GoesOn (b : Board) (p : List Instr) (m : Machine) : Type 0 where
+  pub instr : Instr
   pub here : slice_get p m.place ≡ Some instr
   pub answer : HasAnswer b m.bus (message_of b instr m.regs)
 
-pub record IsSafeWithin (b : Board) (p : List (Instr ℕ)) (bound : ℕ) (entries : List Entry)
+pub record IsSafeWithin (b : Board) (p : List Instr) (bound : ℕ) (entries : List Entry)
     (last : Machine) : Type 0 where
   pub safe : AreSafe b [] entries
   pub frames : ReadsAllowed b entries
@@ -53,7 +53,7 @@ pub record IsSafeWithin (b : Board) (p : List (Instr ℕ)) (bound : ℕ) (entrie
   pub goes_on : last.ended ≡ Running → GoesOn b p last
 
 -- whatever the targets answer within the board's ranges, from every start that the board names
-abbrev pub RunsAreSafe : Board → List (Instr ℕ) → ℕ → Type 0
+abbrev pub RunsAreSafe : Board → List Instr → ℕ → Type 0
 RunsAreSafe b p bound =
     (s : BusState) (answers : List Answered) (entries : List Entry) (last : Machine)
     → IsStart b s → IsRun b p (start_at s) answers entries last

@@ -34,6 +34,6 @@ start_at s =
     record { place = 0; regs = replicate 8 0; counters = replicate 4 0; bus = s; ended = Running }
 
 -- a machine of the board and the program
-pub record IsMachine (b : Board) (p : List (Instr ℕ)) (m : Machine) : Type 0 where
+pub record IsMachine (b : Board) (p : List Instr) (m : Machine) : Type 0 where
   pub place : m.place < length p
   pub bus : Belongs b m.bus

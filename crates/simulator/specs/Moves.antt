@@ -12,7 +12,7 @@ use Rattle.simulator.specs.declared.machine.Ending.TheVariants.{Finished, Failed
 use Rattle.simulator.specs.Machines.{Machine}
 
 -- the register that what is read goes to
-abbrev pub result_in : {L : Type 0} → Instr L → Option ℕ
+abbrev pub result_in : Instr → Option ℕ
 result_in (instr.Receive target register otherwise) = Some register
 result_in (instr.Read target command size register otherwise) = Some register
 result_in (instr.Call target command value register otherwise) = Some register
@@ -27,7 +27,7 @@ with_result (Some register) value regs = slice_set regs register value
 
 -- a message that is done goes on to the next place; any other goes to its label, and no register
 -- changes
-abbrev pub after_message : Instr ℕ → Outcome → Machine → Machine
+abbrev pub after_message : Instr → Outcome → Machine → Machine
 after_message i (Done value) m =
     record m { place = m.place + 1; regs = with_result (result_in i) value m.regs }
 after_message i other m = record m { place = unwrap_or (jump_in i) m.place }
@@ -43,7 +43,7 @@ abbrev pub to_jump : Bool → ℕ → Machine → Machine
 to_jump jumps place m = record m { place = if jumps then place else m.place + 1 }
 
 -- an instruction that sends nothing. Some target alerts: SMBALERT# is low
-abbrev pub silently : Instr ℕ → Machine → Machine
+abbrev pub silently : Instr → Machine → Machine
 silently (instr.IfAlert jump) m = to_jump (nat_lt 0 m.bus.alerting) jump m
 silently (instr.Set register value) m =
     to_next (record m { regs = slice_set m.regs register value })
@@ -67,6 +67,6 @@ silently _ m = m
 
 -- the machine after an instruction that sent this message, or none, where the targets' state is the
 -- new one
-abbrev pub moved : Instr ℕ → Option Asked → Outcome → BusState → Machine → Machine
+abbrev pub moved : Instr → Option Asked → Outcome → BusState → Machine → Machine
 moved i None outcome new m = record (silently i m) { bus = new }
 moved i (Some message) outcome new m = record (after_message i outcome m) { bus = new }

@@ -1,5 +1,5 @@
 -- What a run of the model is seen to do.
-use Rattle.std.specs.Prelude.{◌≡◌, ℕ, List, [], ◌∷◌, map, slice_get, Option, Some}
+use Rattle.std.specs.Prelude.{◌≡◌, List, [], ◌∷◌, map, slice_get, Option, Some}
 use Rattle.std.specs.Prelude.{None}
 use Rattle.wires.specs.declared.lines.Sample.{Sample}
 use Rattle.wires.specs.Events.{events_of}
@@ -36,16 +36,16 @@ AreStepFrames samples None a frames = frames ≡ []
 AreStepFrames samples (Some m) a frames =
     (f : Shown) × (frames ≡ f ∷ []) × IsFrameOf samples m a (outcome_of (Some m) a) f
 
-pub record StepHasFrames (b : Board) (p : List (Instr ℕ)) (m : Machine) (a : Answered) (e : Entry)
+pub record StepHasFrames (b : Board) (p : List Instr) (m : Machine) (a : Answered) (e : Entry)
     (next : Machine) (frames : List Shown) : Type 0 where
   pub step : IsStep b p m a e next
-  pub instr : Instr ℕ
+  pub instr : Instr
   pub here : slice_get p m.place ≡ Some instr
   pub read : AreFrames (events_of e.samples) frames
   pub are : AreStepFrames e.samples (message_of b instr m.regs) a frames
 
 -- the frames of each step of a run
-abbrev pub AreRunFrames : Board → List (Instr ℕ) → Machine → List Answered → List Entry
+abbrev pub AreRunFrames : Board → List Instr → Machine → List Answered → List Entry
     → List (List Shown) → Type 0
 AreRunFrames b p m [] [] [] = Unit {0}
 AreRunFrames b p m (a ∷ answers) (e ∷ entries) (fs ∷ frames) =
@@ -57,7 +57,7 @@ abbrev pub run_samples : List Entry → List Sample
 run_samples entries = joined (map (λ (e : Entry). e.samples) entries)
 
 -- the lines of the whole run are read as the frames of its steps in order, and as no others
-pub record RunIsSeen (b : Board) (p : List (Instr ℕ)) (m : Machine) (answers : List Answered)
+pub record RunIsSeen (b : Board) (p : List Instr) (m : Machine) (answers : List Answered)
     (entries : List Entry) (last : Machine) : Type 0 where
   pub frames : List (List Shown)
   pub steps : AreRunFrames b p m answers entries frames
@@ -69,7 +69,7 @@ pub record RunIsSeen (b : Board) (p : List (Instr ℕ)) (m : Machine) (answers :
 -- every run from a machine that is ready
 abbrev pub RunsAreSeen : Type 0
 RunsAreSeen =
-    (b : Board) (p : List (Instr ℕ)) (m last : Machine) (answers : List Answered)
+    (b : Board) (p : List Instr) (m last : Machine) (answers : List Answered)
     (entries : List Entry)
     → IsBoard b → IsProgram p → IsReady b p m → IsRun b p m answers entries last
     → RunIsSeen b p m answers entries last

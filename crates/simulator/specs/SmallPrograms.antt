@@ -1,15 +1,20 @@
--- Small programs, of which what the checker promises of every run holds, or doesn't whatever else the
--- board says.
-use Rattle.std.specs.Prelude.{◌≡◌, ◌≢◌, ◌<◌, ◌+◌, ◌*◌, ℕ, false, List, [], ◌∷◌, Some, None, IsSome}
-use Rattle.std.specs.Prelude.{slice_index, IsTrue, Contains}
-use Rattle.smbus.specs.declared.message.Form.TheVariants.{SendByte}
+-- Small programs, of which what the checker promises of every run holds, or doesn't whatever else
+-- the board says.
+use Rattle.std.specs.Prelude.{◌≡◌, ◌≢◌, ◌<◌, ◌+◌, ◌*◌, ℕ, true, false, List, [], ◌∷◌, length, Some}
+use Rattle.std.specs.Prelude.{None}
+use Rattle.std.specs.Prelude.{slice_get, slice_index, IsSome, IsSomeAnd, IsTrue, Contains}
+use Rattle.smbus.specs.declared.message.Form.{Form}
+use Rattle.smbus.specs.declared.message.Form.TheVariants.{SendByte, WriteByte, WriteWord}
+use Rattle.smbus.specs.declared.message.Form.TheVariants.{ReadWord}
 use Rattle.pmbus_table.specs.Codes.{clear_faults_code, operation_code, status_word_code}
 use Rattle.pmbus_table.specs.Codes.{vout_command_code}
 use Rattle.pmbus_table.specs.Commands.{takes_form}
 use Rattle.pmbus_table.specs.Protect.{permits}
+use Rattle.pmbus_table.specs.Status.{reported_good}
 use Rattle.pmbus_table.specs.Voltage.{IsWithin}
 use Rattle.board.specs.Boards.{Target, Rail, Board, entry_of, largest_stretch}
 use Rattle.board.specs.Valid.{IsBoard}
+use Rattle.targets.specs.Fitting.{IsIn}
 use Rattle.targets.specs.States.{BusState, IsStart, IsTargetAt}
 use Rattle.seq_program.specs.declared.instr.Instr.{Instr}
 use Rattle.seq_program.specs.declared.instr.Instr.TheVariants.{Send, Write, Read, End}
@@ -19,7 +24,7 @@ use Rattle.simulator.specs.Reports.{Selects}
 use Rattle.simulator.specs.Safe.{is_guarded}
 use Rattle.simulator.specs.Headline.{RunsAreSafe}
 
-abbrev pub ending_program : List (Instr ℕ)
+abbrev pub ending_program : List Instr
 ending_program = End ∷ []
 
 -- a program that only ends is safe on every board, within one tick
@@ -27,11 +32,24 @@ abbrev pub EndingIsSafe : Type 0
 EndingIsSafe = (b : Board) → RunsAreSafe b ending_program 1
 
 -- a Send Byte of a code (SMBus 3.2, 6.5.2)
-abbrev pub sending_program : ℕ → ℕ → List (Instr ℕ)
+abbrev pub sending_program : ℕ → ℕ → List Instr
 sending_program target code = Send target code 1 ∷ End ∷ []
 
--- CLEAR_FAULTS to a target that has an entry for it is safe, whatever is protected, within the
+-- whatever a start of the board stores in WRITE_PROTECT for the target permits a write of the code
+-- (PMBus 1.3 Part II, 11.1)
+abbrev pub StartsPermit : Board → ℕ → ℕ → Type 0
+StartsPermit b i code = (s : BusState) → IsStart b s → IsTrue (is_guarded code)
+    → permits (slice_index s.protect i) code ≡ Some true
+
+-- a Send Byte for which the target has an entry, and which every start permits, is safe within the
 -- ticks of its 19 slots and one for the end
+abbrev pub ListedSendIsSafe : Type 0
+ListedSendIsSafe = (b : Board) (i : ℕ) (t : Target) (code : ℕ) → IsBoard b → IsTargetAt b i t
+    → IsTrue (takes_form code SendByte) → IsSome (entry_of SendByte code t.allow)
+    → StartsPermit b i code
+    → RunsAreSafe b (sending_program i code) (3 + 19 * (3 + largest_stretch b.targets))
+
+-- so CLEAR_FAULTS is, whatever is protected
 abbrev pub ClearingIsSafe : Type 0
 ClearingIsSafe = (b : Board) (i : ℕ) (t : Target) → IsBoard b → IsTargetAt b i t
     → IsSome (entry_of SendByte clear_faults_code t.allow)
@@ -54,8 +72,25 @@ ProtectedWriteIsUnsafe =
     → permits protect code ≡ Some false → RunsAreSafe b (sending_program i code) bound → ⊥
 
 -- a voltage
-abbrev pub voltage_program : ℕ → ℕ → List (Instr ℕ)
+abbrev pub voltage_program : ℕ → ℕ → List Instr
 voltage_program target word = Write target vout_command_code (written.Word word) 1 ∷ End ∷ []
+
+-- the target has an entry of the form and the code, and the value is one of the entry's
+abbrev pub Lists : Target → Form → ℕ → ℕ → Type 0
+Lists t form code value = IsSomeAnd (entry_of form code t.allow) (λ e. IsIn e.values value)
+
+-- at every start the word is within the limit of each rail that PAGE selects
+abbrev pub StartsAreWithin : Board → ℕ → Target → ℕ → Type 0
+StartsAreWithin b i t word = (s : BusState) (d : ℕ) (r : Rail) → IsStart b s → Selects b s i d r
+    → IsWithin word t.exponent r.limit_uv
+
+-- a voltage for which the target has an entry, which every start permits, and which is within the
+-- limits, is safe within the ticks of its 37 slots and one for the end
+abbrev pub VoltageWithinLimitIsSafe : Type 0
+VoltageWithinLimitIsSafe = (b : Board) (i : ℕ) (t : Target) (word : ℕ) → IsBoard b
+    → IsTargetAt b i t → word < 65536 → Lists t WriteWord vout_command_code word
+    → StartsPermit b i vout_command_code → StartsAreWithin b i t word
+    → RunsAreSafe b (voltage_program i word) (3 + 37 * (3 + largest_stretch b.targets))
 
 -- a voltage over the limit of a rail isn't safe, where PAGE may select the rail at the start
 abbrev pub VoltageOverLimitIsUnsafe : Type 0
@@ -66,8 +101,21 @@ VoltageOverLimitIsUnsafe =
     → RunsAreSafe b (voltage_program r.target word) bound → ⊥
 
 -- 80h turns on (PMBus 1.3 Part II, 12.1)
-abbrev pub enabling_program : ℕ → List (Instr ℕ)
+abbrev pub enabling_program : ℕ → List Instr
 enabling_program target = Write target operation_code (written.Byte 0x80) 1 ∷ End ∷ []
+
+-- no rail that PAGE selects at a start has needs
+abbrev pub StartsHaveNoNeeds : Board → ℕ → Type 0
+StartsHaveNoNeeds b i = (s : BusState) (d : ℕ) (r : Rail) → IsStart b s → Selects b s i d r
+    → r.needs ≡ []
+
+-- turning on rails that have no needs is safe where the target has an entry for it and every start
+-- permits it, within the ticks of its 28 slots and one for the end
+abbrev pub EnablingWithoutNeedsIsSafe : Type 0
+EnablingWithoutNeedsIsSafe = (b : Board) (i : ℕ) (t : Target) → IsBoard b → IsTargetAt b i t
+    → Lists t WriteByte operation_code 0x80 → StartsPermit b i operation_code
+    → StartsHaveNoNeeds b i
+    → RunsAreSafe b (enabling_program i) (3 + 28 * (3 + largest_stretch b.targets))
 
 -- a program that turns on a rail with needs, and asks for none of them, isn't safe within any
 -- bound: not where PAGE may select the rail at the start
@@ -76,41 +124,122 @@ EnablingAtOnceIsUnsafe = (b : Board) (s : BusState) (d : ℕ) (r : Rail) (bound 
     → IsStart b s
     → Selects b s r.target d r → r.needs ≢ [] → RunsAreSafe b (enabling_program r.target) bound → ⊥
 
--- asks whether a need is good, turns it off, and turns on what needs it
-abbrev pub withdrawing_program : ℕ → ℕ → List (Instr ℕ)
-withdrawing_program need target =
-    Read need status_word_code width.Word 0 1 ∷ Write need operation_code (written.Byte 0x00) 2
+-- asks whether a need is good, turns it off, and turns on what needs it; where it got no report, it
+-- goes on at the label
+abbrev pub withdrawing_program : ℕ → ℕ → ℕ → List Instr
+withdrawing_program label need target =
+    Read need status_word_code width.Word 0 label ∷ Write need operation_code (written.Byte 0x00) 2
     ∷ Write target operation_code (written.Byte 0x80) 3 ∷ End ∷ []
 
 -- what was reported is withdrawn, whatever the word was
 abbrev pub WithdrawnNeedIsUnsafe : Type 0
 WithdrawnNeedIsUnsafe =
-    (b : Board) (s : BusState) (n d : ℕ) (need r : Rail) (bound : ℕ) → IsBoard b → IsStart b s
+    (b : Board) (s : BusState) (n d : ℕ) (need r : Rail) (label bound : ℕ) → IsBoard b
+    → IsStart b s → label < 4
     → Selects b s need.target n need → Selects b s r.target d r → Contains r.needs n
-    → RunsAreSafe b (withdrawing_program need.target r.target) bound → ⊥
+    → RunsAreSafe b (withdrawing_program label need.target r.target) bound → ⊥
 
--- There is a board with a start where each of these says something: a rail that PAGE selects, over
--- whose limit a word is, which needs another rail that PAGE selects too; an entry for CLEAR_FAULTS;
--- and a code without an entry, which the stored protection doesn't permit.
-pub record SomeProgramsAreJudged : Type 0 where
+-- Each law speaks of some program on some board, where nothing else is wrong with the program than
+-- what its law names: an entry lists what it sends, the starts permit what it writes, and so on.
+
+-- a board with its first target, and a start
+pub record StartedBoard : Type 0 where
   pub board : Board
   pub state : BusState
+  pub target : Target
   pub is_board : IsBoard board
   pub is_start : IsStart board state
-  pub target : Target
   pub first : IsTargetAt board 0 target
-  pub clears : IsSome (entry_of SendByte clear_faults_code target.allow)
+
+-- a guarded Send Byte that is listed and permitted
+pub record SomeSendIsListed : Type 0 where
+  pub on : StartedBoard
   pub code : ℕ
   pub takes : IsTrue (takes_form code SendByte)
-  pub unlisted : entry_of SendByte code target.allow ≡ None
   pub guarded : IsTrue (is_guarded code)
+  pub listed : IsSome (entry_of SendByte code on.target.allow)
+  pub permitted : StartsPermit on.board 0 code
+
+-- CLEAR_FAULTS that is listed
+pub record SomeClearingIsListed : Type 0 where
+  pub on : StartedBoard
+  pub listed : IsSome (entry_of SendByte clear_faults_code on.target.allow)
+
+-- a Send Byte that is permitted, and whose code is listed in another form alone
+pub record SomeFormIsUnlisted : Type 0 where
+  pub on : StartedBoard
+  pub code : ℕ
+  pub takes : IsTrue (takes_form code SendByte)
+  pub other : IsSome (entry_of WriteByte code on.target.allow)
+  pub unlisted : entry_of SendByte code on.target.allow ≡ None
+  pub permitted : StartsPermit on.board 0 code
+
+-- one that is listed, and forbidden
+pub record SomeWriteIsProtected : Type 0 where
+  pub on : StartedBoard
+  pub code : ℕ
+  pub takes : IsTrue (takes_form code SendByte)
+  pub guarded : IsTrue (is_guarded code)
+  pub listed : IsSome (entry_of SendByte code on.target.allow)
   pub protect : ℕ
-  pub stored : slice_index state.protect 0 ≡ protect
+  pub stored : slice_index on.state.protect 0 ≡ protect
   pub forbids : permits protect code ≡ Some false
+
+-- a voltage that is listed and permitted, for a rail that PAGE selects
+pub record ListedVoltage : Type 0 where
+  pub on : StartedBoard
+  pub word : ℕ
+  pub small : word < 65536
+  pub listed : Lists on.target WriteWord vout_command_code word
+  pub permitted : StartsPermit on.board 0 vout_command_code
   pub rail : Rail
-  pub selected : Selects board state rail.target 0 rail
   pub on_first : rail.target ≡ 0
-  pub over : IsWithin 65535 target.exponent rail.limit_uv → ⊥
+  pub selected : Selects on.board on.state rail.target 0 rail
+
+-- and within the limits
+pub record SomeVoltageIsWithin : Type 0 where
+  pub case : ListedVoltage
+  pub within : StartsAreWithin case.on.board 0 case.on.target case.word
+
+-- or over the rail's
+pub record SomeVoltageIsOver : Type 0 where
+  pub case : ListedVoltage
+  pub over : IsWithin case.word case.on.target.exponent case.rail.limit_uv → ⊥
+
+-- turning on a rail that PAGE selects is listed and permitted
+pub record ListedEnabling : Type 0 where
+  pub on : StartedBoard
+  pub listed : Lists on.target WriteByte operation_code 0x80
+  pub permitted : StartsPermit on.board 0 operation_code
+  pub rail : Rail
+  pub on_first : rail.target ≡ 0
+  pub selected : Selects on.board on.state rail.target 0 rail
+
+-- and no rail has needs
+pub record SomeRailHasNoNeeds : Type 0 where
+  pub case : ListedEnabling
+  pub none : StartsHaveNoNeeds case.on.board 0
+
+-- or this one has some
+pub record SomeRailHasNeeds : Type 0 where
+  pub case : ListedEnabling
+  pub some : case.rail.needs ≢ []
+
+-- the one rail that it needs is on a target whose PAGE is the rail's; asking it is listed, and
+-- tells only what is good; turning it off is listed and permitted
+pub record SomeNeedIsWithdrawn : Type 0 where
+  pub case : ListedEnabling
   pub need : Rail
-  pub need_selected : Selects board state need.target 1 need
-  pub needed : Contains rail.needs 1
+  pub other : Target
+  pub at : IsTargetAt case.on.board need.target other
+  pub need_selected : Selects case.on.board case.on.state need.target 1 need
+  pub page : slice_index case.on.state.page need.target ≡ need.page
+  pub needed : Contains case.rail.needs 1
+  pub no_other : length case.rail.needs ≡ 1
+  pub label : ℕ
+  pub lands : label < 4
+  pub ends : slice_get (withdrawing_program label need.target case.rail.target) label ≡ Some End
+  pub good : IsSomeAnd (entry_of ReadWord status_word_code other.allow)
+      (λ e. (word : ℕ) → IsIn e.values word → IsTrue (reported_good word))
+  pub turns_off : Lists other WriteByte operation_code 0x00
+  pub may_turn_off : StartsPermit case.on.board need.target operation_code

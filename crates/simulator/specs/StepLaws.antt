@@ -1,5 +1,5 @@
 -- What a step of the model is seen to do.
-use Rattle.std.specs.Prelude.{◌≡◌, ◌<◌, ℕ, List, [], slice_get, Option, Some, None, All}
+use Rattle.std.specs.Prelude.{◌≡◌, ◌<◌, List, [], slice_get, Option, Some, None, All}
 use Rattle.wires.specs.Events.{events_of}
 use Rattle.smbus.specs.Asked.{Asked}
 use Rattle.smbus.specs.Answered.{Answered}
@@ -21,7 +21,7 @@ use Rattle.simulator.specs.Steps.{alert_level, IsStep}
 use Rattle.simulator.specs.StepDoes.{StepDoes}
 
 -- a machine of the board and the program whose registers are words
-pub record IsReady (b : Board) (p : List (Instr ℕ)) (m : Machine) : Type 0 where
+pub record IsReady (b : Board) (p : List Instr) (m : Machine) : Type 0 where
   pub machine : IsMachine b p m
   pub words : All (λ word. word < 65536) m.regs
 
@@ -40,9 +40,9 @@ abbrev pub Sees : BusState → Option Asked → Answered → Entry → Type 0
 Sees s None a e = AreFrames (events_of e.samples) []
 Sees s (Some m) a e = SeesMessage s m a e
 
-pub record StepIsSeen (b : Board) (p : List (Instr ℕ)) (m : Machine) (a : Answered) (e : Entry)
+pub record StepIsSeen (b : Board) (p : List Instr) (m : Machine) (a : Answered) (e : Entry)
     (next : Machine) : Type 0 where
-  pub instr : Instr ℕ
+  pub instr : Instr
   pub here : slice_get p m.place ≡ Some instr
   pub sees : Sees m.bus (message_of b instr m.regs) a e
   -- the message and the answer tell what it is seen to write, report and withdraw
@@ -53,18 +53,18 @@ pub record StepIsSeen (b : Board) (p : List (Instr ℕ)) (m : Machine) (a : Answ
 
 -- every step of a machine that is ready
 abbrev pub StepsAreSeen : Type 0
-StepsAreSeen = (b : Board) (p : List (Instr ℕ)) (m next : Machine) (a : Answered) (e : Entry)
+StepsAreSeen = (b : Board) (p : List Instr) (m next : Machine) (a : Answered) (e : Entry)
     → IsBoard b → IsProgram p → IsReady b p m → IsStep b p m a e next → StepIsSeen b p m a e next
 
 -- and where a run may start it is
 abbrev pub StartsAreReady : Type 0
-StartsAreReady = (b : Board) (p : List (Instr ℕ)) (s : BusState) → IsBoard b → IsProgram p
+StartsAreReady = (b : Board) (p : List Instr) (s : BusState) → IsBoard b → IsProgram p
     → IsStart b s → IsReady b p (start_at s)
 
 -- there is such a step, and it sends a message
 pub record SomeStepIsTaken : Type 0 where
   pub board : Board
-  pub program : List (Instr ℕ)
+  pub program : List Instr
   pub machine : Machine
   pub answer : Answered
   pub entry : Entry

@@ -24,12 +24,12 @@ abbrev pub alert_level : BusState → Bool
 alert_level s = s.alerting == 0
 
 -- for how many ticks more than one an instruction waits
-abbrev pub idle_ticks : Instr ℕ → ℕ
+abbrev pub idle_ticks : Instr → ℕ
 idle_ticks (Wait ticks) = ticks
 idle_ticks _ = 0
 
 -- the lines in a step: an idle sample and the message's frame, or idle samples
-abbrev pub step_samples : BusState → Instr ℕ → Option Asked → Answered → List Sample
+abbrev pub step_samples : BusState → Instr → Option Asked → Answered → List Sample
 step_samples s i None a = idle_samples (alert_level s) (suc (idle_ticks i))
 step_samples s i (Some message) a = samples_of (alert_level s) message a
 
@@ -38,7 +38,7 @@ abbrev pub sent_outcome : Option Asked → Answered → Option Outcome
 sent_outcome None a = None
 sent_outcome (Some message) a = Some (outcome_of (Some message) a)
 
-abbrev pub entry_of : Instr ℕ → Option Asked → Answered → Machine → Entry
+abbrev pub entry_of : Instr → Option Asked → Answered → Machine → Entry
 entry_of i message a m =
     record {
       place = m.place;
@@ -49,7 +49,7 @@ entry_of i message a m =
     }
 
 -- the step of an instruction that sends this message, or none, under an answer that fits
-pub record IsStepOf (b : Board) (i : Instr ℕ) (message : Option Asked) (m : Machine) (a : Answered)
+pub record IsStepOf (b : Board) (i : Instr) (message : Option Asked) (m : Machine) (a : Answered)
     (e : Entry) (next : Machine) : Type 0 where
   pub fits : FitsStep b m.bus message a
   pub bus : IsAfter b m.bus message a next.bus
@@ -57,15 +57,15 @@ pub record IsStepOf (b : Board) (i : Instr ℕ) (message : Option Asked) (m : Ma
   pub entry_is : e ≡ entry_of i message a m
 
 -- a step of a machine that runs, by the instruction at its place
-pub record IsStep (b : Board) (p : List (Instr ℕ)) (m : Machine) (a : Answered) (e : Entry)
+pub record IsStep (b : Board) (p : List Instr) (m : Machine) (a : Answered) (e : Entry)
     (next : Machine) : Type 0 where
   pub running : m.ended ≡ Running
-  pub instr : Instr ℕ
+  pub instr : Instr
   pub here : slice_get p m.place ≡ Some instr
   pub step : IsStepOf b instr (message_of b instr m.regs) m a e next
 
 -- a run: a step for each answer
-abbrev pub IsRun : Board → List (Instr ℕ) → Machine → List Answered → List Entry → Machine → Type 0
+abbrev pub IsRun : Board → List Instr → Machine → List Answered → List Entry → Machine → Type 0
 IsRun b p m [] [] last = last ≡ m
 IsRun b p m (a ∷ answers) (e ∷ entries) last =
     (next : Machine) × IsStep b p m a e next × IsRun b p next answers entries last

@@ -2,10 +2,16 @@ ghost use Rattle.simulator.specs.Does.{EntriesDoAsAsked};
 ghost use Rattle.simulator.specs.EntryLaws.{EntriesReadBack, IdleReadsBack, JoinedReadBack};
 ghost use Rattle.simulator.specs.RunLaws.{RunsAreSeen};
 ghost use Rattle.simulator.specs.SafeLaws.{AllowedFramesAreSeen, SafeStepsAreSafeRuns};
-ghost use Rattle.simulator.specs.SmallPrograms.{EndingIsSafe, ClearingIsSafe};
+ghost use Rattle.simulator.specs.SmallPrograms.{EndingIsSafe, ListedSendIsSafe, ClearingIsSafe};
+ghost use Rattle.simulator.specs.SmallPrograms.{VoltageWithinLimitIsSafe};
+ghost use Rattle.simulator.specs.SmallPrograms.{EnablingWithoutNeedsIsSafe};
 ghost use Rattle.simulator.specs.SmallPrograms.{EnablingAtOnceIsUnsafe, WithdrawnNeedIsUnsafe};
 ghost use Rattle.simulator.specs.SmallPrograms.{ProtectedWriteIsUnsafe, UnlistedFormIsUnsafe};
-ghost use Rattle.simulator.specs.SmallPrograms.{VoltageOverLimitIsUnsafe, SomeProgramsAreJudged};
+ghost use Rattle.simulator.specs.SmallPrograms.{VoltageOverLimitIsUnsafe, SomeSendIsListed};
+ghost use Rattle.simulator.specs.SmallPrograms.{SomeVoltageIsWithin, SomeRailHasNoNeeds};
+ghost use Rattle.simulator.specs.SmallPrograms.{SomeFormIsUnlisted, SomeWriteIsProtected};
+ghost use Rattle.simulator.specs.SmallPrograms.{SomeVoltageIsOver, SomeRailHasNeeds};
+ghost use Rattle.simulator.specs.SmallPrograms.{SomeNeedIsWithdrawn, SomeClearingIsListed};
 ghost use Rattle.simulator.specs.StepLaws.{StepsAreSeen, StartsAreReady, SomeStepIsTaken};
 
 use bit_bus::reads_back;
@@ -66,20 +72,33 @@ pub fn safe_steps_are_safe_runs()
     some_answer_fits();
 }
 
-/// What the checker is to promise of every run is told from small programs: it holds of one that
-/// only ends and of one that clears faults, and not, whatever else the board says, of programs that
-/// turn on a rail before its needs reported good, or after such a report was withdrawn, that send a
-/// form for which the target has no entry, write what is protected, or exceed a voltage's limit.
+/// What the checker is to promise of every run is told from small programs. It holds of one that
+/// only ends, and of one that sends a byte, commands a voltage or turns on rails, where the target
+/// has an entry for it, the stored protection permits it, and the limits and needs of the rails
+/// allow it. It doesn't hold, whatever else the board says, of programs that send a form for which
+/// the target has no entry, write what is protected, exceed a voltage's limit, or turn on a rail
+/// before its needs reported good or after such a report was withdrawn.
 pub fn small_programs_are_judged()
     ensures ends { EndingIsSafe }
+    ensures sends { ListedSendIsSafe }
     ensures clears { ClearingIsSafe }
+    ensures commands { VoltageWithinLimitIsSafe }
+    ensures turns_on { EnablingWithoutNeedsIsSafe }
     ensures enables { EnablingAtOnceIsUnsafe }
     ensures withdraws { WithdrawnNeedIsUnsafe }
     ensures lists { UnlistedFormIsUnsafe }
     ensures protects { ProtectedWriteIsUnsafe }
     ensures limits { VoltageOverLimitIsUnsafe }
-    // There is a board on which each of them speaks of some program.
-    ensures case { SomeProgramsAreJudged }
+    // Each of them speaks of some program, for which all else that the others ask for holds.
+    ensures some_send { SomeSendIsListed }
+    ensures some_clearing { SomeClearingIsListed }
+    ensures some_voltage { SomeVoltageIsWithin }
+    ensures some_rail { SomeRailHasNoNeeds }
+    ensures unlisted { SomeFormIsUnlisted }
+    ensures protected { SomeWriteIsProtected }
+    ensures over { SomeVoltageIsOver }
+    ensures needed { SomeRailHasNeeds }
+    ensures withdrawn { SomeNeedIsWithdrawn }
 {
     messages_have_one_frame();
     entries_read_back();

@@ -64,7 +64,7 @@ fn frame_samples(
 }
 
 /// For how many ticks more than one an instruction waits.
-fn idle_ticks(instr: &Instr<usize>) -> u32
+fn idle_ticks(instr: &Instr) -> u32
     requires { IsInstr instr.now }
     ensures value { result ≡ idle_ticks instr.now }
     ensures small { result ≤ 10000000 }
@@ -79,7 +79,7 @@ fn idle_ticks(instr: &Instr<usize>) -> u32
 pub(crate) fn step_samples(
     alloc: Global,
     state: &BusState,
-    instr: &Instr<usize>,
+    instr: &Instr,
     message: Option<&Message>,
     answer: &Answer,
 ) -> Result<Vec<Sample>, AllocError>

@@ -9,7 +9,7 @@ use seq_program::{Instr, Register};
 use targets::{BusState, Outcome};
 
 /// The place to which a message leads that isn't done.
-fn jump_in(instr: &Instr<usize>) -> Option<usize>
+fn jump_in(instr: &Instr) -> Option<usize>
     ensures { result ≡ jump_in instr.now }
 {
     match instr {
@@ -33,7 +33,7 @@ fn jump_in(instr: &Instr<usize>) -> Option<usize>
 }
 
 /// The register that what is read goes to.
-fn result_in(instr: &Instr<usize>) -> Option<Register>
+fn result_in(instr: &Instr) -> Option<Register>
     ensures { result ≡ result_in instr.now }
 {
     match instr {
@@ -60,7 +60,7 @@ fn with_result(register: Option<Register>, value: u16, regs: &[u16; 8]) -> [u16;
 
 /// The machine after a message that ended so, where the targets' state is the new one.
 pub(crate) fn after_message(
-    instr: &Instr<usize>,
+    instr: &Instr,
     outcome: Outcome,
     machine: &Machine,
     bus: BusState,
@@ -90,7 +90,7 @@ fn jump_if(jumps: bool, jump: usize, place: usize) -> usize
 }
 
 /// The machine after an instruction that sends nothing, where the targets' state is the new one.
-pub(crate) fn silently(instr: &Instr<usize>, machine: &Machine, bus: BusState) -> Machine
+pub(crate) fn silently(instr: &Instr, machine: &Machine, bus: BusState) -> Machine
     requires { machine.now.place < 1024 }
     ensures { result ≡ record (silently instr.now machine.now) { bus = bus } }
 {

@@ -26,7 +26,7 @@ pub fn start(
     ensures may { OnOk result (IsStart board.now (start_state pages.now protects.now)) }
     // It is a machine of every program of the board.
     ensures belongs { IfOk result
-        (λ m. (p : List (Instr ℕ)) → IsProgram p → IsMachine board.now p m) }
+        (λ m. (p : List Instr) → IsProgram p → IsMachine board.now p m) }
     ensures bad { IsErrOf result RunFault.BadStart
         → IsStart board.now (start_state pages.now protects.now) → ⊥ }
     ensures only { IfErr result (λ e. (e ≡ RunFault.Memory) ⊎ (e ≡ RunFault.BadStart)) }

@@ -34,7 +34,7 @@ fn is_running(machine: &Machine) -> bool
 }
 
 /// The instruction at the place of a machine.
-fn instr_of<'a>(program: &'a Program, machine: &Machine) -> &'a Instr<usize>
+fn instr_of<'a>(program: &'a Program, machine: &Machine) -> &'a Instr
     requires { machine.now.place < length program.now }
     ensures at { slice_get program.now machine.now.place ≡ Some result.now }
     ensures instr { IsInstr result.now }
@@ -50,7 +50,7 @@ fn instr_of<'a>(program: &'a Program, machine: &Machine) -> &'a Instr<usize>
 
 /// The machine after an instruction that sent this message, or none.
 fn moved(
-    instr: &Instr<usize>,
+    instr: &Instr,
     message: Option<&Message>,
     outcome: Outcome,
     machine: &Machine,
@@ -80,7 +80,7 @@ fn sent_outcome(message: Option<&Message>, outcome: Outcome) -> Option<Outcome>
 fn step_by(
     alloc: Global,
     board: &Board,
-    instr: &Instr<usize>,
+    instr: &Instr,
     message: Option<&Message>,
     machine: &Machine,
     answer: &Answer,
@@ -119,7 +119,7 @@ fn step_by(
 fn step_if_fits(
     alloc: Global,
     board: &Board,
-    instr: &Instr<usize>,
+    instr: &Instr,
     message: Option<&Message>,
     machine: &Machine,
     answer: &Answer,

@@ -146,7 +146,7 @@ fn compare_jumps(rt: &impl Abort, program: &Program) {
 }
 
 /// The index of an instruction's register.
-fn register_of(instr: Option<&Instr<usize>>) -> Option<usize> {
+fn register_of(instr: Option<&Instr>) -> Option<usize> {
     let register = match instr? {
         Instr::Receive { register, .. }
         | Instr::Read { register, .. }

@@ -3,8 +3,18 @@ use Rattle.simulator.proofs.EnablingProgram.{enabling_at_once_is_unsafe}
 use Rattle.simulator.proofs.UnsafePrograms.{protected_write_is_unsafe, voltage_over_limit_is_unsafe}
 use Rattle.simulator.proofs.UnlistedForm.{unlisted_form_is_unsafe}
 use Rattle.simulator.proofs.WithdrawnNeed.{withdrawn_need_is_unsafe}
-use Rattle.simulator.proofs.ClearingProgram.{clearing_is_safe}
-use Rattle.simulator.proofs.JudgedBoard.{some_programs_are_judged}
+use Rattle.simulator.specs.EntryLaws.{IdleReadsBack}
+use Rattle.simulator.specs.SafeLaws.{AllowedFramesAreSeen, SafeStepsAreSafeRuns}
+use Rattle.simulator.specs.StepLaws.{StepsAreSeen, StartsAreReady}
+use Rattle.simulator.proofs.OneMessage.{KnownOfSteps}
+use Rattle.simulator.proofs.SafePrograms.{listed_send_is_safe, clearing_is_safe}
+use Rattle.simulator.proofs.SafePrograms.{voltage_within_limit_is_safe}
+use Rattle.simulator.proofs.SafePrograms.{enabling_without_needs_is_safe}
+use Rattle.simulator.proofs.JudgedPrograms.{some_send_is_listed, some_voltage_is_within}
+use Rattle.simulator.proofs.JudgedPrograms.{some_rail_has_no_needs, some_form_is_unlisted}
+use Rattle.simulator.proofs.JudgedPrograms.{some_write_is_protected, some_voltage_is_over}
+use Rattle.simulator.proofs.JudgedPrograms.{some_rail_has_needs, some_need_is_withdrawn}
+use Rattle.simulator.proofs.JudgedPrograms.{some_clearing_is_listed}
 use Rattle.simulator.proofs.law.small_programs_are_judged.Goals as goal
 
 pub returns-clause-ends : goal.returns-clause-ends
@@ -32,11 +42,59 @@ pub returns-clause-withdraws : goal.returns-clause-withdraws
 returns-clause-withdraws c =
     withdrawn_need_is_unsafe c.steps_are_seen.ensures.steps c.steps_are_seen.ensures.starts
 
+-- the laws on steps and runs
+known : StepsAreSeen → StartsAreReady → IdleReadsBack → AllowedFramesAreSeen → SafeStepsAreSafeRuns
+    → KnownOfSteps
+known steps ready idle frames runs =
+    record { steps = steps; ready = ready; idle = idle; frames = frames; runs = runs }
+
+pub returns-clause-sends : goal.returns-clause-sends
+returns-clause-sends c =
+    listed_send_is_safe (known c.steps_are_seen.ensures.steps c.steps_are_seen.ensures.starts
+    c.entries_read_back.ensures.none c.safe_steps_are_safe_runs.ensures.frames
+    c.safe_steps_are_safe_runs.ensures.runs)
+
 pub returns-clause-clears : goal.returns-clause-clears
 returns-clause-clears c =
-    clearing_is_safe c.steps_are_seen.ensures.steps c.steps_are_seen.ensures.starts
+    clearing_is_safe (known c.steps_are_seen.ensures.steps c.steps_are_seen.ensures.starts
     c.entries_read_back.ensures.none c.safe_steps_are_safe_runs.ensures.frames
-    c.safe_steps_are_safe_runs.ensures.runs
+    c.safe_steps_are_safe_runs.ensures.runs)
 
-pub returns-clause-case : goal.returns-clause-case
-returns-clause-case c = some_programs_are_judged
+pub returns-clause-commands : goal.returns-clause-commands
+returns-clause-commands c =
+    voltage_within_limit_is_safe (known c.steps_are_seen.ensures.steps
+    c.steps_are_seen.ensures.starts c.entries_read_back.ensures.none
+    c.safe_steps_are_safe_runs.ensures.frames c.safe_steps_are_safe_runs.ensures.runs)
+
+pub returns-clause-turns_on : goal.returns-clause-turns_on
+returns-clause-turns_on c =
+    enabling_without_needs_is_safe (known c.steps_are_seen.ensures.steps
+    c.steps_are_seen.ensures.starts c.entries_read_back.ensures.none
+    c.safe_steps_are_safe_runs.ensures.frames c.safe_steps_are_safe_runs.ensures.runs)
+
+pub returns-clause-some_send : goal.returns-clause-some_send
+returns-clause-some_send c = some_send_is_listed
+
+pub returns-clause-some_clearing : goal.returns-clause-some_clearing
+returns-clause-some_clearing c = some_clearing_is_listed
+
+pub returns-clause-some_voltage : goal.returns-clause-some_voltage
+returns-clause-some_voltage c = some_voltage_is_within
+
+pub returns-clause-some_rail : goal.returns-clause-some_rail
+returns-clause-some_rail c = some_rail_has_no_needs
+
+pub returns-clause-unlisted : goal.returns-clause-unlisted
+returns-clause-unlisted c = some_form_is_unlisted
+
+pub returns-clause-protected : goal.returns-clause-protected
+returns-clause-protected c = some_write_is_protected
+
+pub returns-clause-over : goal.returns-clause-over
+returns-clause-over c = some_voltage_is_over
+
+pub returns-clause-needed : goal.returns-clause-needed
+returns-clause-needed c = some_rail_has_needs
+
+pub returns-clause-withdrawn : goal.returns-clause-withdrawn
+returns-clause-withdrawn c = some_need_is_withdrawn

@@ -2,10 +2,10 @@ use Rattle.std.proofs.Common.{◌≡◌, ◌∙◌, ap, map, None, false, string
 use Rattle.std.specs.String.{string_eq}
 use Rattle.indexmap.specs.IndexMap.{get}
 use Rattle.indexmap.proofs.CallerLemmas.{insert_entry-new}
-use Rattle.seq_program.specs.Passes.{has_label}
+use Rattle.seq_program.specs.Labels.{has_label}
 use Rattle.seq_program.specs.PassViews.{label_view, labels_view}
-use Rattle.seq_program.proofs.Labels.{absent_label, label_view-push}
-use Rattle.seq_program.proofs.pass.add_label.Goals as goal
+use Rattle.seq_program.proofs.LabelEntries.{absent_label, label_view-push}
+use Rattle.seq_program.proofs.labels.add_new.Goals as goal
 
 pub returns-clause-added : goal.returns-clause-added
 returns-clause-added c =
@@ -15,6 +15,6 @@ returns-clause-added c =
     let none : get string_eq c.args.labels.now k ≡ None =
     absent_label (string_bytes k) c.args.labels.now.entries has in
     ap (map label_view) (c.in_ok-insert.ensures.entries
-    ∙ insert_entry-new string_eq c.args.labels.now k c.args.place none)
-    ∙ label_view-push c.args.labels.now.entries k c.args.name.now c.args.place
+    ∙ insert_entry-new string_eq c.args.labels.now k c.args.at none)
+    ∙ label_view-push c.args.labels.now.entries k c.args.name.now c.args.at
     c.in_ok-from_str.ensures.ok

@@ -1,6 +1,6 @@
 use Rattle.std.proofs.Common.{Some, None, lit<}
-use Rattle.seq_program.proofs.Labels.{cut_comment}
-use Rattle.seq_program.proofs.pass.without_comment.Goals as goal
+use Rattle.seq_program.proofs.LabelEntries.{cut_comment}
+use Rattle.seq_program.proofs.labels.without_comment.Goals as goal
 
 pub returns-in-Some : goal.returns-in-Some
 returns-in-Some c =

@@ -1,0 +1,99 @@
+//! The lines that jump and send nothing: what stands between their first word and the label.
+
+ghost use Rattle.std.specs.Prelude.{◌≡◌, ◌≤◌, ℕ, map, IfOk};
+ghost use Rattle.seq_program.specs.Reading.{Gives};
+ghost use Rattle.seq_program.specs.Valid.{IsSaid, JumpsTo};
+ghost use Rattle.seq_program.specs.JumpLines.{if_alert_of, bits_of, if_of, above_of};
+ghost use Rattle.seq_program.specs.JumpLines.{again_of, goto_of};
+
+use crate::fault::ProgramFault;
+use crate::instr::Instr;
+use crate::message_line::{Parsed, word_in};
+use crate::operand::{counter_of, register_of};
+
+pub(crate) fn if_alert_of(line: usize, jump: usize, words: &[&str]) -> Parsed
+    ensures fits { IfOk result (λ i. (targets : ℕ) → IsSaid targets i) }
+    ensures jumps { IfOk result (λ i. JumpsTo jump i) }
+    ensures value { Gives (λ i. i) result
+        (if_alert_of line jump (map (λ w. w.now) words.now)) }
+{
+    if !words.is_empty() {
+        return Err(ProgramFault::BadOperand(line));
+    }
+    Ok(Instr::IfAlert { jump })
+}
+
+/// A mask, and what the bits under it are to be.
+#[tactic(auto, unfolding(crate::specs::JumpLines::bits_of))]
+fn bits_of(line: usize, mask: &str, value: &str) -> Result<(u16, u16), ProgramFault>
+    ensures value { Gives (λ bits. bits) result (bits_of line mask.now value.now) }
+    ensures within { IfOk result (λ bits. (bits.0 ≤ 65535) × (bits.1 ≤ 65535)) }
+{
+    let mask = word_in(line, mask)?;
+    let value = word_in(line, value)?;
+    Ok((mask, value))
+}
+
+#[tactic(auto, unfolding(crate::specs::JumpLines::if_of))]
+pub(crate) fn if_of(line: usize, jump: usize, words: &[&str]) -> Parsed
+    ensures fits { IfOk result (λ i. (targets : ℕ) → IsSaid targets i) }
+    ensures jumps { IfOk result (λ i. JumpsTo jump i) }
+    ensures value { Gives (λ i. i) result (if_of line jump (map (λ w. w.now) words.now)) }
+{
+    let [register, mask, value] = words else {
+        return Err(ProgramFault::BadOperand(line));
+    };
+    let register = register_of(register).ok_or(ProgramFault::BadOperand(line))?;
+    let (mask, value) = bits_of(line, mask, value)?;
+    Ok(Instr::If {
+        register,
+        mask,
+        value,
+        jump,
+    })
+}
+
+#[tactic(auto, unfolding(crate::specs::JumpLines::above_of))]
+pub(crate) fn above_of(line: usize, jump: usize, words: &[&str]) -> Parsed
+    ensures fits { IfOk result (λ i. (targets : ℕ) → IsSaid targets i) }
+    ensures jumps { IfOk result (λ i. JumpsTo jump i) }
+    ensures value { Gives (λ i. i) result
+        (above_of line jump (map (λ w. w.now) words.now)) }
+{
+    let [register, value] = words else {
+        return Err(ProgramFault::BadOperand(line));
+    };
+    let register = register_of(register).ok_or(ProgramFault::BadOperand(line))?;
+    let value = word_in(line, value)?;
+    Ok(Instr::Above {
+        register,
+        value,
+        jump,
+    })
+}
+
+#[tactic(auto, unfolding(crate::specs::JumpLines::again_of))]
+pub(crate) fn again_of(line: usize, jump: usize, words: &[&str]) -> Parsed
+    ensures fits { IfOk result (λ i. (targets : ℕ) → IsSaid targets i) }
+    ensures jumps { IfOk result (λ i. JumpsTo jump i) }
+    ensures value { Gives (λ i. i) result
+        (again_of line jump (map (λ w. w.now) words.now)) }
+{
+    let [counter] = words else {
+        return Err(ProgramFault::BadOperand(line));
+    };
+    let counter = counter_of(counter).ok_or(ProgramFault::BadOperand(line))?;
+    Ok(Instr::Again { counter, jump })
+}
+
+pub(crate) fn goto_of(line: usize, jump: usize, words: &[&str]) -> Parsed
+    ensures fits { IfOk result (λ i. (targets : ℕ) → IsSaid targets i) }
+    ensures jumps { IfOk result (λ i. JumpsTo jump i) }
+    ensures value { Gives (λ i. i) result
+        (goto_of line jump (map (λ w. w.now) words.now)) }
+{
+    if !words.is_empty() {
+        return Err(ProgramFault::BadOperand(line));
+    }
+    Ok(Instr::Goto { jump })
+}
