@@ -1,0 +1,5 @@
+pub mod Shared
+pub mod Sound
+pub mod Covered
+pub mod Coded
+pub mod Witness

@@ -1,0 +1,350 @@
+-- A request whose duties are met is safe, and targets can answer it.
+use Rattle.std.proofs.Common.{◌≡◌, ◌≤◌, ◌<◌, ◌+◌, ◌*◌, ◌/◌, ◌%◌, ◌^◌, ◌==◌, ◌⊎◌, ℕ, Bool, true}
+use Rattle.std.proofs.Common.{Some, List, [], ◌∷◌, length, slice_get, slice_index, slice_index_or}
+use Rattle.std.proofs.Common.{inl, inr, refl, sym, ap, subst, ◌∙◌, arith, All}
+use Rattle.std.specs.Prelude.{IsTrue, unsigned_abs}
+use Rattle.std.proofs.Math.Nat.{mul-le-mul_right}
+use Rattle.std.proofs.lemmas.Bool.{eqb-true, eq-eqb, and_from, or_cases, or_left, or_right}
+use Rattle.std.proofs.lemmas.Bool.{false≢true}
+use Rattle.std.proofs.lemmas.List.Elements.{recursion_from_All}
+use Rattle.smbus.specs.declared.message.Form.TheVariants as form
+use Rattle.smbus.specs.Answered.{Answered}
+use Rattle.pmbus_table.specs.Codes.{page_code, operation_code, write_protect_code}
+use Rattle.pmbus_table.specs.Codes.{vout_command_code}
+use Rattle.pmbus_table.specs.Commands.{takes_form}
+use Rattle.pmbus_table.specs.Table.{table}
+use Rattle.pmbus_table.specs.Operation.{enables}
+use Rattle.pmbus_table.specs.Protect.{permits, is_protection}
+use Rattle.pmbus_table.specs.Voltage.{IsWithin}
+use Rattle.board.specs.declared.entry.Range.{Range}
+use Rattle.board.specs.Boards.{Allow, Target, Rail, Board, entry_of}
+use Rattle.board.specs.Valid.{IsEntry, IsBoard, IsRail, is_page_value}
+use Rattle.targets.specs.States.{IsTargetAt}
+use Rattle.targets.specs.Fitting.{IsIn}
+use Rattle.seq_program.specs.declared.instr.Width.TheVariants as width
+use Rattle.seq_program.specs.declared.instr.Written.TheVariants as written
+use Rattle.seq_program.specs.Messages.{low_byte_first}
+use Rattle.simulator.specs.Machines.{Machine, Entry}
+use Rattle.simulator.specs.Allowed.{word_of, IsInRange, is_operation_value, WritesOnly}
+use Rattle.simulator.specs.Reports.{Selects, IsReportedGood}
+use Rattle.simulator.specs.Safe.{is_guarded}
+use Rattle.simulator.specs.StepDoes.{writes_data}
+use Rattle.facts.specs.declared.rule.Rule.TheVariants.{K1, K2, K3, K4, K5}
+use Rattle.facts.specs.declared.span.Span.{Span}
+use Rattle.facts.specs.Rows.{Row, Admits, IsRow, set_at, span_at, InSpan}
+use Rattle.facts.specs.Requests.{Request, QuickTo, Send, Receive, Write, Read, Call, PutBlock}
+use Rattle.facts.specs.Requests.{GetBlock, CallBlock, form_in, code_in, data_in}
+use Rattle.facts.specs.Duties.{touches, may_select, written_span, MayBeSent, IsInEntry}
+use Rattle.facts.specs.Duties.{IsKnownValue}
+use Rattle.facts.proofs.Shared.Places.{within, same_at, all_at, only_one, is_target}
+use Rattle.facts.proofs.Shared.Forms.{MayWrite, found_entry, guarded_write}
+use Rattle.facts.proofs.Shared.Asking.{asked, IsRequest, Sending, values_same, lengths_same}
+use Rattle.facts.proofs.Sound.Counters.{reg_inside}
+use Rattle.facts.proofs.Sound.SafeSteps.{IsSafeMessage}
+
+-- the entry of a request, with the target at hand
+pub record Entered (b : Board) (row : Row) (t : Target) (r : Request) : Type 0 where
+  pub entry : Allow
+  pub listed : entry_of (form_in r) (code_in r) t.allow ≡ Some entry
+  pub in_entry : IsInEntry row entry r
+  pub known : IsKnownValue t r
+  pub is_entry : IsEntry entry
+  pub same : entry.form ≡ form_in r
+
+pub entered : (b : Board) (row : Row) (i : ℕ) (t : Target) (r : Request) → IsBoard b
+    → IsTargetAt b i t
+    → MayBeSent b row i r → Entered b row t r
+entered b row i t r is at' k =
+    let same : k.target ≡ t = same_at b.targets i k.target t k.at at' in
+    let listed : entry_of (form_in r) (code_in r) t.allow ≡ Some k.entry = let P : Target
+    → Type 0 = λ u. entry_of (form_in r) (code_in r) u.allow ≡ Some k.entry in
+    subst P same k.listed in
+    let good = found_entry IsEntry (form_in r) (code_in r) t.allow k.entry
+    (recursion_from_All IsEntry t.allow (is_target b i t is at').entries) listed in
+    record {
+      entry = k.entry;
+      listed = listed;
+      in_entry = k.in_entry;
+      known = let P : Target → Type 0 = λ u. IsKnownValue u r in subst P same k.known;
+      is_entry = good.0;
+      same = good.1;
+    }
+
+-- what a written word is known to be
+pub written_inside : (b : Board) (row : Row) (m : Machine) (h : List Entry) (k : ℕ) → IsRow b row
+    → Admits b row m h → k < 8
+    → InSpan (span_at row.regs k) (slice_index m.regs k)
+written_inside b row m h k shaped admits lt = (reg_inside b row m h k shaped admits lt).1
+
+word_back : (v : ℕ) → word_of (low_byte_first v) ≡ v
+word_back v = let goal : v % 256 + 256 * (v / 256) ≡ v = omega arith in goal
+
+is_in : (r : Range) (s : Span) (v : ℕ) → r.low ≤ s.lo → s.hi ≤ r.high → InSpan s v → IsIn r v
+is_in r s v low high inside = record {
+  above = omega (arith, low, inside.0);
+  below = omega
+      (arith, high, inside.1);
+}
+
+in_values : (e : Allow) (v w : ℕ) → v ≡ w → IsIn e.values v → IsIn e.values w
+in_values e v w same k = subst (λ (n : ℕ). IsIn e.values n) same k
+
+-- what is written or read lies in the entry's ranges
+in_range : (b : Board) (row : Row) (h : List Entry) (m next : Machine) (i : ℕ) (t : Target)
+    (r : Request)
+    (a : Answered) (e : Entry) → Sending b row h m next i t r a e
+    → (x : Entered b row t r) → IsInRange (form_in r) x.entry (asked t m.regs r) a
+in_range b row h m next i t (QuickTo read) a e k x = tt
+in_range b row h m next i t (Send code) a e k x = tt
+in_range b row h m next i t (Receive register) a e k x =
+    subst (λ (z : Range). IsIn z a.value)
+    (values_same b i t m.regs (Receive register) x.entry k.board k.at
+    x.listed) k.fits.form.0
+in_range b row h m next i t (Write code (written.Byte v)) a e k x =
+    record { above = x.in_entry.0; below = x.in_entry.1 }
+in_range b row h m next i t (Write code (written.Word v)) a e k x =
+    in_values x.entry v (word_of (low_byte_first v)) (sym (word_back v))
+    (record { above = x.in_entry.0; below = x.in_entry.1 })
+in_range b row h m next i t (Write code (written.Register q)) a e k x =
+    let v = slice_index m.regs q in
+    in_values x.entry v (word_of (low_byte_first v)) (sym (word_back v))
+    (is_in x.entry.values (span_at row.regs q) v x.in_entry.0 x.in_entry.1
+    (written_inside b row m h q k.shaped k.admits k.request.1))
+in_range b row h m next i t (Read code width.Byte register) a e k x = λ np nw.
+    subst (λ (z : Range). IsIn z a.value)
+    (values_same b i t m.regs (Read code width.Byte register) x.entry
+    k.board k.at x.listed) (k.fits.form.0.other np nw)
+in_range b row h m next i t (Read code width.Word register) a e k x =
+    subst (λ (z : Range). IsIn z a.value)
+    (values_same b i t m.regs (Read code width.Word register) x.entry
+    k.board k.at x.listed) k.fits.form.0
+in_range b row h m next i t (Call code v register) a e k x =
+    subst (λ (z : Range). IsIn z a.value)
+    (values_same b i t m.regs (Call code v register) x.entry k.board
+    k.at x.listed) k.fits.form.0
+in_range b row h m next i t (PutBlock code bytes) a e k x = x.in_entry
+in_range b row h m next i t (GetBlock code register) a e k x = record {
+  count = subst (λ (z : Range). IsIn z (length a.bytes))
+      (lengths_same b i t m.regs (GetBlock code register) x.entry k.board k.at x.listed)
+      k.fits.form.0.count;
+  each = subst (λ (z : Range). All (IsIn z) a.bytes)
+      (values_same b i t m.regs (GetBlock code register) x.entry k.board k.at x.listed)
+      k.fits.form.0.each;
+}
+in_range b row h m next i t (CallBlock code bytes register) a e k x = record {
+  count = subst (λ (z : Range). IsIn z (length a.bytes))
+      (lengths_same b i t m.regs (CallBlock code bytes register) x.entry k.board k.at x.listed)
+      k.fits.form.0.count;
+  each = subst (λ (z : Range). All (IsIn z) a.bytes)
+      (values_same b i t m.regs (CallBlock code bytes register) x.entry k.board k.at x.listed)
+      k.fits.form.0.each;
+}
+
+-- the value of a Write Byte is one of its command's
+byte_value : (t : Target) (m : Machine) (r : Request) (code : ℕ) (is_value : ℕ → Bool) → IsRequest r
+    → IsKnownValue t r
+    → ((c v : ℕ) → IsKnownValue t (Write c (written.Byte v)) → c ≡ code → IsTrue (is_value v))
+    → WritesOnly code is_value (asked t m.regs r)
+byte_value t m (Write c (written.Byte v)) code is_value q k by f e = by c v k e
+byte_value t m (Write c (written.Word v)) code is_value q k by f e = cc
+byte_value t m (Write c (written.Register n)) code is_value q k by f e = cc
+byte_value t m (QuickTo read) code is_value q k by f e = cc
+byte_value t m (Send c) code is_value q k by f e = cc
+byte_value t m (Receive n) code is_value q k by f e = cc
+byte_value t m (Read c width.Byte n) code is_value q k by f e = cc
+byte_value t m (Read c width.Word n) code is_value q k by f e = cc
+byte_value t m (Call c v n) code is_value q k by f e = cc
+byte_value t m (PutBlock c bytes) code is_value q k by f e = cc
+byte_value t m (GetBlock c n) code is_value q k by f e = cc
+byte_value t m (CallBlock c bytes n) code is_value q k by f e = cc
+
+voltage_word : (code : ℕ) → code ≡ vout_command_code → IsTrue (takes_form code form.WriteWord)
+unfolding table
+voltage_word code e = rw e refl
+
+-- a command that is written takes the form
+takes_written : (r : Request) → IsRequest r → MayWrite (form_in r)
+    → IsTrue (takes_form (code_in r) (form_in r))
+takes_written (Write c (written.Byte v)) q w = q.0
+takes_written (Write c (written.Word v)) q w = q.0
+takes_written (Write c (written.Register n)) q w = voltage_word c q.0
+takes_written (Send c) q w = q
+takes_written (Read c n g) q w = q.0
+takes_written (Call c v n) q w = q.0
+takes_written (PutBlock c bytes) q w = q.0
+takes_written (GetBlock c n) q w = q.0
+takes_written (CallBlock c bytes n) q w = q.0
+takes_written (QuickTo read) q (inl w) = absurd (false≢true w)
+takes_written (QuickTo read) q (inr e) = cc
+takes_written (Receive n) q (inl w) = absurd (false≢true w)
+takes_written (Receive n) q (inr e) = cc
+
+-- a page that may be stored touches what it selects
+pub touched : (b : Board) (row : Row) (m : Machine) (h : List Entry) (i d : ℕ) (r : Rail)
+    (t : Target)
+    → Admits b row m h → IsTargetAt b i t → Selects b m.bus i d r → IsTrue (touches row i r)
+touched b row m h i d r t admits at' s =
+    let stored = slice_index m.bus.page i in
+    let inside : set_at row.pages i stored ≡ true = admits.pages i (within b.targets i t at') in
+    and_from (r.target == i) (may_select (set_at row.pages i) r.page)
+    (eq-eqb r.target i s.on_target)
+    (by stored inside (or_cases (stored == r.page) (stored == 0xFF) s.page))
+  where
+    by : (stored : ℕ) → set_at row.pages i stored ≡ true
+        → ((stored == r.page) ≡ true) ⊎ ((stored == 0xFF) ≡ true)
+        → may_select (set_at row.pages i) r.page ≡ true
+    by stored inside (inl e) =
+        or_left _ _ (ap (set_at row.pages i) (sym (eqb-true stored r.page e)) ∙ inside)
+    by stored inside (inr e) =
+        or_right _ _ (ap (set_at row.pages i) (sym (eqb-true stored 0xFF e)) ∙ inside)
+
+lower_within : (v top : ℕ) (t : Target) (r : Rail) → v ≤ top → IsWithin top t.exponent r.limit_uv
+    → IsWithin v t.exponent r.limit_uv
+lower_within v top t r le k =
+    let below : top * 1000000 ≤ r.limit_uv * 2 ^ unsigned_abs t.exponent = k.below in
+    let more : v * 1000000 ≤ top * 1000000 = mul-le-mul_right 1000000 le in
+    record { least = k.least; most = k.most; below = omega (arith, below, more) }
+
+-- K4: a word that goes out is the one that is commanded
+voltage_of : (b : Board) (row : Row) (h : List Entry) (m next : Machine) (i : ℕ) (t : Target)
+    (r : Request)
+    (a : Answered) (e : Entry) → Sending b row h m next i t r a e
+    → (low high d : ℕ) (rail : Rail) → form_in r ≡ form.WriteWord → code_in r ≡ vout_command_code
+    → data_in m.regs r ≡ low ∷ high ∷ []
+    → slice_get b.rails d ≡ Some rail → IsTrue (touches row i rail)
+    → IsWithin (low + 256 * high) t.exponent rail.limit_uv
+voltage_of b row h m next i t (Write c (written.Word v)) a e k low high d rail f code out at' hit =
+    let same : low + 256 * high ≡ v = two v low high out in
+    rw same ((k.duty K4) (voltage c code) t d rail k.at at' hit)
+  where
+    voltage : (c : ℕ) → c ≡ vout_command_code → IsTrue (Rattle.facts.specs.Duties.carries_voltage c)
+    voltage c e = rw e refl
+
+    two : (v low high : ℕ) → v % 256 ∷ v / 256 ∷ [] ≡ low ∷ high ∷ [] → low + 256 * high ≡ v
+    two v low high e =
+        let x : v % 256 ≡ low = cc in
+        let y : v / 256 ≡ high = cc in
+        omega (arith, x, y)
+voltage_of b row h m next i t
+    (Write c (written.Register n)) a e k low high d rail f code out at' hit =
+    let v = slice_index m.regs n in
+    let same : low + 256 * high ≡ v = two v low high out in
+    let inside : InSpan (span_at row.regs n) v =
+    written_inside b row m h n k.shaped k.admits k.request.1 in
+    rw same (lower_within v (Span.hi (span_at row.regs n)) t rail inside.1
+    ((k.duty K4) (voltage c code) t d rail k.at at' hit))
+  where
+    voltage : (c : ℕ) → c ≡ vout_command_code → IsTrue (Rattle.facts.specs.Duties.carries_voltage c)
+    voltage c e = rw e refl
+
+    two : (v low high : ℕ) → v % 256 ∷ v / 256 ∷ [] ≡ low ∷ high ∷ [] → low + 256 * high ≡ v
+    two v low high e =
+        let x : v % 256 ≡ low = cc in
+        let y : v / 256 ≡ high = cc in
+        omega (arith, x, y)
+voltage_of b row h m next i t (Write c (written.Byte v)) a e k low high d rail f code out at' hit =
+    cc
+voltage_of b row h m next i t (QuickTo read) a e k low high d rail f code out at' hit = cc
+voltage_of b row h m next i t (Send c) a e k low high d rail f code out at' hit = cc
+voltage_of b row h m next i t (Receive n) a e k low high d rail f code out at' hit = cc
+voltage_of b row h m next i t (Read c width.Byte n) a e k low high d rail f code out at' hit = cc
+voltage_of b row h m next i t (Read c width.Word n) a e k low high d rail f code out at' hit = cc
+voltage_of b row h m next i t (Call c v n) a e k low high d rail f code out at' hit = cc
+voltage_of b row h m next i t (PutBlock c bytes) a e k low high d rail f code out at' hit = cc
+voltage_of b row h m next i t (GetBlock c n) a e k low high d rail f code out at' hit = cc
+voltage_of b row h m next i t (CallBlock c bytes n) a e k low high d rail f code out at' hit = cc
+
+-- K5: a byte that goes out is the one that is written
+needs_of : (b : Board) (row : Row) (h : List Entry) (m next : Machine) (i : ℕ) (t : Target)
+    (r : Request)
+    (a : Answered) (e : Entry) → Sending b row h m next i t r a e
+    → (value d : ℕ) (rail : Rail) → form_in r ≡ form.WriteByte → code_in r ≡ operation_code
+    → data_in m.regs r ≡ value ∷ [] → IsTrue (enables value)
+    → slice_get b.rails d ≡ Some rail → IsTrue (touches row i rail)
+    → All (λ need. IsTrue (row.good need)) rail.needs
+needs_of b row h m next i t (Write c (written.Byte v)) a e k value d rail f code out on at' hit =
+    let same : v ≡ value = cc in
+    (k.duty K5) code (ap enables same ∙ on) d rail at' hit
+needs_of b row h m next i t (Write c (written.Word v)) a e k value d rail f code out on at' hit = cc
+needs_of b row h m next i t
+    (Write c (written.Register n)) a e k value d rail f code out on at' hit = cc
+needs_of b row h m next i t (QuickTo read) a e k value d rail f code out on at' hit = cc
+needs_of b row h m next i t (Send c) a e k value d rail f code out on at' hit = cc
+needs_of b row h m next i t (Receive n) a e k value d rail f code out on at' hit = cc
+needs_of b row h m next i t (Read c width.Byte n) a e k value d rail f code out on at' hit = cc
+needs_of b row h m next i t (Read c width.Word n) a e k value d rail f code out on at' hit = cc
+needs_of b row h m next i t (Call c v n) a e k value d rail f code out on at' hit = cc
+needs_of b row h m next i t (PutBlock c bytes) a e k value d rail f code out on at' hit = cc
+needs_of b row h m next i t (GetBlock c n) a e k value d rail f code out on at' hit = cc
+needs_of b row h m next i t (CallBlock c bytes n) a e k value d rail f code out on at' hit = cc
+
+needs_good : (b : Board) (row : Row) (h : List Entry) (m : Machine) (needs : List ℕ)
+    → Admits b row m h
+    → All (λ n. n < length b.rails) needs → All (λ n. IsTrue (row.good n)) needs
+    → All (IsReportedGood b h) needs
+needs_good b row h m needs admits rails good k d lt =
+    admits.good (slice_index_or needs k d) (rails k d lt) (good k d lt)
+
+-- a request that meets its duties is safe
+pub request_is_safe : (b : Board) (row : Row) (h : List Entry) (m next : Machine) (i : ℕ)
+    (t : Target)
+    (r : Request) (a : Answered) (e : Entry) → Sending b row h m next i t r a e
+    → IsSafeMessage b h m.bus (asked t m.regs r) a
+request_is_safe b row h m next i t r a e k =
+    let x = entered b row i t r k.board k.at (k.duty K1) in
+    record {
+      allowed = inr (
+        i,
+        t,
+        k.at,
+        record {
+          to = refl;
+          entry = x.entry;
+          listed = x.listed;
+          in_range = in_range b row h m next i t r a e k x;
+          pages = byte_value t m r page_code (is_page_value t.pages) k.request x.known
+              (λ c v known is. known.0 is);
+          protections = byte_value t m r write_protect_code is_protection k.request x.known
+              (λ c v known is. known.1 is);
+          operations = byte_value t m r operation_code is_operation_value k.request x.known
+              (λ c v known is. known.2 is);
+          one_page = λ paged reads all.
+              false≢true (sym (k.duty K2 paged reads)
+              ∙ (ap (set_at row.pages i) (sym all) ∙ k.admits.pages i (within b.targets i t k.at)));
+        },
+      );
+      protection = λ j u code at' w guarded.
+          let same : j ≡ i = only_one b k.board j i u t at' k.at (sym w.to) in
+          let P : ℕ → Type 0 = λ n. permits (slice_index m.bus.protect n) code ≡ Some true in
+          let Q : ℕ → Type 0 = λ c. permits (slice_index m.bus.protect i) c ≡ Some true in
+          let G : ℕ → Type 0 = λ c. IsTrue (is_guarded c) in
+          let writes : MayWrite (form_in r) = may_write w.went_out in
+          subst P (sym same) (subst Q w.command
+          (k.duty K3 (guarded_write (code_in r) (form_in r) (subst G (sym w.command) guarded)
+          (takes_written r k.request writes) writes)
+          (slice_index m.bus.protect i) (k.admits.protects i (within b.targets i t k.at))));
+      limits = λ j u low high d rail at' w s.
+          let same : j ≡ i = only_one b k.board j i u t at' k.at (sym w.to) in
+          let target : u ≡ t = same_at b.targets i u t
+          (let P : ℕ → Type 0 = λ n. IsTargetAt b n u in subst P same at') k.at in
+          let P : Target → Type 0 = λ z. IsWithin (low + 256 * high) z.exponent rail.limit_uv in
+          let S : ℕ → Type 0 = λ n. Selects b m.bus n d rail in
+          let here : Selects b m.bus i d rail = subst S same s in
+          subst P (sym target)
+          (voltage_of b row h m next i t r a e k low high d rail w.form w.command
+          w.content here.rail (touched b row m h i d rail t k.admits k.at here));
+      order = λ j u value d rail at' w on s.
+          let same : j ≡ i = only_one b k.board j i u t at' k.at (sym w.is_write.to) in
+          let S : ℕ → Type 0 = λ n. Selects b m.bus n d rail in
+          let here : Selects b m.bus i d rail = subst S same s in
+          needs_good b row h m rail.needs k.admits
+          (all_at (IsRail b) b.rails d rail k.board.rails here.rail).needs
+          (needs_of b row h m next i t r a e k value d rail w.is_write.form w.is_write.command
+          w.is_write.content on here.rail (touched b row m h i d rail t k.admits k.at here));
+    }
+  where
+    may_write : {X Y : Type 0}
+        → (IsTrue (writes_data (form_in r)) × X) ⊎ ((form_in r ≡ form.SendByte) × Y)
+        → MayWrite (form_in r)
+    may_write (inl w) = inl w.0
+    may_write (inr s) = inr s.0

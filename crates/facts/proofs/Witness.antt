@@ -1,0 +1,3 @@
+-- A machine that stands at a message, and a row that covers its row.
+pub mod Rows
+pub mod Steps

@@ -1,0 +1,50 @@
+-- What a row that covers another says of it: the law of facts.
+use Rattle.std.specs.Prelude.{◌≡◌, ℕ, List, length, replicate}
+use Rattle.board.specs.Boards.{Board}
+use Rattle.board.specs.Valid.{IsBoard}
+use Rattle.seq_program.specs.declared.instr.Instr.{Instr}
+use Rattle.seq_program.specs.Valid.{IsInstr, IsSaid}
+use Rattle.facts.specs.declared.rule.Rule.{Rule}
+use Rattle.facts.specs.declared.rule.Rule.TheVariants.{K1}
+use Rattle.facts.specs.Rows.{Row, RowCovers, IsRow}
+use Rattle.facts.specs.Duties.{Meets}
+use Rattle.facts.specs.Edges.{Edge, edges}
+use Rattle.facts.specs.Steps.{HasEdge}
+
+-- a row but for its ticks
+abbrev pub without_ticks : Row → Row
+without_ticks row = record row { base = 0; coeffs = replicate 4 0 }
+
+-- a row of the board, whatever its ticks are
+abbrev pub IsShaped : Board → Row → Type 0
+IsShaped b row = IsRow b (without_ticks row)
+
+-- both are rows of the board, and the first covers the second
+pub record Wider (b : Board) (s u : Row) : Type 0 where
+  pub left : IsShaped b s
+  pub right : IsShaped b u
+  pub covers : RowCovers b s u
+
+-- each edge of the second list is covered by one of the first to the same place
+abbrev pub EdgesCover : Board → List Edge → List Edge → Type 0
+EdgesCover b es fs =
+    (x : Edge) → HasEdge fs x → (y : Edge) × HasEdge es y × (y.to ≡ x.to) × RowCovers b y.row x.row
+
+-- a duty that the wider row meets, the other meets too
+abbrev pub DutiesAreKept : Type 0
+DutiesAreKept =
+    (b : Board) (i : Instr) (s u : Row) (rule : Rule)
+    → IsSaid (length b.targets) i → Wider b s u → Meets b s i rule → Meets b u i rule
+
+-- the wider row's edges cover the other's
+abbrev pub EdgesFollow : Type 0
+EdgesFollow =
+    (b : Board) (place : ℕ) (i : Instr) (s u : Row)
+    → IsBoard b → IsSaid (length b.targets) i → Wider b s u
+    → EdgesCover b (edges b place i s) (edges b place i u)
+
+-- where K1 is met, edges of a row of the board have such rows, whatever their ticks are
+abbrev pub EdgesStayShaped : Type 0
+EdgesStayShaped =
+    (b : Board) (place : ℕ) (i : Instr) (row : Row) (e : Edge) → IsBoard b → IsInstr i
+    → IsShaped b row → Meets b row i K1 → HasEdge (edges b place i row) e → IsShaped b e.row

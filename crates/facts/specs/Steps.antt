@@ -1,0 +1,61 @@
+-- One step from a row whose duties are met: what is said of it, and of whole runs.
+use Rattle.std.specs.Prelude.{◌≡◌, ℕ, ◌≤◌, ◌⊎◌, IsTrue, List, [], ◌∷◌, slice_get, Some}
+use Rattle.smbus.specs.Answered.{Answered}
+use Rattle.board.specs.Boards.{Board}
+use Rattle.board.specs.Valid.{IsBoard}
+use Rattle.seq_program.specs.declared.instr.Instr.{Instr}
+use Rattle.seq_program.specs.Messages.{message_of}
+use Rattle.seq_program.specs.Programs.{is_end}
+use Rattle.seq_program.specs.Valid.{IsProgram}
+use Rattle.simulator.specs.declared.machine.Ending.TheVariants.{Running}
+use Rattle.simulator.specs.Machines.{Machine, Entry}
+use Rattle.simulator.specs.Safe.{IsSafe}
+use Rattle.simulator.specs.StepLaws.{IsReady}
+use Rattle.simulator.specs.Steps.{IsStepOf}
+use Rattle.facts.specs.declared.rule.Rule.{Rule}
+use Rattle.facts.specs.Rows.{Row, Admits, IsRow, rank}
+use Rattle.facts.specs.Duties.{Meets}
+use Rattle.facts.specs.Edges.{Edge, edges}
+use Rattle.facts.specs.Ticks.{worst_ticks}
+
+-- the edge is among them
+abbrev pub HasEdge : List Edge → Edge → Type 0
+HasEdge [] x = ⊥
+HasEdge (e ∷ es) x = (x ≡ e) ⊎ HasEdge es x
+
+-- a machine after a step: an edge leads to its place, with a row that admits it and no more ticks
+-- left
+pub record Leads (b : Board) (place : ℕ) (i : Instr) (row : Row) (m : Machine) (next : Machine)
+    (history : List Entry) : Type 0 where
+  pub by : Edge
+  pub there : HasEdge (edges b place i row) by
+  pub to : next.place ≡ by.to
+  pub admits : Admits b by.row next history
+  pub falls : rank by.row next.counters ≤ rank row m.counters
+
+-- a machine before a step: its row, whose duties are met
+pub record Stands (b : Board) (p : List Instr) (i : Instr) (row : Row) (m : Machine)
+    (history : List Entry) : Type 0 where
+  pub board : IsBoard b
+  pub program : IsProgram p
+  pub here : slice_get p m.place ≡ Some i
+  pub shaped : IsRow b row
+  pub ready : IsReady b p m
+  pub admits : Admits b row m history
+  pub running : m.ended ≡ Running
+  pub duties : (rule : Rule) → Meets b row i rule
+
+-- a safe entry within the worst ticks, and an end or an edge
+pub record IsSoundStep (b : Board) (i : Instr) (row : Row) (m : Machine) (history : List Entry)
+    (e : Entry) (next : Machine) : Type 0 where
+  pub safe : IsSafe b history e
+  pub ticks : e.ticks ≤ worst_ticks b i
+  pub goes : (((next.ended ≡ Running → ⊥) × IsTrue (is_end i))
+      ⊎ ((next.ended ≡ Running) × Leads b m.place i row m next (e ∷ history)))
+
+abbrev pub StepsAreSound : Type 0
+StepsAreSound =
+    (b : Board) (p : List Instr) (i : Instr) (row : Row) (m : Machine) (history : List Entry)
+    (a : Answered) (e : Entry) (next : Machine)
+    → Stands b p i row m history → IsStepOf b i (message_of b i m.regs) m a e next
+    → IsSoundStep b i row m history e next

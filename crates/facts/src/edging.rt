@@ -1,0 +1,109 @@
+//! The edges of an instruction.
+
+ghost use Rattle.std.specs.Prelude.{◌≡◌, ◌<◌, ◌++◌, map, IfOk, IfSome, slice_get};
+ghost use Rattle.board.specs.Valid.{IsBoard};
+ghost use Rattle.facts.specs.Rows.{row_view, IsRow};
+ghost use Rattle.facts.specs.Duties.{Meets};
+ghost use Rattle.facts.specs.Edges.{edges};
+ghost use Rattle.facts.specs.Ticks.{worst_ticks};
+ghost use Rattle.facts.specs.Ways.{way_list, ways_list, timed, timed_view};
+ghost use Rattle.facts.specs.declared.rule.Rule.TheVariants.{K1};
+
+use crate::effect::effect_of;
+use crate::going_on::other_ways;
+use crate::heading::heading_of;
+use crate::row::Row;
+use crate::sending::sent_ways;
+use crate::ticks::worst_ticks;
+use crate::ways::{Way, Ways};
+use board::Board;
+use seq_program::{Instr, Program};
+use std::alloc::{AllocError, Global};
+
+/// The ways of an instruction that meets its first duty.
+fn ways(board: &Board, place: usize, instr: &Instr, row: &Row) -> Result<Ways, AllocError>
+    requires board { IsBoard board.now }
+    requires place { place < 1024 }
+    requires row { IsRow board.now (row_view row.now) }
+    requires met { Meets board.now (row_view row.now) instr.now K1 }
+    ensures { IfOk result (λ w. ways_list w ≡ edges board.now place instr.now (row_view row.now)) }
+{
+    match heading_of(instr) {
+        Some(heading) => sent_ways(board, row, &heading, &effect_of(instr), place + 1),
+        None => other_ways(place, instr, row),
+    }
+}
+
+/// The edges, and one more where there is a way.
+fn with_way(
+    mut edges: Vec<(usize, Row, u64)>,
+    way: Option<Way>,
+    ticks: u64,
+) -> Result<Vec<(usize, Row, u64)>, AllocError>
+    ensures { IfOk result (λ es. map timed_view es.items
+        ≡ map timed_view edges.items ++ timed ticks (way_list way)) }
+{
+    if let Some(way) = way {
+        edges.push((way.to, way.row, ticks))?;
+    }
+    Ok(edges)
+}
+
+/// The ways in order, each with the same ticks.
+fn listed(alloc: Global, ways: Ways, ticks: u64) -> Result<Vec<(usize, Row, u64)>, AllocError>
+    ensures { IfOk result (λ es. map timed_view es.items ≡ timed ticks (ways_list ways)) }
+{
+    let first = with_way(Vec::new(alloc), ways.first, ticks)?;
+    with_way(first, ways.second, ticks)
+}
+
+/// The edges of an instruction that meets its first duty.
+fn instr_edges(
+    alloc: Global,
+    board: &Board,
+    place: usize,
+    instr: &Instr,
+    row: &Row,
+) -> Result<Vec<(usize, Row, u64)>, AllocError>
+    requires board { IsBoard board.now }
+    requires place { place < 1024 }
+    requires row { IsRow board.now (row_view row.now) }
+    requires met { Meets board.now (row_view row.now) instr.now K1 }
+    ensures { IfOk result (λ es. map timed_view es.items
+        ≡ timed (worst_ticks board.now instr.now)
+        (edges board.now place instr.now (row_view row.now))) }
+{
+    let ways = ways(board, place, instr, row)?;
+    listed(alloc, ways, worst_ticks(board, instr))
+}
+
+/// What every board keeps to.
+fn board_law(board: &Board)
+    ensures { IsBoard board.now }
+{
+    let _rails = board.rails();
+}
+
+/// Where a place's instruction may lead, the row there, and the most ticks on the way. The
+/// instruction meets its first duty at the row.
+pub fn edges(
+    alloc: Global,
+    board: &Board,
+    program: &Program,
+    place: usize,
+    row: &Row,
+) -> Result<Vec<(usize, Row, u64)>, AllocError>
+    requires place { place < 1024 }
+    requires row { IsRow board.now (row_view row.now) }
+    requires met { IfSome (slice_get program.now place)
+        (λ i. Meets board.now (row_view row.now) i K1) }
+    ensures { IfOk result (λ es. IfSome (slice_get program.now place)
+        (λ i. map timed_view es.items
+        ≡ timed (worst_ticks board.now i) (edges board.now place i (row_view row.now)))) }
+{
+    board_law(board);
+    match program.at(place) {
+        Some(instr) => instr_edges(alloc, board, place, instr, row),
+        None => Ok(Vec::new(alloc)),
+    }
+}

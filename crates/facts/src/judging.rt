@@ -1,0 +1,344 @@
+//! The duties of an instruction at a row.
+
+ghost use Rattle.std.specs.Prelude.{◌≡◌, ◌≤◌, ◌+◌, ◌↔◌, ℕ, true, false, length, slice_get, Some};
+ghost use Rattle.std.specs.Prelude.{None, if◌then◌else◌, IsTrue, IfSome, All};
+ghost use Rattle.pmbus_table.specs.Commands.{form_read, is_paged, counts_as_write};
+ghost use Rattle.pmbus_table.specs.Protect.{permits};
+ghost use Rattle.facts.specs.Duties.{may_select, carries_voltage, IsWithinLimits};
+ghost use Rattle.facts.specs.Duties.{CommandsWithinLimits, Meets, duties, IsFirstFailing};
+ghost use Rattle.facts.specs.Headings.{IsHeadingOf, IsTaken, ReadsOnePageAt, IsUnprotectedAt};
+ghost use Rattle.facts.specs.Headings.{AreNeedsGood};
+ghost use Rattle.facts.specs.Requests.{sent_in, Write};
+ghost use Rattle.facts.specs.Rows.{row_view, set_at};
+ghost use Rattle.facts.specs.declared.rule.Rule.TheVariants.{K1, K2, K3, K4, K5};
+ghost use Rattle.facts.specs.Touching.{touches_in, IsWithinLimit, HasGoodNeeds};
+ghost use Rattle.facts.specs.Permitting.{FourPermit};
+ghost use Rattle.facts.specs.Sets.{all_pages, pages_in, protects_in, rails_in};
+
+use crate::allowing::{is_in_entry, is_known_value, written_span};
+use crate::good_set::GoodSet;
+use crate::heading::{Heading, code_of, heading_of};
+use crate::page_set::PageSet;
+use crate::parts::{pages_at, protects_at};
+use crate::protect_set::ProtectSet;
+use crate::row::Row;
+use crate::rule::Rule;
+use crate::span::Span;
+use board::{Allow, Board, Rail, Target};
+use pmbus_table::code::{OPERATION, VOUT_COMMAND};
+use pmbus_table::{Command, enables, permits, within};
+use seq_program::{Instr, Written};
+use smbus::Form;
+
+/// PAGE's value that stands for all pages.
+const ALL_PAGES: u8 = 0xFF;
+
+/// Whether a paged command isn't read while PAGE may stand for all pages.
+fn reads_one_page(pages: PageSet, command: Command, form: Form) -> bool
+    ensures { IsTrue result ↔ (IsTrue (is_paged command) → form_read command ≡ Some form
+        → pages_in pages all_pages ≡ false) }
+{
+    if command.paged() && command.form_read() == Some(form) {
+        !pages.contains(ALL_PAGES)
+    } else {
+        true
+    }
+}
+
+/// Whether a protection, where it may be stored, permits writes of a code.
+fn permits_at(protects: ProtectSet, protect: u8, code: u8) -> bool
+    ensures { IsTrue result
+        ↔ (IsTrue (protects_in protects protect) → permits protect code ≡ Some true) }
+{
+    if protects.contains(protect) {
+        permits(protect, code) == Some(true)
+    } else {
+        true
+    }
+}
+
+/// Whether each of the four protections that may be stored permits writes of a code.
+fn four_permit(protects: ProtectSet, code: u8) -> bool
+    ensures { IsTrue result ↔ FourPermit protects code }
+{
+    permits_at(protects, 0x00, code)
+        && permits_at(protects, 0x20, code)
+        && permits_at(protects, 0x40, code)
+        && permits_at(protects, 0x80, code)
+}
+
+/// Whether every protection that may be stored permits writes of a code.
+fn all_permit(protects: ProtectSet, code: u8) -> bool
+    ensures { IsTrue result ↔ ((protect : ℕ) → IsTrue (protects_in protects protect)
+        → permits protect code ≡ Some true) }
+{
+    four_permit(protects, code)
+}
+
+/// Whether the message isn't a write that a protection that may be stored forbids.
+fn is_unprotected(protects: ProtectSet, command: Command, form: Form) -> bool
+    ensures { IsTrue result ↔ (IsTrue (counts_as_write command form) → (protect : ℕ)
+        → IsTrue (protects_in protects protect) → permits protect command ≡ Some true) }
+{
+    if command.counts_as_write(form) {
+        all_permit(protects, command.code())
+    } else {
+        true
+    }
+}
+
+/// Whether a rail is known to be good.
+fn is_good(good: GoodSet, rail: usize) -> bool
+    ensures { result ≡ rails_in good rail }
+{
+    match u8::try_from(rail) {
+        Ok(rail) => good.contains(rail),
+        Err(_) => false,
+    }
+}
+
+/// Whether all rails of a list are known to be good.
+fn are_good(good: GoodSet, rails: &[usize]) -> bool
+    ensures { IsTrue result ↔ All (λ rail. IsTrue (rails_in good rail)) rails.now }
+{
+    rails.iter().all(|rail| is_good(good, *rail))
+}
+
+/// Whether some page of a set selects a page.
+fn may_select(pages: PageSet, page: u8) -> bool
+    ensures { result ≡ may_select (pages_in pages) page }
+{
+    pages.contains(page) || pages.contains(ALL_PAGES)
+}
+
+/// Whether a rail is one of a target, and may be touched there.
+pub(crate) fn touches(pages: PageSet, target: usize, rail: &Rail) -> bool
+    ensures { result ≡ touches_in pages target rail.now }
+{
+    rail.target() == target && may_select(pages, rail.page())
+}
+
+/// Whether a voltage is within a rail's limit, where the rail is touched.
+fn is_within_limit(
+    pages: PageSet,
+    target: usize,
+    device: &Target,
+    voltage: u16,
+    rail: &Rail,
+) -> bool
+    ensures { IsTrue result ↔ IsWithinLimit pages target device.now.exponent voltage rail.now }
+{
+    if touches(pages, target, rail) {
+        within(voltage, device.exponent(), rail.limit_uv())
+    } else {
+        true
+    }
+}
+
+/// Whether a voltage is within the limit of each rail that is touched.
+fn is_within_limits(
+    board: &Board,
+    pages: PageSet,
+    target: usize,
+    device: &Target,
+    voltage: u16,
+) -> bool
+    ensures { IsTrue result
+        ↔ All (IsWithinLimit pages target device.now.exponent voltage) board.now.rails }
+{
+    board.rails().iter().all(|rail| is_within_limit(pages, target, device, voltage, rail))
+}
+
+/// Whether a rail's needs are good, where the rail is touched.
+fn has_good_needs(pages: PageSet, target: usize, good: GoodSet, rail: &Rail) -> bool
+    ensures { IsTrue result ↔ HasGoodNeeds pages target good rail.now }
+{
+    if touches(pages, target, rail) {
+        are_good(good, rail.needs())
+    } else {
+        true
+    }
+}
+
+/// Whether the needs of each rail that is touched are good.
+fn has_needs(board: &Board, pages: PageSet, target: usize, good: GoodSet) -> bool
+    ensures { IsTrue result ↔ All (HasGoodNeeds pages target good) board.now.rails }
+{
+    board
+        .rails()
+        .iter()
+        .all(|rail| has_good_needs(pages, target, good, rail))
+}
+
+/// Whether what an instruction writes lies in an entry's ranges, and is one of its command's
+/// values.
+fn is_taken(instr: &Instr, row: &Row, device: &Target, entry: &Allow) -> bool
+    ensures { IsTrue result ↔ IsTaken (row_view row.now) device.now entry.now (sent_in instr.now) }
+{
+    is_in_entry(instr, row, entry) && is_known_value(instr, device)
+}
+
+/// Whether a target allows the message, with every value that it may carry.
+fn may_be_sent(board: &Board, instr: &Instr, row: &Row, heading: &Heading) -> bool
+    requires { IsHeadingOf instr.now heading.now }
+    ensures { IsTrue result ↔ Meets board.now (row_view row.now) instr.now K1 }
+{
+    let Some(device) = board.target(heading.target) else {
+        return false;
+    };
+    let Some(entry) = device.entry(heading.form, code_of(heading)) else {
+        return false;
+    };
+    is_taken(instr, row, device, entry)
+}
+
+/// Whether a paged command isn't read while PAGE may stand for all pages.
+fn is_read_at_one_page(row: &Row, heading: &Heading) -> bool
+    ensures { IsTrue result
+        ↔ IfSome heading.now.command
+        (λ code. ReadsOnePageAt (row_view row.now) heading.now.target code heading.now.form) }
+{
+    match heading.command {
+        Some(command) => { reads_one_page(pages_at(row, heading.target), command, heading.form) }
+        None => true,
+    }
+}
+
+/// Whether every protection that may be stored permits the write.
+fn is_permitted(row: &Row, heading: &Heading) -> bool
+    ensures { IsTrue result
+        ↔ IfSome heading.now.command
+        (λ code. IsUnprotectedAt (row_view row.now) heading.now.target code heading.now.form) }
+{
+    match heading.command {
+        Some(command) => { is_unprotected(protects_at(row, heading.target), command, heading.form) }
+        None => true,
+    }
+}
+
+/// Whether the greatest voltage is within the limit of each rail that is touched.
+fn keeps_limits(board: &Board, row: &Row, target: usize, voltages: Span) -> bool
+    ensures { IsTrue result ↔ IsWithinLimits board.now (row_view row.now) target voltages }
+{
+    match board.target(target) {
+        Some(device) => is_within_limits(board, pages_at(row, target), target, device, voltages.hi),
+        None => true,
+    }
+}
+
+/// Whether what each rail that is touched needs is good.
+fn keeps_order(board: &Board, row: &Row, target: usize) -> bool
+    ensures { IsTrue result ↔ AreNeedsGood board.now (row_view row.now) target }
+{
+    has_needs(board, pages_at(row, target), target, row.good)
+}
+
+/// Whether a command sets a voltage.
+fn carries_voltage(code: u8) -> bool
+    ensures { result ≡ carries_voltage code }
+{
+    code == VOUT_COMMAND
+}
+
+/// Whether these values, if the command sets a voltage, are within the limits.
+fn may_set(board: &Board, row: &Row, target: usize, command: Command, values: Span) -> bool
+    ensures { IsTrue result ↔ (IsTrue (carries_voltage command)
+        → IsWithinLimits board.now (row_view row.now) target values) }
+{
+    if carries_voltage(command.code()) {
+        keeps_limits(board, row, target, values)
+    } else {
+        true
+    }
+}
+
+/// Whether a voltage that is written is within the limits.
+fn writes_within_limits(
+    board: &Board,
+    row: &Row,
+    target: usize,
+    command: Command,
+    value: &Written,
+) -> bool
+    ensures { IsTrue result
+        ↔ CommandsWithinLimits board.now (row_view row.now) target (Write command value.now) }
+{
+    match value {
+        Written::Byte(_) => true,
+        Written::Word(_) => { may_set(board, row, target, command, written_span(row, *value)) }
+        Written::Register(_) => { may_set(board, row, target, command, written_span(row, *value)) }
+    }
+}
+
+/// Whether a voltage that is commanded is within the limits.
+fn commands_within_limits(board: &Board, instr: &Instr, row: &Row) -> bool
+    ensures { IsTrue result ↔ Meets board.now (row_view row.now) instr.now K4 }
+{
+    match instr {
+        Instr::Write {
+            target,
+            command,
+            value,
+            ..
+        } => writes_within_limits(board, row, *target, *command, value),
+        _ => true,
+    }
+}
+
+/// Whether what a rail needs is good, where the rail is turned on.
+fn turns_on_in_order(board: &Board, instr: &Instr, row: &Row) -> bool
+    ensures { IsTrue result ↔ Meets board.now (row_view row.now) instr.now K5 }
+{
+    match instr {
+        Instr::Write {
+            target,
+            command,
+            value: Written::Byte(value),
+            ..
+        } => {
+            if command.code() == OPERATION && enables(*value) {
+                keeps_order(board, row, *target)
+            } else {
+                true
+            }
+        }
+        _ => true,
+    }
+}
+
+/// The first of five rules that isn't met.
+fn first_failing(first: bool, second: bool, third: bool, fourth: bool, fifth: bool) -> Option<Rule>
+    ensures { result ≡ (if first then (if second then (if third then (if fourth then (if fifth
+        then None else Some K5) else Some K4) else Some K3) else Some K2) else Some K1) }
+{
+    if !first {
+        Some(Rule::K1)
+    } else if !second {
+        Some(Rule::K2)
+    } else if !third {
+        Some(Rule::K3)
+    } else if !fourth {
+        Some(Rule::K4)
+    } else if !fifth {
+        Some(Rule::K5)
+    } else {
+        None
+    }
+}
+
+/// The first of the rules K1 to K5 that an instruction doesn't meet at a row. It has duties where
+/// it sends a message to a target.
+pub fn duty(board: &Board, instr: &Instr, row: &Row) -> Option<Rule>
+    ensures { IsFirstFailing board.now (row_view row.now) instr.now duties result }
+{
+    let Some(heading) = heading_of(instr) else {
+        return None;
+    };
+    first_failing(
+        may_be_sent(board, instr, row, &heading),
+        is_read_at_one_page(row, &heading),
+        is_permitted(row, &heading),
+        commands_within_limits(board, instr, row),
+        turns_on_in_order(board, instr, row),
+    )
+}

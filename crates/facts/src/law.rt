@@ -1,0 +1,34 @@
+ghost use Rattle.facts.specs.FactLaws.{DutiesAreKept, EdgesFollow, EdgesStayShaped};
+ghost use Rattle.facts.specs.Steps.{StepsAreSound};
+ghost use Rattle.facts.specs.Witnesses.{SomeMachineStands, SomeRowIsWider};
+
+use simulator::{
+    entries_read_back, safe_steps_are_safe_runs, small_programs_are_judged, steps_are_seen,
+};
+
+/// A step from a row whose duties are met is safe and takes no more ticks than its instruction's
+/// worst. After it the program has ended, or an edge leads to the next place, with a row that
+/// admits the machine and the longer history there, and no more ticks left than before.
+pub fn steps_are_sound()
+    ensures steps { StepsAreSound }
+    // A machine stands at a message, after a step.
+    ensures some { SomeMachineStands }
+{
+    entries_read_back();
+    steps_are_seen();
+    safe_steps_are_safe_runs();
+    small_programs_are_judged();
+}
+
+/// The law of facts. Where one row covers another, the other meets every duty that the first
+/// meets, and each of its edges is covered by an edge of the first to the same place.
+pub fn covered_rows_follow()
+    ensures duties { DutiesAreKept }
+    ensures edges { EdgesFollow }
+    // The edges of a row of the board have such rows.
+    ensures shapes { EdgesStayShaped }
+    // A row covers another, and meets the duties of a message.
+    ensures some { SomeRowIsWider }
+{
+    small_programs_are_judged();
+}
