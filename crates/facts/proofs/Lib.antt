@@ -2,4 +2,5 @@ pub mod Shared
 pub mod Sound
 pub mod Covered
 pub mod Coded
+pub mod Belongs
 pub mod Witness

@@ -10,6 +10,7 @@ pub mod Tests
 pub mod Touching
 pub mod KnownBytes
 pub mod Covering
+pub mod Shapes
 pub mod Joining
 pub mod Edges
 pub mod Effects

@@ -93,7 +93,6 @@ pub fn edges(
     place: usize,
     row: &Row,
 ) -> Result<Vec<(usize, Row, u64)>, AllocError>
-    requires place { place < 1024 }
     requires row { IsRow board.now (row_view row.now) }
     requires met { IfSome (slice_get program.now place)
         (λ i. Meets board.now (row_view row.now) i K1) }
@@ -102,6 +101,8 @@ pub fn edges(
         ≡ timed (worst_ticks board.now i) (edges board.now place i (row_view row.now)))) }
 {
     board_law(board);
+    // By its type a program has at most 1024 places.
+    let _places = program.places();
     match program.at(place) {
         Some(instr) => instr_edges(alloc, board, place, instr, row),
         None => Ok(Vec::new(alloc)),

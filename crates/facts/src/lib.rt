@@ -27,6 +27,7 @@ mod row;
 mod row_cover;
 mod rule;
 mod sending;
+mod shaping;
 mod source;
 mod span;
 mod test;

@@ -1,0 +1,4 @@
+-- Rows that are rows of a board, by what is looked at.
+pub mod EachTargets
+pub mod Sets
+pub mod Rows

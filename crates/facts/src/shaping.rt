@@ -1,0 +1,210 @@
+//! Whether a row is one of the board.
+
+ghost use Rattle.std.specs.Prelude.{◌≡◌, ◌<◌, ◌≤◌, ◌↔◌, ◌||◌, ℕ, IsTrue, All, length};
+ghost use Rattle.board.specs.Valid.{is_page_value};
+ghost use Rattle.pmbus_table.specs.Protect.{is_protection};
+ghost use Rattle.facts.specs.Sets.{rails_in};
+ghost use Rattle.facts.specs.Rows.{row_view, set_at, IsSource, IsSetOf, IsRow, most_ticks};
+ghost use Rattle.facts.specs.Shapes.{IsSizedRow, EachTarget, HasSets, IsShapedByPart};
+
+use crate::good_set::GoodSet;
+use crate::parts::{pages_at, protects_at};
+use crate::row::Row;
+use crate::source::Source;
+use crate::span::Span;
+use board::{Board, Target};
+
+/// A row's base and coefficients are at most this.
+const MOST_TICKS: u64 = 1 << 40;
+
+/// Whether a target may store a value in PAGE.
+fn has_page(row: &Row, target: usize, value: u8) -> bool
+    ensures { result ≡ set_at (row_view row.now).pages target value }
+{
+    pages_at(row, target).contains(value)
+}
+
+/// Whether a target may store a value in WRITE_PROTECT.
+fn has_protect(row: &Row, target: usize, value: u8) -> bool
+    ensures { result ≡ set_at (row_view row.now).protects target value }
+{
+    protects_at(row, target).contains(value)
+}
+
+/// Whether no rail from an index on is in the set.
+fn has_none_from(good: GoodSet, first: u8) -> bool
+    ensures { IsTrue result ↔ ((d : ℕ) → first ≤ d → IsTrue (rails_in good d) → ⊥) }
+{
+    for rail in first..64 {
+        if good.contains(rail) {
+            return false;
+        }
+    }
+    true
+}
+
+/// Whether a target may store some value in PAGE.
+fn has_some_page(row: &Row, target: usize) -> bool
+    ensures { IsTrue result ↔ ((v : ℕ) × IsTrue (set_at (row_view row.now).pages target v)) }
+{
+    for value in 0..255 {
+        if has_page(row, target, value) {
+            return true;
+        }
+    }
+    has_page(row, target, 255)
+}
+
+/// Whether each value that a target may store in PAGE is one of so many pages, or FFh.
+fn has_pages_below(row: &Row, target: usize, pages: u8) -> bool
+    ensures { IsTrue result ↔ ((v : ℕ) → IsTrue (set_at (row_view row.now).pages target v)
+        → IsTrue (is_page_value pages v)) }
+{
+    for value in pages..255 {
+        if has_page(row, target, value) {
+            return false;
+        }
+    }
+    true
+}
+
+/// Whether a target may store one of the four values of WRITE_PROTECT.
+fn has_one_of_four(row: &Row, target: usize) -> bool
+    ensures { result ≡ (set_at (row_view row.now).protects target 0x00
+        || set_at (row_view row.now).protects target 0x20
+        || set_at (row_view row.now).protects target 0x40
+        || set_at (row_view row.now).protects target 0x80) }
+{
+    has_protect(row, target, 0x00)
+        || has_protect(row, target, 0x20)
+        || has_protect(row, target, 0x40)
+        || has_protect(row, target, 0x80)
+}
+
+/// Whether what a target may store in PAGE is a set of its pages' values.
+fn has_page_set(row: &Row, index: usize, target: &Target) -> bool
+    ensures { IsTrue result ↔ IsSetOf (λ v. IsTrue (is_page_value target.now.pages v))
+        (set_at (row_view row.now).pages index) }
+{
+    has_some_page(row, index) && has_pages_below(row, index, target.pages())
+}
+
+/// Whether what a target may store in WRITE_PROTECT is a set of protections.
+fn has_protect_set(row: &Row, index: usize) -> bool
+    ensures { IsTrue result ↔ IsSetOf (λ v. IsTrue (is_protection v))
+        (set_at (row_view row.now).protects index) }
+{
+    has_one_of_four(row, index)
+}
+
+/// Whether both sets of a target are sets of its values.
+fn has_sets(row: &Row, index: usize, target: &Target) -> bool
+    ensures { IsTrue result ↔ HasSets (row_view row.now) index target.now }
+{
+    has_page_set(row, index, target) && has_protect_set(row, index)
+}
+
+/// Whether so many items are there.
+fn counts<T>(items: &[T], count: usize) -> bool
+    ensures { IsTrue result ↔ (length items.now ≡ count) }
+{
+    items.len() == count
+}
+
+/// Whether all arrays have their lengths.
+fn is_sized(row: &Row) -> bool
+    ensures { IsTrue result ↔ IsSizedRow row.now }
+{
+    counts(&row.regs, 8)
+        && counts(&row.sources, 8)
+        && counts(&row.counters, 4)
+        && counts(&row.coeffs, 4)
+}
+
+/// Whether a source names a rail or a target of the board.
+fn is_source(board: &Board, source: &Source) -> bool
+    ensures { IsTrue result ↔ IsSource board.now source.now }
+{
+    match source {
+        Source::None => true,
+        Source::Status(rail) => *rail < board.rails().len(),
+        Source::Page(target) => *target < board.targets().len(),
+        Source::Protect(target) => *target < board.targets().len(),
+    }
+}
+
+/// Whether each source is one of the board.
+fn are_sources(board: &Board, sources: &[Source]) -> bool
+    ensures { IsTrue result ↔ All (IsSource board.now) sources.now }
+{
+    sources.iter().all(|source| is_source(board, source))
+}
+
+/// Whether each span has a number.
+fn are_spans(spans: &[Span]) -> bool
+    ensures { IsTrue result ↔ All (λ s. (s.lo ≤ s.hi) × (s.hi < 65536)) spans.now }
+{
+    spans.iter().all(|span| span.lo <= span.hi)
+}
+
+/// Whether each span ends at 1000 or before.
+fn are_counters(spans: &[Span]) -> bool
+    ensures { IsTrue result ↔ All (λ s. s.hi ≤ 1000) spans.now }
+{
+    spans.iter().all(|span| span.hi <= 1000)
+}
+
+/// Whether each coefficient is at most the most ticks.
+fn are_coeffs(coeffs: &[u64]) -> bool
+    ensures { IsTrue result ↔ All (λ k. k ≤ most_ticks) coeffs.now }
+{
+    coeffs.iter().all(|coeff| *coeff <= MOST_TICKS)
+}
+
+/// Whether all sets of a row are sets of their targets' values.
+fn has_all_sets(board: &Board, row: &Row) -> bool
+    ensures { IsTrue result ↔ EachTarget board.now (HasSets (row_view row.now)) }
+{
+    for (index, target) in board.targets().iter().enumerate() {
+        if !has_sets(row, index, target) {
+            return false;
+        }
+    }
+    true
+}
+
+/// Whether all rails that are good are rails of the board.
+fn has_rails(board: &Board, row: &Row) -> bool
+    ensures { IsTrue result ↔ ((d : ℕ) → length board.now.rails ≤ d
+        → IsTrue (rails_in row.now.good d) → ⊥) }
+{
+    has_none_from(row.good, board.rails().len() as u8)
+}
+
+/// Whether each part of a row is one of the board.
+fn is_shaped_by_part(board: &Board, row: &Row) -> bool
+    ensures { IsTrue result ↔ IsShapedByPart board.now row.now }
+{
+    is_sized(row)
+        && row.pages.len() == board.targets().len()
+        && row.protects.len() == board.targets().len()
+        && has_all_sets(board, row)
+        && has_rails(board, row)
+        && are_spans(&row.regs)
+        && are_sources(board, &row.sources)
+        && are_spans(&row.counters)
+        && are_counters(&row.counters)
+        && row.base <= MOST_TICKS
+        && are_coeffs(&row.coeffs)
+}
+
+impl Row {
+    /// Whether it is a row of the board: with a set of each kind for each target, which has a value
+    /// and only values of the target; rails and targets of the board; spans with a number, counters
+    /// up to 1000; and base and coefficients of at most 2^40 ticks.
+    pub fn is_of(&self, board: &Board) -> bool
+        ensures { IsTrue result ↔ IsRow board.now (row_view self.now) }
+    {
+        is_shaped_by_part(board, self)
+    }
+}
