@@ -1,13 +1,11 @@
 -- The duties of an instruction at a row: what must be known before its message is sent.
 use Rattle.std.specs.Prelude.{◌≡◌, ◌≤◌, ◌+◌, ◌==◌, ◌&&◌, ◌||◌, ◌⊎◌, ℕ, Bool, true, false, List, []}
 use Rattle.std.specs.Prelude.{◌∷◌, length, slice_get, Option, Some, None, IsTrue, All}
-use Rattle.std.specs.List.{list_any}
 use Rattle.pmbus_table.specs.Codes.{page_code, operation_code, write_protect_code}
-use Rattle.pmbus_table.specs.Codes.{vout_command_code}
 use Rattle.pmbus_table.specs.Commands.{form_read, is_paged, counts_as_write}
 use Rattle.pmbus_table.specs.Operation.{enables}
 use Rattle.pmbus_table.specs.Protect.{permits, is_protection}
-use Rattle.pmbus_table.specs.Voltage.{IsWithin}
+use Rattle.pmbus_table.specs.Voltage.{IsWithin, carries_voltage}
 use Rattle.board.specs.declared.entry.Range.{Range}
 use Rattle.board.specs.Boards.{Allow, Target, Rail, Board, entry_of}
 use Rattle.board.specs.Valid.{is_page_value}
@@ -23,13 +21,6 @@ use Rattle.facts.specs.Sets.{Set, all_pages}
 use Rattle.facts.specs.Rows.{Row, set_at, span_at}
 use Rattle.facts.specs.Requests.{Request, Write, PutBlock, CallBlock, Sent, sent_in, form_in}
 use Rattle.facts.specs.Requests.{code_in}
-
--- the commands that set a voltage (PMBus 1.3 Part II, 13.2), each by Write Word alone
-abbrev pub voltage_codes : List ℕ
-voltage_codes = vout_command_code ∷ []
-
-abbrev pub carries_voltage : ℕ → Bool
-carries_voltage code = list_any (λ c. c == code) voltage_codes
 
 -- some page of the set selects the page (PMBus 1.3 Part II, 11.10)
 abbrev pub may_select : Set → ℕ → Bool

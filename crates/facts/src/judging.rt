@@ -4,7 +4,8 @@ ghost use Rattle.std.specs.Prelude.{◌≡◌, ◌≤◌, ◌+◌, ◌↔◌, �
 ghost use Rattle.std.specs.Prelude.{None, if◌then◌else◌, IsTrue, IfSome, All};
 ghost use Rattle.pmbus_table.specs.Commands.{form_read, is_paged, counts_as_write};
 ghost use Rattle.pmbus_table.specs.Protect.{permits};
-ghost use Rattle.facts.specs.Duties.{may_select, carries_voltage, IsWithinLimits};
+ghost use Rattle.facts.specs.Duties.{may_select, IsWithinLimits};
+ghost use Rattle.pmbus_table.specs.Voltage.{carries_voltage};
 ghost use Rattle.facts.specs.Duties.{CommandsWithinLimits, Meets, duties, IsFirstFailing};
 ghost use Rattle.facts.specs.Headings.{IsHeadingOf, IsTaken, ReadsOnePageAt, IsUnprotectedAt};
 ghost use Rattle.facts.specs.Headings.{AreNeedsGood};
@@ -25,8 +26,8 @@ use crate::row::Row;
 use crate::rule::Rule;
 use crate::span::Span;
 use board::{Allow, Board, Rail, Target};
-use pmbus_table::code::{OPERATION, VOUT_COMMAND};
-use pmbus_table::{Command, enables, permits, within};
+use pmbus_table::code::OPERATION;
+use pmbus_table::{Command, carries_voltage, enables, permits, within};
 use seq_program::{Instr, Written};
 use smbus::Form;
 
@@ -231,13 +232,6 @@ fn keeps_order(board: &Board, row: &Row, target: usize) -> bool
     ensures { IsTrue result ↔ AreNeedsGood board.now (row_view row.now) target }
 {
     has_needs(board, pages_at(row, target), target, row.good)
-}
-
-/// Whether a command sets a voltage.
-fn carries_voltage(code: u8) -> bool
-    ensures { result ≡ carries_voltage code }
-{
-    code == VOUT_COMMAND
 }
 
 /// Whether these values, if the command sets a voltage, are within the limits.

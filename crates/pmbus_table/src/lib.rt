@@ -16,4 +16,4 @@ pub use name::{by_name, name_of};
 pub use operation::enables;
 pub use protect::permits;
 pub use status::{StatusWord, reported_good};
-pub use voltage::within;
+pub use voltage::{carries_voltage, within};

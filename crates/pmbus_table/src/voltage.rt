@@ -1,5 +1,14 @@
 ghost use Rattle.std.specs.Prelude.{◌≡◌, ◌↔◌, IsTrue};
-ghost use Rattle.pmbus_table.specs.Voltage.{within, IsWithin};
+ghost use Rattle.pmbus_table.specs.Voltage.{carries_voltage, within, IsWithin};
+
+use crate::code::VOUT_COMMAND;
+
+/// Whether a command sets the voltage of an output (PMBus 1.3 Part II, 13.2 and what follows).
+pub fn carries_voltage(code: u8) -> bool
+    ensures { result ≡ carries_voltage code }
+{
+    code == VOUT_COMMAND
+}
 
 /// Whether a ULINEAR16 voltage is at most a limit in microvolts, over whole numbers without
 /// rounding; `false` for an exponent outside -16 to 0.

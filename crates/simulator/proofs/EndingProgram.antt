@@ -62,7 +62,7 @@ safe b history e none silent = record {
   one = λ frames are. let empty : frames ≡ [] = silent frames are in rw empty (omega arith);
   allowed = λ f has. absurd (no_frame e.samples silent f has);
   protection = λ i t code at writes guarded. absurd (writes_nothing e.samples silent t code writes);
-  limits = λ i t low high d r at begins selected.
+  limits = λ i t code low high d r at sets begins selected.
       absurd (no_frame e.samples silent begins.frame begins.has);
   order = λ i t value d r at begins on selected.
       absurd (no_frame e.samples silent begins.frame begins.has);

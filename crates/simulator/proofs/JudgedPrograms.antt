@@ -115,6 +115,8 @@ listed_voltage word small =
     let a = entry form.WriteWord vout_command_code in
     record {
       on = on_lone 0 a true refl volts;
+      code = vout_command_code;
+      sets = refl;
       word = word;
       small = small;
       listed = record { above = omega arith; below = omega (arith, small) };

@@ -9,10 +9,10 @@ use Rattle.smbus.specs.Asked.{Asked}
 use Rattle.smbus.specs.Answered.{Answered}
 use Rattle.smbus.specs.Protocol.{AreGoodCounts}
 use Rattle.smbus.specs.SlotCounts.{most_slots}
-use Rattle.pmbus_table.specs.Codes.{operation_code, vout_command_code}
+use Rattle.pmbus_table.specs.Codes.{operation_code}
 use Rattle.pmbus_table.specs.Operation.{enables}
 use Rattle.pmbus_table.specs.Protect.{permits}
-use Rattle.pmbus_table.specs.Voltage.{IsWithin}
+use Rattle.pmbus_table.specs.Voltage.{IsWithin, carries_voltage}
 use Rattle.board.specs.Boards.{Target, Rail, Board, largest_stretch, place_of_address}
 use Rattle.board.specs.Valid.{IsBoard}
 use Rattle.targets.specs.States.{BusState, IsStart, IsTargetAt}
@@ -66,7 +66,7 @@ pub record SendsSafely (b : Board) (x : Instr) (i : ℕ) (t : Target) (m : Asked
   pub permitted : (s : BusState) → IsStart b s → IsTrue (is_guarded m.code)
       → permits (slice_index s.protect i) m.code ≡ Some true
   pub within : (s : BusState) (d : ℕ) (r : Rail) → IsStart b s → m.form ≡ WriteWord
-      → m.code ≡ vout_command_code → Selects b s i d r
+      → IsTrue (carries_voltage m.code) → Selects b s i d r
       → IsWithin (word_of m.out) t.exponent r.limit_uv
   pub needless : (s : BusState) (d : ℕ) (r : Rail) → IsStart b s → m.form ≡ WriteByte
       → m.code ≡ operation_code → IsTrue (enables (slice_index m.out 0)) → Selects b s i d r
@@ -160,11 +160,13 @@ first_safe known b x i t m slots s a e next sends starts f =
           let free = sends.permitted s starts
           (subst (λ n. IsTrue (is_guarded n)) (sym told.command) guarded) in
           rw f.does.before (rw (sym same.0) (rw (sym told.command) free));
-      limits = λ j u low high d r uj begins selected.
-          let told = (f.does.voltages j u low high uj).0 begins in
+      limits = λ j u code low high d r uj sets begins selected.
+          let told = (f.does.voltages j u code low high uj sets).0 begins in
           let same = its_target b i j t u m sends.is sends.at uj sends.to told.to in
           let here : Selects b s i d r = rw same.0 (rw (sym f.does.before) selected) in
-          let within = sends.within s d r starts told.form told.command here in
+          let within =
+          sends.within s d r starts told.form
+          (subst (λ n. IsTrue (carries_voltage n)) (sym told.command) sets) here in
           let word : word_of m.out ≡ low + 256 * high = ap word_of told.content in
           rw (sym same.1) (rw (sym word) within);
       order = λ j u value d r uj begins on selected.

@@ -6,11 +6,11 @@ use Rattle.std.proofs.Common.{arith, lit≤}
 use Rattle.std.specs.List.{list_any}
 use Rattle.smbus.specs.declared.message.Form.{Form}
 use Rattle.smbus.specs.declared.message.Form.TheVariants.{SendByte, WriteByte, WriteWord}
-use Rattle.smbus.specs.declared.message.Form.TheVariants.{ReadByte, ReadWord}
+use Rattle.smbus.specs.declared.message.Form.TheVariants.{ReadByte}
 use Rattle.smbus.specs.Asked.{Asked}
 use Rattle.smbus.specs.Answered.{Answered}
 use Rattle.smbus.specs.MessageFrame.{send_byte}
-use Rattle.pmbus_table.specs.Codes.{clear_faults_code, operation_code, vout_command_code}
+use Rattle.pmbus_table.specs.Codes.{clear_faults_code, operation_code}
 use Rattle.pmbus_table.specs.Codes.{page_code, write_protect_code}
 use Rattle.pmbus_table.specs.Commands.{takes_form, form_read}
 use Rattle.pmbus_table.specs.Forms.{is_form}
@@ -26,10 +26,11 @@ use Rattle.simulator.specs.Safe.{is_guarded}
 use Rattle.simulator.specs.SmallPrograms.{ListedSendIsSafe, ClearingIsSafe}
 use Rattle.simulator.specs.SmallPrograms.{VoltageWithinLimitIsSafe, EnablingWithoutNeedsIsSafe}
 use Rattle.simulator.proofs.OneMessage.{KnownOfSteps, one_message_is_safe}
-use Rattle.simulator.proofs.UnsafePrograms.{sending, volts, volts_asked, takes_word}
+use Rattle.simulator.proofs.UnsafePrograms.{sending, volts, volts_asked}
+use Rattle.simulator.proofs.TakenForms.{voltage_takes_word}
 use Rattle.simulator.proofs.WithdrawnNeed.{turning, turn, takes_byte}
 
--- no command is read by Send Byte
+-- no command is read by Send Byte or Write Word
 not_read : (f : Form) (code : ℕ) (rows : List Row) → list_any (λ r. is_form f r.read) rows ≡ false
     → is_form f (option_and_then (λ r. r.read) (find (λ r. r.code == code) rows)) ≡ false
 not_read f code [] none = refl
@@ -54,9 +55,13 @@ send_unread code e =
     subst (λ (o : Option Form). is_form SendByte o ≡ false) e none in
     cc
 
-voltage_unread : form_read vout_command_code ≡ Some WriteWord → ⊥
+word_unread : (code : ℕ) → form_read code ≡ Some WriteWord → ⊥
 unfolding table
-voltage_unread e = let two : Some ReadWord ≡ Some WriteWord = e in cc
+word_unread code e =
+    let none = not_read WriteWord code table refl in
+    let bad : is_form WriteWord (Some WriteWord) ≡ false =
+    subst (λ (o : Option Form). is_form WriteWord o ≡ false) e none in
+    cc
 
 operation_unread : form_read operation_code ≡ Some WriteByte → ⊥
 unfolding table
@@ -126,13 +131,13 @@ clearing_is_safe known b i t is at some =
     let bad : is_guarded clear_faults_code ≡ true = guarded in cc)
 
 pub voltage_within_limit_is_safe : KnownOfSteps → VoltageWithinLimitIsSafe
-voltage_within_limit_is_safe known b i t word is at few lists permit within =
-    let m = volts_asked t word in
+voltage_within_limit_is_safe known b i t code word is at sets few lists permit within =
+    let m = volts_asked t code word in
     let same : word_of (low_byte_first word) ≡ word = omega arith in
-    one_message_is_safe known b (volts i word) i t m 37 (record {
+    one_message_is_safe known b (volts i code word) i t m 37 (record {
       is = is;
       at = at;
-      is_instr = (takes_word, omega (arith, few));
+      is_instr = (voltage_takes_word code sets, omega (arith, few));
       goes_on = refl;
       asks = λ s. rw at refl;
       to = refl;
@@ -140,11 +145,11 @@ voltage_within_limit_is_safe known b i t word is at few lists permit within =
       long = λ read. refl;
       allowed = λ s a starts fits.
           allowed b s i t m a at refl
-          (subst (λ n. IsSomeAnd (entry_of WriteWord vout_command_code t.allow)
+          (subst (λ n. IsSomeAnd (entry_of WriteWord code t.allow)
           (λ e. IsIn e.values n)) (sym same) lists)
-          (λ f. cc) (λ f. cc) (λ f. cc) voltage_unread;
+          (λ f. cc) (λ f. cc) (λ f. cc) (word_unread code);
       permitted = permit;
-      within = λ s d r starts form code selected.
+      within = λ s d r starts form is_voltage selected.
           subst (λ n. IsWithin n t.exponent r.limit_uv) (sym same) (within s d r starts selected);
       needless = λ s d r starts form. cc;
     })

@@ -14,7 +14,8 @@ use Rattle.smbus.specs.Frames.{AreFrames}
 use Rattle.smbus.specs.Protocol.{HasLength}
 use Rattle.smbus.specs.FirstSegment.{message_bytes, bytes_out}
 use Rattle.smbus.specs.MessageFrame.{ReadsNoBlock}
-use Rattle.pmbus_table.specs.Codes.{operation_code, vout_command_code, status_word_code}
+use Rattle.pmbus_table.specs.Codes.{operation_code, status_word_code}
+use Rattle.pmbus_table.specs.Voltage.{carries_voltage}
 use Rattle.board.specs.Boards.{Target, Board}
 use Rattle.board.specs.Valid.{IsTarget, IsBoard}
 use Rattle.targets.specs.States.{BusState, IsTargetAt}
@@ -93,7 +94,7 @@ from_writes m a samples t code j le w = elim (w.went_out) [
       (record { form = sent.0; to = w.to; command = w.command }, sent.1))
 ]
 
--- OPERATION and VOUT_COMMAND
+-- OPERATION and what sets a voltage
 
 -- the message writes these data bytes to a code in this form, and all of them went out
 record WritesData (f : Form) (address code : ℕ) (content : List ℕ) (m : Asked)
@@ -172,17 +173,17 @@ operation m a samples t value j = (
       }),
 )
 
-abbrev WritesVoltage : Target → List Sample → ℕ → ℕ → Type 0
-WritesVoltage t samples low high =
-    BeginsWith samples (write_to t ∷ vout_command_code ∷ low ∷ high ∷ [])
+abbrev WritesVoltage : Target → List Sample → ℕ → ℕ → ℕ → Type 0
+WritesVoltage t samples code low high =
+    BeginsWith samples (write_to t ∷ code ∷ low ∷ high ∷ [])
 
-voltage : (m : Asked) (a : Answered) (samples : List Sample) (t : Target) (low high : ℕ)
-    → Judged m a samples
-    → WritesVoltage t samples low high ↔ MessageWritesWord t.address vout_command_code low high m a
-voltage m a samples t low high j = (
+voltage : (m : Asked) (a : Answered) (samples : List Sample) (t : Target) (code low high : ℕ)
+    → Judged m a samples → IsTrue (carries_voltage code)
+    → WritesVoltage t samples code low high ↔ MessageWritesWord t.address code low high m a
+voltage m a samples t code low high j sets = (
   λ w.
-      let is = to_data m a samples t form.WriteWord vout_command_code low (high ∷ []) j
-      (λ _ _ _ _ _. refl) voltage_form (λ two. two) w in
+      let is = to_data m a samples t form.WriteWord code low (high ∷ []) j
+      (λ _ _ _ _ _. refl) (voltage_form code sets) (λ two. two) w in
       record {
         to = is.to;
         form = is.form;
@@ -190,7 +191,7 @@ voltage m a samples t low high j = (
         content = is.content_is;
         went_out = is.went_out;
       },
-  λ w. from_data m a samples t form.WriteWord vout_command_code (low ∷ high ∷ []) j
+  λ w. from_data m a samples t form.WriteWord code (low ∷ high ∷ []) j
       (λ _ _ _ _ _. refl) (record {
         to = w.to;
         form = w.form;
@@ -214,7 +215,7 @@ does_message b m a e is j = record {
     λ w. from_writes m a e.samples t code j (address_small b i t is at) w,
   );
   operations = λ i t value at. operation m a e.samples t value j;
-  voltages = λ i t low high at. voltage m a e.samples t low high j;
+  voltages = λ i t code low high at sets. voltage m a e.samples t code low high j sets;
   reports = λ d word. (
     λ r. record {
       rail = r.rail;
@@ -270,7 +271,7 @@ does_nothing b a e none = record {
   before = refl;
   writes = λ i t code at. (λ w. no_writes e.samples t code none w, λ w. absurd w);
   operations = λ i t value at. (λ w. none w.frame w.has, λ w. absurd w);
-  voltages = λ i t l h at. (λ w. none w.frame w.has, λ w. absurd w);
+  voltages = λ i t c l h at sets. (λ w. none w.frame w.has, λ w. absurd w);
   reports = λ d word. (λ r. absurd (none r.reports.frame r.reports.has), λ r. absurd r.reports);
   withdraws = λ d. (λ w. absurd (none w.written.frame w.written.has), λ w. absurd w.written);
 }

@@ -1,6 +1,8 @@
 -- The command of an instruction's message takes the message's form.
 use Rattle.std.proofs.Common.{◌≡◌, ℕ, true, false, Option, Some, None, List, [], IsTrue, option_map}
-use Rattle.std.proofs.Common.{slice_get, refl, sym, subst}
+use Rattle.std.proofs.Common.{slice_get, refl, sym, subst, ◌==◌, ◌∙◌, ◌∷◌, Bool, not, inl, inr}
+use Rattle.std.specs.List.{list_all, list_any}
+use Rattle.std.proofs.lemmas.Bool.{and_parts, or_cases, eqb-true, not-true, false≢true}
 use Rattle.smbus.specs.declared.message.Form.{Form}
 use Rattle.smbus.specs.declared.message.Form.TheVariants as form
 use Rattle.smbus.specs.Asked.{Asked}
@@ -9,6 +11,7 @@ use Rattle.smbus.specs.MessageFrame.{ReadsNoBlock}
 use Rattle.pmbus_table.specs.Codes.{operation_code, vout_command_code, status_word_code}
 use Rattle.pmbus_table.specs.Commands.{takes_form}
 use Rattle.pmbus_table.specs.Table.{table}
+use Rattle.pmbus_table.specs.Voltage.{voltage_codes, carries_voltage}
 use Rattle.board.specs.Boards.{Target, Board}
 use Rattle.seq_program.specs.declared.instr.Instr.{Instr}
 use Rattle.seq_program.specs.declared.instr.Instr.TheVariants as instr
@@ -104,19 +107,48 @@ operation_form form.BlockRead w takes = cc
 operation_form form.BlockProcessCall w takes = let bad : false ≡ true = takes refl in cc
 operation_form form.Alert w takes = cc
 
--- and VOUT_COMMAND by Write Word
-pub voltage_form : (f : Form) → IsTrue (writes_data f) → Takes vout_command_code f
-    → f ≡ form.WriteWord
+-- a test that each code of a list meets is met by one that is in the list
+met_by_each : (p : ℕ → Bool) (codes : List ℕ) (code : ℕ) → list_all p codes ≡ true
+    → list_any (λ c. c == code) codes ≡ true → p code ≡ true
+met_by_each p [] code all has = cc
+met_by_each p (c ∷ codes) code all has =
+    let parts = and_parts (p c) (list_all p codes) all in
+    elim (or_cases (c == code) (list_any (λ x. x == code) codes) has) [
+      | inl same ↦ subst (λ (x : ℕ). p x ≡ true) (eqb-true c code same) parts.0
+      | inr later ↦ met_by_each p codes code parts.1 later
+    ]
+
+-- what sets a voltage takes Write Word
+pub voltage_takes_word : (code : ℕ) → IsTrue (carries_voltage code)
+    → IsTrue (takes_form code form.WriteWord)
 unfolding table
-voltage_form (form.Quick r) w takes = cc
-voltage_form form.SendByte w takes = cc
-voltage_form form.ReceiveByte w takes = cc
-voltage_form form.WriteByte w takes = let bad : false ≡ true = takes refl in cc
-voltage_form form.WriteWord w takes = refl
-voltage_form form.ReadByte w takes = cc
-voltage_form form.ReadWord w takes = cc
-voltage_form form.ProcessCall w takes = let bad : false ≡ true = takes refl in cc
-voltage_form form.BlockWrite w takes = let bad : false ≡ true = takes refl in cc
-voltage_form form.BlockRead w takes = cc
-voltage_form form.BlockProcessCall w takes = let bad : false ≡ true = takes refl in cc
-voltage_form form.Alert w takes = cc
+voltage_takes_word code sets =
+    met_by_each (λ c. takes_form c form.WriteWord) voltage_codes code refl sets
+
+refuses : (f : Form) → list_all (λ c. not (takes_form c f)) voltage_codes ≡ true → (code : ℕ)
+    → IsTrue (carries_voltage code) → IsTrue (carries_code f) → Takes code f → ⊥
+refuses f all code sets carries takes =
+    let never : not (takes_form code f) ≡ true =
+    met_by_each (λ c. not (takes_form c f)) voltage_codes code all sets in
+    false≢true (sym (not-true (takes_form code f) never) ∙ takes carries)
+
+-- and is written by it alone
+pub voltage_form : (code : ℕ) → IsTrue (carries_voltage code) → (f : Form)
+    → IsTrue (writes_data f) → Takes code f → f ≡ form.WriteWord
+unfolding table
+voltage_form code sets (form.Quick r) w takes = cc
+voltage_form code sets form.SendByte w takes = cc
+voltage_form code sets form.ReceiveByte w takes = cc
+voltage_form code sets form.WriteByte w takes =
+    absurd (refuses form.WriteByte refl code sets refl takes)
+voltage_form code sets form.WriteWord w takes = refl
+voltage_form code sets form.ReadByte w takes = cc
+voltage_form code sets form.ReadWord w takes = cc
+voltage_form code sets form.ProcessCall w takes =
+    absurd (refuses form.ProcessCall refl code sets refl takes)
+voltage_form code sets form.BlockWrite w takes =
+    absurd (refuses form.BlockWrite refl code sets refl takes)
+voltage_form code sets form.BlockRead w takes = cc
+voltage_form code sets form.BlockProcessCall w takes =
+    absurd (refuses form.BlockProcessCall refl code sets refl takes)
+voltage_form code sets form.Alert w takes = cc

@@ -1,7 +1,7 @@
 -- Programs that aren't safe: a write that is protected, and a voltage over a limit.
 use Rattle.std.proofs.Common.{◌≡◌, ◌≤◌, ◌<◌, ◌+◌, ◌*◌, ◌/◌, ◌%◌, ℕ, true, inr, Some}
 use Rattle.std.proofs.Common.{[]}
-use Rattle.std.proofs.Common.{◌∷◌, length, slice_index, IfSome, IsTrue, refl, ap}
+use Rattle.std.proofs.Common.{◌∷◌, length, slice_index, IfSome, refl, ap}
 use Rattle.std.proofs.Common.{subst}
 use Rattle.std.proofs.Common.{arith, lit≤, lit<}
 use Rattle.std.proofs.lemmas.List.Elements.{All-from_recursion}
@@ -9,10 +9,7 @@ use Rattle.smbus.specs.declared.message.Form.TheVariants.{WriteWord}
 use Rattle.smbus.specs.Asked.{Asked}
 use Rattle.smbus.specs.FirstSegment.{bytes_out}
 use Rattle.smbus.specs.MessageFrame.{send_byte}
-use Rattle.pmbus_table.specs.Codes.{vout_command_code}
-use Rattle.pmbus_table.specs.Commands.{takes_form}
 use Rattle.pmbus_table.specs.Protect.{permits}
-use Rattle.pmbus_table.specs.Table.{table}
 use Rattle.pmbus_table.specs.Voltage.{IsWithin}
 use Rattle.board.specs.Boards.{Target, Board}
 use Rattle.board.specs.Valid.{IsBoard}
@@ -32,6 +29,7 @@ use Rattle.simulator.specs.SmallPrograms.{voltage_program, VoltageOverLimitIsUns
 use Rattle.simulator.proofs.PlainSteps.{plain, is_done, Sends, entry_by, next_by, plain_step}
 use Rattle.simulator.proofs.PlainSteps.{StepSeen, step_seen}
 use Rattle.simulator.proofs.WorkedDefinitions.{done_out}
+use Rattle.simulator.proofs.TakenForms.{voltage_takes_word}
 
 -- two instructions, of which the second ends
 pub two_places : (i : Instr) → IsInstr i → IfSome (jump_in i) (λ place. place < 2)
@@ -101,24 +99,21 @@ protected_write_is_unsafe steps ready b s i protect t code bound is starts at st
 
 -- ---- a voltage
 
-abbrev pub volts : ℕ → ℕ → Instr
-volts i word = instr.Write i vout_command_code (written.Word word) 1
+abbrev pub volts : ℕ → ℕ → ℕ → Instr
+volts i code word = instr.Write i code (written.Word word) 1
 
-abbrev pub volts_asked : Target → ℕ → Asked
-volts_asked t word = record {
+abbrev pub volts_asked : Target → ℕ → ℕ → Asked
+volts_asked t code word = record {
   address = t.address;
   form = WriteWord;
-  code = vout_command_code;
+  code = code;
   out = low_byte_first word;
 }
 
-pub takes_word : IsTrue (takes_form vout_command_code WriteWord)
-unfolding table
-takes_word = refl
-
-sends_volts : (b : Board) (s : BusState) (i word : ℕ) (t : Target) → IsTargetAt b i t
-    → Sends b (voltage_program i word) (start_at s) (volts i word) (volts_asked t word) 0
-sends_volts b s i word t at = record {
+sends_volts : (b : Board) (s : BusState) (i code word : ℕ) (t : Target) → IsTargetAt b i t
+    → Sends b (voltage_program i code word) (start_at s) (volts i code word)
+    (volts_asked t code word) 0
+sends_volts b s i code word t at = record {
   running = refl;
   here = refl;
   message = rw at refl;
@@ -126,32 +121,35 @@ sends_volts b s i word t at = record {
   reads = record { value = refl; bytes = refl };
 }
 
-both_out : (t : Target) (word : ℕ) → 4 ≤ length (bytes_out (volts_asked t word) (plain 0))
-both_out t word =
-    let m = volts_asked t word in
+both_out : (t : Target) (code word : ℕ)
+    → 4 ≤ length (bytes_out (volts_asked t code word) (plain 0))
+both_out t code word =
+    let m = volts_asked t code word in
     let all = ap length (done_out m (plain 0) (is_done m 0)) in
     omega (arith, all)
 
 pub voltage_over_limit_is_unsafe : StepsAreSeen → StartsAreReady → VoltageOverLimitIsUnsafe
-voltage_over_limit_is_unsafe steps ready b s d r t word bound is starts selected at few over runs =
+voltage_over_limit_is_unsafe steps ready b s d r t code word bound is starts selected at sets few
+    over runs =
     let i = r.target in
-    let m = volts_asked t word in
+    let m = volts_asked t code word in
     let low = word % 256 in
     let high = word / 256 in
     let small : word ≤ 65535 = omega (arith, few) in
     let first =
-    first_step steps ready b s (volts i word) m bound is starts
-    (two_places (volts i word) (takes_word, small) (lit< tt)) (sends_volts b s i word t at) runs in
-    let samples = (entry_by (volts i word) m 0 (start_at s)).samples in
-    let begins : BeginsWith samples (write_to t ∷ vout_command_code ∷ low ∷ high ∷ []) =
-    (first.seen.does.voltages i t low high at).1 (record {
+    first_step steps ready b s (volts i code word) m bound is starts
+    (two_places (volts i code word) (voltage_takes_word code sets, small) (lit< tt))
+    (sends_volts b s i code word t at) runs in
+    let samples = (entry_by (volts i code word) m 0 (start_at s)).samples in
+    let begins : BeginsWith samples (write_to t ∷ code ∷ low ∷ high ∷ []) =
+    (first.seen.does.voltages i t code low high at sets).1 (record {
       to = refl;
       form = refl;
       command = refl;
       content = refl;
-      went_out = both_out t word;
+      went_out = both_out t code word;
     }) in
     let within : IsWithin (low + 256 * high) t.exponent r.limit_uv =
-    first.safe.safe.0.limits i t low high d r at begins selected in
+    first.safe.safe.0.limits i t code low high d r at sets begins selected in
     let same : low + 256 * high ≡ word = omega arith in
     over (subst (λ n. IsWithin n t.exponent r.limit_uv) same within)

@@ -5,10 +5,10 @@ use Rattle.std.specs.Prelude.{◌∷◌, length, slice_index, Some, IsTrue, All}
 use Rattle.wires.specs.Events.{events_of}
 use Rattle.smbus.specs.Shown.{Shown}
 use Rattle.smbus.specs.Frames.{AreFrames}
-use Rattle.pmbus_table.specs.Codes.{clear_faults_code, operation_code, vout_command_code}
+use Rattle.pmbus_table.specs.Codes.{clear_faults_code, operation_code}
 use Rattle.pmbus_table.specs.Operation.{enables}
 use Rattle.pmbus_table.specs.Protect.{permits}
-use Rattle.pmbus_table.specs.Voltage.{IsWithin}
+use Rattle.pmbus_table.specs.Voltage.{IsWithin, carries_voltage}
 use Rattle.board.specs.Boards.{Target, Rail, Board}
 use Rattle.targets.specs.States.{IsTargetAt}
 use Rattle.simulator.specs.Machines.{Entry}
@@ -35,8 +35,9 @@ KeepsProtection b e =
 -- a commanded voltage whose two bytes went out is within the limit of each rail that PAGE selects
 abbrev pub KeepsLimits : Board → Entry → Type 0
 KeepsLimits b e =
-    (i : ℕ) (t : Target) (low high d : ℕ) (r : Rail) → IsTargetAt b i t
-    → BeginsWith e.samples (write_to t ∷ vout_command_code ∷ low ∷ high ∷ [])
+    (i : ℕ) (t : Target) (code low high d : ℕ) (r : Rail) → IsTargetAt b i t
+    → IsTrue (carries_voltage code)
+    → BeginsWith e.samples (write_to t ∷ code ∷ low ∷ high ∷ [])
     → Selects b e.before i d r
     → IsWithin (low + 256 * high) t.exponent r.limit_uv
 

@@ -7,11 +7,10 @@ use Rattle.smbus.specs.declared.message.Form.{Form}
 use Rattle.smbus.specs.declared.message.Form.TheVariants.{SendByte, WriteByte, WriteWord}
 use Rattle.smbus.specs.declared.message.Form.TheVariants.{ReadWord}
 use Rattle.pmbus_table.specs.Codes.{clear_faults_code, operation_code, status_word_code}
-use Rattle.pmbus_table.specs.Codes.{vout_command_code}
 use Rattle.pmbus_table.specs.Commands.{takes_form}
 use Rattle.pmbus_table.specs.Protect.{permits}
 use Rattle.pmbus_table.specs.Status.{reported_good}
-use Rattle.pmbus_table.specs.Voltage.{IsWithin}
+use Rattle.pmbus_table.specs.Voltage.{IsWithin, carries_voltage}
 use Rattle.board.specs.Boards.{Target, Rail, Board, entry_of, largest_stretch}
 use Rattle.board.specs.Valid.{IsBoard}
 use Rattle.targets.specs.Fitting.{IsIn}
@@ -71,9 +70,9 @@ ProtectedWriteIsUnsafe =
     → IsTrue (takes_form code SendByte) → IsTrue (is_guarded code)
     → permits protect code ≡ Some false → RunsAreSafe b (sending_program i code) bound → ⊥
 
--- a voltage
-abbrev pub voltage_program : ℕ → ℕ → List Instr
-voltage_program target word = Write target vout_command_code (written.Word word) 1 ∷ End ∷ []
+-- a word for a command
+abbrev pub voltage_program : ℕ → ℕ → ℕ → List Instr
+voltage_program target code word = Write target code (written.Word word) 1 ∷ End ∷ []
 
 -- the target has an entry of the form and the code, and the value is one of the entry's
 abbrev pub Lists : Target → Form → ℕ → ℕ → Type 0
@@ -87,18 +86,20 @@ StartsAreWithin b i t word = (s : BusState) (d : ℕ) (r : Rail) → IsStart b s
 -- a voltage for which the target has an entry, which every start permits, and which is within the
 -- limits, is safe within the ticks of its 37 slots and one for the end
 abbrev pub VoltageWithinLimitIsSafe : Type 0
-VoltageWithinLimitIsSafe = (b : Board) (i : ℕ) (t : Target) (word : ℕ) → IsBoard b
-    → IsTargetAt b i t → word < 65536 → Lists t WriteWord vout_command_code word
-    → StartsPermit b i vout_command_code → StartsAreWithin b i t word
-    → RunsAreSafe b (voltage_program i word) (3 + 37 * (3 + largest_stretch b.targets))
+VoltageWithinLimitIsSafe = (b : Board) (i : ℕ) (t : Target) (code word : ℕ) → IsBoard b
+    → IsTargetAt b i t → IsTrue (carries_voltage code) → word < 65536
+    → Lists t WriteWord code word
+    → StartsPermit b i code → StartsAreWithin b i t word
+    → RunsAreSafe b (voltage_program i code word) (3 + 37 * (3 + largest_stretch b.targets))
 
 -- a voltage over the limit of a rail isn't safe, where PAGE may select the rail at the start
 abbrev pub VoltageOverLimitIsUnsafe : Type 0
 VoltageOverLimitIsUnsafe =
-    (b : Board) (s : BusState) (d : ℕ) (r : Rail) (t : Target) (word bound : ℕ)
-    → IsBoard b → IsStart b s → Selects b s r.target d r → IsTargetAt b r.target t → word < 65536
+    (b : Board) (s : BusState) (d : ℕ) (r : Rail) (t : Target) (code word bound : ℕ)
+    → IsBoard b → IsStart b s → Selects b s r.target d r → IsTargetAt b r.target t
+    → IsTrue (carries_voltage code) → word < 65536
     → (IsWithin word t.exponent r.limit_uv → ⊥)
-    → RunsAreSafe b (voltage_program r.target word) bound → ⊥
+    → RunsAreSafe b (voltage_program r.target code word) bound → ⊥
 
 -- 80h turns on (PMBus 1.3 Part II, 12.1)
 abbrev pub enabling_program : ℕ → List Instr
@@ -188,10 +189,12 @@ pub record SomeWriteIsProtected : Type 0 where
 -- a voltage that is listed and permitted, for a rail that PAGE selects
 pub record ListedVoltage : Type 0 where
   pub on : StartedBoard
+  pub code : ℕ
+  pub sets : IsTrue (carries_voltage code)
   pub word : ℕ
   pub small : word < 65536
-  pub listed : Lists on.target WriteWord vout_command_code word
-  pub permitted : StartsPermit on.board 0 vout_command_code
+  pub listed : Lists on.target WriteWord code word
+  pub permitted : StartsPermit on.board 0 code
   pub rail : Rail
   pub on_first : rail.target ≡ 0
   pub selected : Selects on.board on.state rail.target 0 rail

@@ -8,8 +8,9 @@ use Rattle.smbus.specs.declared.message.Form.TheVariants.{ProcessCall, BlockWrit
 use Rattle.smbus.specs.Asked.{Asked}
 use Rattle.smbus.specs.Answered.{Answered}
 use Rattle.smbus.specs.FirstSegment.{bytes_out}
-use Rattle.pmbus_table.specs.Codes.{operation_code, vout_command_code, status_word_code}
+use Rattle.pmbus_table.specs.Codes.{operation_code, status_word_code}
 use Rattle.pmbus_table.specs.Operation.{enables}
+use Rattle.pmbus_table.specs.Voltage.{carries_voltage}
 use Rattle.board.specs.Boards.{Target, Rail, Board}
 use Rattle.targets.specs.States.{BusState, IsTargetAt}
 use Rattle.targets.specs.Effects.{IsByteWrite}
@@ -81,12 +82,13 @@ pub record StepDoes (b : Board) (s : BusState) (message : Option Asked) (a : Ans
   pub before : e.before ≡ s
   pub writes : (i : ℕ) (t : Target) (code : ℕ) → IsTargetAt b i t
       → WritesTo t e.samples code ↔ IsSomeAnd message (λ m. MessageWrites t.address code m a)
-  -- OPERATION is written by Write Byte alone, and VOUT_COMMAND by Write Word
+  -- OPERATION is written by Write Byte alone, and what sets a voltage by Write Word
   pub operations : (i : ℕ) (t : Target) (value : ℕ) → IsTargetAt b i t
       → BeginsWith e.samples (write_to t ∷ operation_code ∷ value ∷ [])
       ↔ IsSomeAnd message (λ m. MessageWritesByte t.address operation_code value m a)
-  pub voltages : (i : ℕ) (t : Target) (low high : ℕ) → IsTargetAt b i t
-      → BeginsWith e.samples (write_to t ∷ vout_command_code ∷ low ∷ high ∷ [])
-      ↔ IsSomeAnd message (λ m. MessageWritesWord t.address vout_command_code low high m a)
+  pub voltages : (i : ℕ) (t : Target) (code low high : ℕ) → IsTargetAt b i t
+      → IsTrue (carries_voltage code)
+      → BeginsWith e.samples (write_to t ∷ code ∷ low ∷ high ∷ [])
+      ↔ IsSomeAnd message (λ m. MessageWritesWord t.address code low high m a)
   pub reports : (d word : ℕ) → Reports b e d word ↔ MessageReports b s d word message a
   pub withdraws : (d : ℕ) → Withdraws b e d ↔ MessageWithdraws b s d message a

@@ -11,7 +11,8 @@ use Rattle.facts.specs.Rows.{Row}
 use Rattle.seq_program.specs.declared.instr.Written.{Written}
 use Rattle.seq_program.specs.declared.instr.Written.TheVariants as written
 use Rattle.facts.specs.Requests.{Write}
-use Rattle.facts.specs.Duties.{may_select, written_span, carries_voltage, IsWithinLimits}
+use Rattle.pmbus_table.specs.Voltage.{carries_voltage}
+use Rattle.facts.specs.Duties.{may_select, written_span, IsWithinLimits}
 use Rattle.facts.specs.Duties.{CommandsWithinLimits}
 use Rattle.facts.specs.Touching.{IsWithinLimit, HasGoodNeeds}
 use Rattle.facts.specs.declared.span.Span.{Span}

@@ -49,7 +49,7 @@ pub alert_is_safe : (b : Board) (h : List Entry) (s : BusState) (a : Answered)
 alert_is_safe b h s a = record {
   allowed = inl refl;
   protection = λ i t code at' w guarded. absurd (sends w.went_out);
-  limits = λ i t low high d r at' w selected. absurd (not_word w.form);
+  limits = λ i t code low high d r at' sets w selected. absurd (not_word w.form);
   order = λ i t value d r at' w on selected. absurd (not_byte w.is_write.form);
 }
   where

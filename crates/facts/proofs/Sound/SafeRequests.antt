@@ -15,7 +15,7 @@ use Rattle.pmbus_table.specs.Commands.{takes_form}
 use Rattle.pmbus_table.specs.Table.{table}
 use Rattle.pmbus_table.specs.Operation.{enables}
 use Rattle.pmbus_table.specs.Protect.{permits, is_protection}
-use Rattle.pmbus_table.specs.Voltage.{IsWithin}
+use Rattle.pmbus_table.specs.Voltage.{IsWithin, carries_voltage}
 use Rattle.board.specs.declared.entry.Range.{Range}
 use Rattle.board.specs.Boards.{Allow, Target, Rail, Board, entry_of}
 use Rattle.board.specs.Valid.{IsEntry, IsBoard, IsRail, is_page_value}
@@ -34,7 +34,7 @@ use Rattle.facts.specs.declared.span.Span.{Span}
 use Rattle.facts.specs.Rows.{Row, Admits, IsRow, set_at, span_at, InSpan}
 use Rattle.facts.specs.Requests.{Request, QuickTo, Send, Receive, Write, Read, Call, PutBlock}
 use Rattle.facts.specs.Requests.{GetBlock, CallBlock, form_in, code_in, data_in}
-use Rattle.facts.specs.Duties.{touches, may_select, written_span, MayBeSent, IsInEntry}
+use Rattle.facts.specs.Duties.{touches, may_select, MayBeSent, IsInEntry}
 use Rattle.facts.specs.Duties.{IsKnownValue}
 use Rattle.facts.proofs.Shared.Places.{within, same_at, all_at, only_one, is_target}
 use Rattle.facts.proofs.Shared.Forms.{MayWrite, found_entry, guarded_write}
@@ -209,34 +209,29 @@ lower_within v top t r le k =
 voltage_of : (b : Board) (row : Row) (h : List Entry) (m next : Machine) (i : ℕ) (t : Target)
     (r : Request)
     (a : Answered) (e : Entry) → Sending b row h m next i t r a e
-    → (low high d : ℕ) (rail : Rail) → form_in r ≡ form.WriteWord → code_in r ≡ vout_command_code
+    → (low high d : ℕ) (rail : Rail) → form_in r ≡ form.WriteWord
+    → IsTrue (carries_voltage (code_in r))
     → data_in m.regs r ≡ low ∷ high ∷ []
     → slice_get b.rails d ≡ Some rail → IsTrue (touches row i rail)
     → IsWithin (low + 256 * high) t.exponent rail.limit_uv
-voltage_of b row h m next i t (Write c (written.Word v)) a e k low high d rail f code out at' hit =
+voltage_of b row h m next i t (Write c (written.Word v)) a e k low high d rail f sets out at' hit =
     let same : low + 256 * high ≡ v = two v low high out in
-    rw same ((k.duty K4) (voltage c code) t d rail k.at at' hit)
+    rw same ((k.duty K4) sets t d rail k.at at' hit)
   where
-    voltage : (c : ℕ) → c ≡ vout_command_code → IsTrue (Rattle.facts.specs.Duties.carries_voltage c)
-    voltage c e = rw e refl
-
     two : (v low high : ℕ) → v % 256 ∷ v / 256 ∷ [] ≡ low ∷ high ∷ [] → low + 256 * high ≡ v
     two v low high e =
         let x : v % 256 ≡ low = cc in
         let y : v / 256 ≡ high = cc in
         omega (arith, x, y)
 voltage_of b row h m next i t
-    (Write c (written.Register n)) a e k low high d rail f code out at' hit =
+    (Write c (written.Register n)) a e k low high d rail f sets out at' hit =
     let v = slice_index m.regs n in
     let same : low + 256 * high ≡ v = two v low high out in
     let inside : InSpan (span_at row.regs n) v =
     written_inside b row m h n k.shaped k.admits k.request.1 in
     rw same (lower_within v (Span.hi (span_at row.regs n)) t rail inside.1
-    ((k.duty K4) (voltage c code) t d rail k.at at' hit))
+    ((k.duty K4) sets t d rail k.at at' hit))
   where
-    voltage : (c : ℕ) → c ≡ vout_command_code → IsTrue (Rattle.facts.specs.Duties.carries_voltage c)
-    voltage c e = rw e refl
-
     two : (v low high : ℕ) → v % 256 ∷ v / 256 ∷ [] ≡ low ∷ high ∷ [] → low + 256 * high ≡ v
     two v low high e =
         let x : v % 256 ≡ low = cc in
@@ -323,7 +318,7 @@ request_is_safe b row h m next i t r a e k =
           (k.duty K3 (guarded_write (code_in r) (form_in r) (subst G (sym w.command) guarded)
           (takes_written r k.request writes) writes)
           (slice_index m.bus.protect i) (k.admits.protects i (within b.targets i t k.at))));
-      limits = λ j u low high d rail at' w s.
+      limits = λ j u code low high d rail at' sets w s.
           let same : j ≡ i = only_one b k.board j i u t at' k.at (sym w.to) in
           let target : u ≡ t = same_at b.targets i u t
           (let P : ℕ → Type 0 = λ n. IsTargetAt b n u in subst P same at') k.at in
@@ -331,7 +326,8 @@ request_is_safe b row h m next i t r a e k =
           let S : ℕ → Type 0 = λ n. Selects b m.bus n d rail in
           let here : Selects b m.bus i d rail = subst S same s in
           subst P (sym target)
-          (voltage_of b row h m next i t r a e k low high d rail w.form w.command
+          (voltage_of b row h m next i t r a e k low high d rail w.form
+          (subst (λ (c : ℕ). IsTrue (carries_voltage c)) (sym w.command) sets)
           w.content here.rail (touched b row m h i d rail t k.admits k.at here));
       order = λ j u value d rail at' w on s.
           let same : j ≡ i = only_one b k.board j i u t at' k.at (sym w.is_write.to) in

@@ -1,5 +1,5 @@
 use Rattle.std.proofs.Common.{◌∙◌, ap, sym}
-use Rattle.facts.specs.Duties.{carries_voltage}
+use Rattle.pmbus_table.specs.Voltage.{carries_voltage}
 use Rattle.facts.proofs.Coded.Headed.{under_test}
 use Rattle.facts.proofs.judging.may_set.Goals as goal
 
