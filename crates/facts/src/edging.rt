@@ -1,6 +1,6 @@
 //! The edges of an instruction.
 
-ghost use Rattle.std.specs.Prelude.{◌≡◌, ◌<◌, ◌++◌, map, IfOk, IfSome, slice_get};
+ghost use Rattle.std.specs.Prelude.{◌≡◌, ◌<◌, ◌++◌, [], map, IfOk, IfSome, None, slice_get};
 ghost use Rattle.board.specs.Valid.{IsBoard};
 ghost use Rattle.facts.specs.Rows.{row_view, IsRow};
 ghost use Rattle.facts.specs.Duties.{Meets};
@@ -85,7 +85,7 @@ fn board_law(board: &Board)
 }
 
 /// Where a place's instruction may lead, the row there, and the most ticks on the way. The
-/// instruction meets its first duty at the row.
+/// instruction meets its first duty at the row. A place that the program hasn't leads nowhere.
 pub fn edges(
     alloc: Global,
     board: &Board,
@@ -96,9 +96,10 @@ pub fn edges(
     requires row { IsRow board.now (row_view row.now) }
     requires met { IfSome (slice_get program.now place)
         (λ i. Meets board.now (row_view row.now) i K1) }
-    ensures { IfOk result (λ es. IfSome (slice_get program.now place)
+    ensures leads { IfOk result (λ es. IfSome (slice_get program.now place)
         (λ i. map timed_view es.items
         ≡ timed (worst_ticks board.now i) (edges board.now place i (row_view row.now)))) }
+    ensures nowhere { slice_get program.now place ≡ None → IfOk result (λ es. es.items ≡ []) }
 {
     board_law(board);
     // By its type a program has at most 1024 places.
