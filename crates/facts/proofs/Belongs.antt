@@ -2,3 +2,4 @@
 pub mod EachTargets
 pub mod Sets
 pub mod Rows
+pub mod Starts

@@ -6,7 +6,8 @@ use Rattle.seq_program.specs.declared.instr.Instr.{Instr}
 use Rattle.seq_program.specs.Valid.{IsInstr, IsSaid}
 use Rattle.facts.specs.declared.rule.Rule.{Rule}
 use Rattle.facts.specs.declared.rule.Rule.TheVariants.{K1}
-use Rattle.facts.specs.Rows.{Row, RowCovers, IsRow}
+use Rattle.simulator.specs.Machines.{Machine, Entry}
+use Rattle.facts.specs.Rows.{Row, RowCovers, IsRow, Admits}
 use Rattle.facts.specs.Duties.{Meets}
 use Rattle.facts.specs.Edges.{Edge, edges}
 use Rattle.facts.specs.Steps.{HasEdge}
@@ -29,6 +30,12 @@ pub record Wider (b : Board) (s u : Row) : Type 0 where
 abbrev pub EdgesCover : Board → List Edge → List Edge → Type 0
 EdgesCover b es fs =
     (x : Edge) → HasEdge fs x → (y : Edge) × HasEdge es y × (y.to ≡ x.to) × RowCovers b y.row x.row
+
+-- what a row admits is admitted by each row that covers it
+abbrev pub CoveringRowsAdmit : Type 0
+CoveringRowsAdmit =
+    (b : Board) (s u : Row) (m : Machine) (history : List Entry)
+    → RowCovers b s u → Admits b u m history → Admits b s m history
 
 -- a duty that the wider row meets, the other meets too
 abbrev pub DutiesAreKept : Type 0

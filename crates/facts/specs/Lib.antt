@@ -11,6 +11,7 @@ pub mod Touching
 pub mod KnownBytes
 pub mod Covering
 pub mod Shapes
+pub mod Starts
 pub mod Joining
 pub mod Edges
 pub mod Effects

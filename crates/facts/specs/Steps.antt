@@ -1,12 +1,13 @@
 -- One step from a row whose duties are met: what is said of it, and of whole runs.
-use Rattle.std.specs.Prelude.{◌≡◌, ℕ, ◌≤◌, ◌⊎◌, IsTrue, List, [], ◌∷◌, slice_get, Some}
+use Rattle.std.specs.Prelude.{◌≡◌, ℕ, ◌≤◌, ◌⊎◌, IsTrue, List, [], ◌∷◌, slice_get, Some, IfSome}
 use Rattle.smbus.specs.Answered.{Answered}
 use Rattle.board.specs.Boards.{Board}
 use Rattle.board.specs.Valid.{IsBoard}
 use Rattle.seq_program.specs.declared.instr.Instr.{Instr}
 use Rattle.seq_program.specs.Messages.{message_of}
 use Rattle.seq_program.specs.Programs.{is_end}
-use Rattle.seq_program.specs.Valid.{IsProgram}
+use Rattle.seq_program.specs.Valid.{IsInstr, IsProgram}
+use Rattle.targets.specs.SomeAnswer.{IsMessage}
 use Rattle.simulator.specs.declared.machine.Ending.TheVariants.{Running}
 use Rattle.simulator.specs.Machines.{Machine, Entry}
 use Rattle.simulator.specs.Safe.{IsSafe}
@@ -59,3 +60,9 @@ StepsAreSound =
     (a : Answered) (e : Entry) (next : Machine)
     → Stands b p i row m history → IsStepOf b i (message_of b i m.regs) m a e next
     → IsSoundStep b i row m history e next
+
+-- an instruction whose duties are met sends a message that targets can answer, if it sends one
+abbrev pub MetDutiesSend : Type 0
+MetDutiesSend =
+    (b : Board) (row : Row) (i : Instr) (regs : List ℕ) → IsBoard b → IsInstr i
+    → ((rule : Rule) → Meets b row i rule) → IfSome (message_of b i regs) (λ m. IsMessage b m)

@@ -1,5 +1,6 @@
-ghost use Rattle.facts.specs.FactLaws.{DutiesAreKept, EdgesFollow, EdgesStayShaped};
-ghost use Rattle.facts.specs.Steps.{StepsAreSound};
+ghost use Rattle.facts.specs.FactLaws.{CoveringRowsAdmit, DutiesAreKept, EdgesFollow};
+ghost use Rattle.facts.specs.FactLaws.{EdgesStayShaped};
+ghost use Rattle.facts.specs.Steps.{MetDutiesSend, StepsAreSound};
 ghost use Rattle.facts.specs.Witnesses.{SomeMachineStands, SomeRowIsWider};
 
 use simulator::{
@@ -11,6 +12,7 @@ use simulator::{
 /// admits the machine and the longer history there, and no more ticks left than before.
 pub fn steps_are_sound()
     ensures steps { StepsAreSound }
+    ensures sends { MetDutiesSend }
     // A machine stands at a message, after a step.
     ensures some { SomeMachineStands }
 {
@@ -20,9 +22,11 @@ pub fn steps_are_sound()
     small_programs_are_judged();
 }
 
-/// The law of facts. Where one row covers another, the other meets every duty that the first
-/// meets, and each of its edges is covered by an edge of the first to the same place.
+/// The law of facts. Where one row covers another, it admits all that the other admits, the other
+/// meets every duty that the first meets, and each of its edges is covered by an edge of the first
+/// to the same place.
 pub fn covered_rows_follow()
+    ensures admits { CoveringRowsAdmit }
     ensures duties { DutiesAreKept }
     ensures edges { EdgesFollow }
     // The edges of a row of the board have such rows.

@@ -30,6 +30,7 @@ mod sending;
 mod shaping;
 mod source;
 mod span;
+mod starting;
 mod test;
 mod ticks;
 mod ways;

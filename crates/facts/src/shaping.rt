@@ -18,21 +18,21 @@ use board::{Board, Target};
 const MOST_TICKS: u64 = 1 << 40;
 
 /// Whether a target may store a value in PAGE.
-fn has_page(row: &Row, target: usize, value: u8) -> bool
+pub(crate) fn has_page(row: &Row, target: usize, value: u8) -> bool
     ensures { result ≡ set_at (row_view row.now).pages target value }
 {
     pages_at(row, target).contains(value)
 }
 
 /// Whether a target may store a value in WRITE_PROTECT.
-fn has_protect(row: &Row, target: usize, value: u8) -> bool
+pub(crate) fn has_protect(row: &Row, target: usize, value: u8) -> bool
     ensures { result ≡ set_at (row_view row.now).protects target value }
 {
     protects_at(row, target).contains(value)
 }
 
 /// Whether no rail from an index on is in the set.
-fn has_none_from(good: GoodSet, first: u8) -> bool
+pub(crate) fn has_none_from(good: GoodSet, first: u8) -> bool
     ensures { IsTrue result ↔ ((d : ℕ) → first ≤ d → IsTrue (rails_in good d) → ⊥) }
 {
     for rail in first..64 {
@@ -105,7 +105,7 @@ fn has_sets(row: &Row, index: usize, target: &Target) -> bool
 }
 
 /// Whether so many items are there.
-fn counts<T>(items: &[T], count: usize) -> bool
+pub(crate) fn counts<T>(items: &[T], count: usize) -> bool
     ensures { IsTrue result ↔ (length items.now ≡ count) }
 {
     items.len() == count

@@ -1,3 +1,4 @@
+use Rattle.facts.proofs.Sound.RowChanges.{covers_admits}
 use Rattle.facts.proofs.Covered.EdgeLaw.{edges_follow}
 use Rattle.facts.proofs.Covered.EdgeShapes.{edges_stay_shaped}
 use Rattle.facts.proofs.Covered.KeptDuties.{duties_are_kept}
@@ -16,3 +17,6 @@ returns-clause-shapes c = edges_stay_shaped
 pub returns-clause-some : goal.returns-clause-some
 returns-clause-some c =
     some_row_is_wider edges_stay_shaped c.small_programs_are_judged.ensures.some_clearing
+
+pub returns-clause-admits : goal.returns-clause-admits
+returns-clause-admits c = covers_admits

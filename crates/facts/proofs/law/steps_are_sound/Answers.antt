@@ -1,4 +1,5 @@
 use Rattle.facts.specs.Steps.{StepsAreSound}
+use Rattle.facts.proofs.Sound.Sorts.{sends_message}
 use Rattle.facts.proofs.Sound.Local.{steps_are_sound}
 use Rattle.facts.proofs.Witness.Steps.{some_machine_stands}
 use Rattle.facts.proofs.law.steps_are_sound.Goals as goal
@@ -21,3 +22,6 @@ returns-clause-some c =
     }) in
     some_machine_stands sound c.steps_are_seen.ensures.steps c.steps_are_seen.ensures.starts
     c.small_programs_are_judged.ensures.some_clearing
+
+pub returns-clause-sends : goal.returns-clause-sends
+returns-clause-sends c = sends_message
