@@ -1,0 +1,14 @@
+pub mod Tables
+pub mod Faults
+pub mod Lines
+pub mod Writable
+pub mod Shapes
+pub mod Texts
+pub mod TextLaws
+pub mod Written
+pub mod Saying
+pub mod Passes
+pub mod Rules
+pub mod Obligations
+pub mod SafeTables
+pub mod Looking

@@ -1,0 +1,27 @@
+//! What holds of all tables: of their texts, and of the runs of a program with one.
+
+ghost use Rattle.table_check.specs.SafeTables.{InductiveRunsAreSafe, VerdictsAreSafe};
+ghost use Rattle.table_check.specs.TextLaws.{TextsHaveOneTable, TablesHaveTexts, BoardsHaveTables};
+
+use facts::{covered_rows_follow, steps_are_sound};
+use simulator::{safe_steps_are_safe_runs, steps_are_seen};
+
+/// Every run of a program with a table that keeps the rule book is safe and ends within the ticks
+/// that are left at the start, whatever the targets answer.
+pub fn inductive_runs_are_safe()
+    ensures runs { InductiveRunsAreSafe }
+    ensures verdicts { VerdictsAreSafe }
+{
+    steps_are_sound();
+    covered_rows_follow();
+    steps_are_seen();
+    safe_steps_are_safe_runs();
+}
+
+/// A text is the text of at most one table, and each table that can be written has one.
+pub fn tables_have_texts()
+    ensures one { TextsHaveOneTable }
+    ensures text { TablesHaveTexts }
+    // There are such tables, with a row.
+    ensures case { BoardsHaveTables }
+{}

@@ -1,0 +1,125 @@
+//! Whether the edges of a place keep the rules.
+
+ghost use Rattle.std.specs.Prelude.{◌≡◌, ◌≤◌, ◌∷◌, [], ℕ, List, IfOk, IfSome, map, slice_get, Some, All};
+ghost use Rattle.board.specs.Boards.{Board};
+ghost use Rattle.board.specs.Valid.{IsBoard};
+ghost use Rattle.seq_program.specs.declared.instr.Instr.{Instr};
+ghost use Rattle.facts.specs.declared.rule.Rule.TheVariants.{K1};
+ghost use Rattle.facts.specs.Duties.{Meets};
+ghost use Rattle.facts.specs.Edges.{edge, edges};
+ghost use Rattle.facts.specs.FactLaws.{IsShaped};
+ghost use Rattle.facts.specs.Rows.{row_view, IsRow};
+ghost use Rattle.facts.specs.Ticks.{worst_ticks};
+ghost use Rattle.facts.specs.Ways.{timed, timed_view};
+ghost use Rattle.table_check.specs.Tables.{Table};
+ghost use Rattle.table_check.specs.Looking.{AreShapedEdges, HasRowsOf, of_code, of_timed, rows_view};
+ghost use Rattle.table_check.specs.Obligations.{FallsEnd, IsFirstFault, of_end};
+
+use crate::forming::row_at;
+use crate::paying::{pays, pays_end};
+use board::Board;
+use facts::{Part, Row, Rule, covered_rows_follow, edges};
+use seq_program::{Instr, Program};
+use std::alloc::{AllocError, Global};
+
+/// What every board keeps to.
+pub(crate) fn board_law(board: &Board)
+    ensures { IsBoard board.now }
+{
+    let _rails = board.rails();
+}
+
+/// The edges of a place whose instruction meets its first duty; their rows are rows of the board
+/// but for their ticks.
+pub(crate) fn shaped_edges(
+    alloc: Global,
+    board: &Board,
+    program: &Program,
+    place: usize,
+    instr: &Instr,
+    row: &Row,
+) -> Result<Vec<(usize, Row, u64)>, AllocError>
+    requires here { slice_get program.now place ≡ Some instr.now }
+    requires row { IsRow board.now (row_view row.now) }
+    requires met { Meets board.now (row_view row.now) instr.now K1 }
+    ensures edges { IfOk result (λ es. map timed_view es.items
+        ≡ timed (worst_ticks board.now instr.now)
+        (edges board.now place instr.now (row_view row.now))) }
+    ensures shaped { IfOk result (λ es. AreShapedEdges board.now es.items) }
+{
+    covered_rows_follow();
+    board_law(board);
+    let _places = program.places();
+    edges(alloc, board, program, place, row)
+}
+
+/// The rule that an edge breaks: K6 where the next place has no row that covers the edge's, K7
+/// where the ticks don't fall.
+fn edge_fault(
+    board: &Board,
+    rows: &[Option<Row>],
+    place: usize,
+    edge: &(usize, Row, u64),
+) -> Option<(usize, Rule)>
+    requires rows { HasRowsOf board.now (rows_view rows.now) }
+    requires shaped { IsShaped board.now (row_view edge.now.1) }
+    ensures { (p : List Instr) → IsFirstFault board.now p (rows_view rows.now)
+        (of_code place (edge.now ∷ [])) result }
+{
+    let Some(next) = row_at(rows, edge.0) else {
+        return Some((place, Rule::K6));
+    };
+    if !next.covers(&edge.1) {
+        Some((place, Rule::K6))
+    } else if !pays(edge.2, next, &edge.1) {
+        Some((place, Rule::K7))
+    } else {
+        None
+    }
+}
+
+/// The first rule that an edge of a place breaks.
+pub(crate) fn edges_fault(
+    board: &Board,
+    rows: &[Option<Row>],
+    place: usize,
+    edges: &[(usize, Row, u64)],
+) -> Option<(usize, Rule)>
+    requires rows { HasRowsOf board.now (rows_view rows.now) }
+    requires shaped { AreShapedEdges board.now edges.now }
+    ensures { (p : List Instr) → IsFirstFault board.now p (rows_view rows.now)
+        (of_code place edges.now) result }
+{
+    for edge in edges {
+        if let Some(fault) = edge_fault(board, rows, place, edge) {
+            return Some(fault);
+        }
+    }
+    None
+}
+
+/// K7 at an end: whether a tick is left there.
+fn last_fault(place: usize, row: &Row) -> Option<(usize, Rule)>
+    requires { All (λ s. (s.lo ≤ s.hi) × (s.hi ≤ 1000)) row.now.counters }
+    ensures { (b : Board) (p : List Instr) (t : Table)
+        → IsFirstFault b p t (FallsEnd place (row_view row.now) ∷ []) result }
+{
+    if pays_end(row) {
+        None
+    } else {
+        Some((place, Rule::K7))
+    }
+}
+
+/// The rule that an instruction breaks which ends the program.
+pub(crate) fn end_fault(place: usize, instr: &Instr, row: &Row) -> Option<(usize, Rule)>
+    requires { All (λ s. (s.lo ≤ s.hi) × (s.hi ≤ 1000)) row.now.counters }
+    ensures { (b : Board) (p : List Instr) (t : Table)
+        → IsFirstFault b p t (of_end place (row_view row.now) instr.now) result }
+{
+    match instr {
+        Instr::End => last_fault(place, row),
+        Instr::Fail => last_fault(place, row),
+        _ => None,
+    }
+}

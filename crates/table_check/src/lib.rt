@@ -1,0 +1,30 @@
+//! Tables of facts and their texts, and the checker: a table is accepted where it keeps the rule
+//! book, and then every run of the program is safe.
+#![tactic(auto)]
+
+mod checking;
+mod fault;
+mod forming;
+mod law;
+mod leading;
+mod part;
+mod pass;
+mod paying;
+mod reading;
+mod row_line;
+mod set_line;
+mod shape;
+mod span_line;
+mod table;
+mod verdict;
+mod writing;
+mod written;
+
+pub use checking::check;
+pub use fault::TableFault;
+pub use law::{inductive_runs_are_safe, tables_have_texts};
+pub use reading::read_table;
+pub use shape::shaped;
+pub use table::Table;
+pub use verdict::Verdict;
+pub use writing::write_table;

@@ -1,0 +1,212 @@
+//! Rows that are being read.
+
+ghost use Rattle.std.specs.Prelude.{◌≡◌, ◌↔◌, ◌≤◌, map, length, option_map, IsTrue};
+ghost use Rattle.texts.specs.Reading.{some_or};
+ghost use Rattle.facts.specs.Rows.{row_view};
+ghost use Rattle.table_check.specs.declared.fault.TableFault.TheVariants.{BadLine};
+ghost use Rattle.table_check.specs.Faults.{Gives};
+ghost use Rattle.table_check.specs.Passes.{part_view, no_part, is_full, with_page, with_protect};
+ghost use Rattle.table_check.specs.Passes.{with_good, with_register, with_counter, with_line, finished};
+
+use crate::fault::TableFault;
+use crate::row_line::ticks_said;
+use crate::set_line::{good_said, page_said, protect_said};
+use crate::span_line::{counter_said, register_said};
+use board::Board;
+use facts::{GoodSet, PageSet, ProtectSet, Row, Source, Span};
+use std::alloc::Global;
+
+/// What is read of a row, in the order of its lines.
+#[derive(Drop)]
+pub(crate) struct Part {
+    pub pages: Vec<PageSet>,
+    pub protects: Vec<ProtectSet>,
+    pub good: Option<GoodSet>,
+    pub regs: Vec<(Span, Source)>,
+    pub counters: Vec<Span>,
+}
+
+fn spans(known: &[(Span, Source)]) -> [Span; 8]
+    requires { length known.now ≡ 8 }
+    ensures { result ≡ map (λ r. r.0) known.now }
+{
+    let [r0, r1, r2, r3, r4, r5, r6, r7] = known else {
+        unreachable!()
+    };
+    [r0.0, r1.0, r2.0, r3.0, r4.0, r5.0, r6.0, r7.0]
+}
+
+fn sources(known: &[(Span, Source)]) -> [Source; 8]
+    requires { length known.now ≡ 8 }
+    ensures { result ≡ map (λ r. r.1) known.now }
+{
+    let [r0, r1, r2, r3, r4, r5, r6, r7] = known else {
+        unreachable!()
+    };
+    [r0.1, r1.1, r2.1, r3.1, r4.1, r5.1, r6.1, r7.1]
+}
+
+fn counters(known: &[Span]) -> [Span; 4]
+    requires { length known.now ≡ 4 }
+    ensures { result ≡ known.now }
+{
+    let [c0, c1, c2, c3] = known else {
+        unreachable!()
+    };
+    [*c0, *c1, *c2, *c3]
+}
+
+impl Part {
+    /// Nothing of a row.
+    pub(crate) fn new(alloc: Global) -> Part
+        ensures { part_view result ≡ no_part }
+    {
+        Part {
+            pages: Vec::new(alloc),
+            protects: Vec::new(alloc),
+            good: None,
+            regs: Vec::new(alloc),
+            counters: Vec::new(alloc),
+        }
+    }
+
+    #[tactic(auto, unfolding(crate::specs::Passes::with_page))]
+    fn add_page(
+        &mut self,
+        alloc: Global,
+        board: &Board,
+        line: usize,
+        words: &[&str],
+    ) -> Result<(), TableFault>
+        ensures { Gives (λ _. part_view self.new) result (some_or (BadLine line)
+            (with_page board.now (part_view self.old) (map (λ w. w.now) words.now))) }
+    {
+        let Some(set) = page_said(alloc, board, self.pages.len(), words)? else {
+            return Err(TableFault::BadLine(line));
+        };
+        self.pages.push(set)?;
+        Ok(())
+    }
+
+    #[tactic(auto, unfolding(crate::specs::Passes::with_protect))]
+    fn add_protect(
+        &mut self,
+        alloc: Global,
+        board: &Board,
+        line: usize,
+        words: &[&str],
+    ) -> Result<(), TableFault>
+        ensures { Gives (λ _. part_view self.new) result (some_or (BadLine line)
+            (with_protect board.now (part_view self.old) (map (λ w. w.now) words.now))) }
+    {
+        let Some(set) = protect_said(alloc, board, self.protects.len(), words)? else {
+            return Err(TableFault::BadLine(line));
+        };
+        self.protects.push(set)?;
+        Ok(())
+    }
+
+    #[tactic(auto, unfolding(crate::specs::Passes::with_good))]
+    fn add_good(
+        &mut self,
+        alloc: Global,
+        board: &Board,
+        line: usize,
+        words: &[&str],
+    ) -> Result<(), TableFault>
+        ensures { Gives (λ _. part_view self.new) result (some_or (BadLine line)
+            (with_good board.now (part_view self.old) (map (λ w. w.now) words.now))) }
+    {
+        let Some(set) = good_said(alloc, board, words)? else {
+            return Err(TableFault::BadLine(line));
+        };
+        self.good = Some(set);
+        Ok(())
+    }
+
+    #[tactic(auto, unfolding(crate::specs::Passes::with_register))]
+    fn add_register(&mut self, board: &Board, line: usize, words: &[&str]) -> Result<(), TableFault>
+        ensures { Gives (λ _. part_view self.new) result (some_or (BadLine line)
+            (with_register board.now (part_view self.old) (map (λ w. w.now) words.now))) }
+    {
+        let Some(known) = register_said(board, self.regs.len(), words) else {
+            return Err(TableFault::BadLine(line));
+        };
+        self.regs.push(known)?;
+        Ok(())
+    }
+
+    #[tactic(auto, unfolding(crate::specs::Passes::with_counter))]
+    fn add_counter(&mut self, line: usize, words: &[&str]) -> Result<(), TableFault>
+        ensures { Gives (λ _. part_view self.new) result (some_or (BadLine line)
+            (with_counter (part_view self.old) (map (λ w. w.now) words.now))) }
+    {
+        let Some(span) = counter_said(self.counters.len(), words) else {
+            return Err(TableFault::BadLine(line));
+        };
+        self.counters.push(span)?;
+        Ok(())
+    }
+
+    /// The line that comes next, which isn't the last one.
+    #[tactic(auto, unfolding(crate::specs::Passes::with_line))]
+    pub(crate) fn add_line(
+        &mut self,
+        alloc: Global,
+        board: &Board,
+        line: usize,
+        words: &[&str],
+    ) -> Result<(), TableFault>
+        ensures { Gives (λ _. part_view self.new) result (some_or (BadLine line)
+            (with_line board.now (part_view self.old) (map (λ w. w.now) words.now))) }
+    {
+        let targets = board.targets().len();
+        if self.pages.len() < targets {
+            self.add_page(alloc, board, line, words)
+        } else if self.protects.len() < targets {
+            self.add_protect(alloc, board, line, words)
+        } else if self.good.is_none() {
+            self.add_good(alloc, board, line, words)
+        } else if self.regs.len() < 8 {
+            self.add_register(board, line, words)
+        } else {
+            self.add_counter(line, words)
+        }
+    }
+
+    /// Whether the last line comes next.
+    pub(crate) fn is_full(&self) -> bool
+        ensures { result ≡ is_full (part_view self.now) }
+    {
+        self.regs.len() == 8 && self.counters.len() == 4
+    }
+
+    /// The row, by its last line.
+    #[tactic(auto, unfolding(crate::specs::Passes::finished))]
+    pub(crate) fn finish(self, line: usize, words: &[&str]) -> Result<Row, TableFault>
+        requires { IsTrue (is_full (part_view self)) }
+        ensures { Gives row_view result (some_or (BadLine line)
+            (finished (part_view self) (map (λ w. w.now) words.now))) }
+    {
+        let Some(good) = self.good else {
+            return Err(TableFault::BadLine(line));
+        };
+        let Some(ticks) = ticks_said(words) else {
+            return Err(TableFault::BadLine(line));
+        };
+        let (base, coeffs) = ticks;
+        let regs = spans(&self.regs);
+        let sources = sources(&self.regs);
+        let counters = counters(&self.counters);
+        Ok(Row {
+            pages: self.pages,
+            protects: self.protects,
+            good,
+            regs,
+            sources,
+            counters,
+            base,
+            coeffs,
+        })
+    }
+}

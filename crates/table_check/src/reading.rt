@@ -1,0 +1,62 @@
+//! Tables, from their texts.
+
+ghost use Rattle.std.specs.Prelude.{◌≡◌, map, IfOk, IfErr};
+ghost use Rattle.texts.specs.Words.{lines_by_feed};
+ghost use Rattle.table_check.specs.Faults.{Gives};
+ghost use Rattle.table_check.specs.Tables.{table_view};
+ghost use Rattle.table_check.specs.Texts.{AreLinesOf, IsTextOf, FindsTable, CarriesFirst};
+ghost use Rattle.table_check.specs.Passes.{pass_view, after_lines, no_pass, table_in};
+
+use crate::fault::TableFault;
+use crate::pass::Pass;
+use crate::shape::is_board;
+use crate::table::Table;
+use board::Board;
+use std::alloc::Global;
+use texts::lines_by_feed;
+
+/// All lines of a text.
+fn pass_of(alloc: Global, board: &Board, lines: &[&str]) -> Result<Pass, TableFault>
+    ensures { Gives pass_view result
+        (after_lines board.now 1 no_pass (map (λ l. l.now) lines.now)) }
+{
+    let mut pass = Pass::new(alloc);
+    for (index, line) in lines.iter().enumerate() {
+        pass.add_line(alloc, board, index + 1, line)?;
+    }
+    Ok(pass)
+}
+
+#[tactic(auto, unfolding(crate::specs::Passes::table_in))]
+fn table_in(alloc: Global, board: &Board, lines: &[&str]) -> Result<Table, TableFault>
+    ensures { Gives table_view result (table_in board.now (map (λ l. l.now) lines.now)) }
+{
+    let pass = pass_of(alloc, board, lines)?;
+    pass.whole(lines.len())
+}
+
+/// The table of some lines.
+fn read_lines(alloc: Global, board: &Board, lines: &[&str]) -> Result<Table, TableFault>
+    ensures ok { IfOk result (λ t. AreLinesOf board.now (table_view t)
+        (map (λ l. l.now) lines.now)) }
+    ensures all { FindsTable board.now (map (λ l. l.now) lines.now) result }
+    ensures bad { IfErr result (λ e. CarriesFirst board.now (map (λ l. l.now) lines.now) e) }
+{
+    is_board(board);
+    table_in(alloc, board, lines)
+}
+
+/// The table of a text for a board: the one whose lines the text has, if there is one.
+///
+/// A table's lines say for each place of a program, in order, what is known there. Where the text
+/// is that of no table, `BadLine` carries the first line with which no table's lines go on so,
+/// counted from 1, or the number after the last line's where the text ends too early. `Memory` is
+/// answered where a growth was refused.
+pub fn read_table(alloc: Global, board: &Board, text: &str) -> Result<Table, TableFault>
+    ensures ok { IfOk result (λ t. IsTextOf board.now (table_view t) text.now) }
+    ensures all { FindsTable board.now (lines_by_feed text.now) result }
+    ensures bad { IfErr result (λ e. CarriesFirst board.now (lines_by_feed text.now) e) }
+{
+    let lines = lines_by_feed(alloc, text)?;
+    read_lines(alloc, board, &lines)
+}
