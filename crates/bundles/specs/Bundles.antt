@@ -9,9 +9,10 @@ use Rattle.std.specs.Str.Lines.{lines}
 use Rattle.texts.specs.Reading.{◌>>=◌, some_or}
 use Rattle.bundles.specs.declared.fault.BundleFault.{BundleFault}
 use Rattle.bundles.specs.declared.command.Command.{Command}
-use Rattle.bundles.specs.declared.command.Command.TheVariants.{Frame, Run}
+use Rattle.bundles.specs.declared.command.Command.TheVariants.{Frame, Run, Check}
 use Rattle.bundles.specs.declared.command.Header.{Header}
 use Rattle.bundles.specs.declared.command.Header.TheVariants.{Message, Board, Program, Answers}
+use Rattle.bundles.specs.declared.command.Header.TheVariants.{Table}
 use Rattle.bundles.specs.declared.fault.BundleFault.TheVariants.{NoCommand, UnknownCommand}
 use Rattle.bundles.specs.declared.fault.BundleFault.TheVariants.{Unexpected, MissingSection}
 
@@ -23,6 +24,7 @@ abbrev pub command_of : Line → Option Command
 command_of line =
     if bytes_eq line (codes "%frame") then Some Frame
     else if bytes_eq line (codes "%run") then Some Run
+    else if bytes_eq line (codes "%check") then Some Check
     else None
 
 abbrev pub header_text : Header → Line
@@ -30,11 +32,13 @@ header_text Message = codes "%message"
 header_text Board = codes "%board"
 header_text Program = codes "%program"
 header_text Answers = codes "%answers"
+header_text Table = codes "%table"
 
 -- the headers of the sections that a command wants, in order
 abbrev pub headers_of : Command → List Header
 headers_of Frame = Message ∷ []
 headers_of Run = Board ∷ Program ∷ Answers ∷ []
+headers_of Check = Board ∷ Program ∷ Table ∷ []
 
 -- nothing but spaces
 abbrev pub is_blank : Line → Bool

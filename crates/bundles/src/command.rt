@@ -6,6 +6,7 @@ ghost use Rattle.bundles.specs.Bundles.{header_text, headers_of, command_of};
 pub enum Command {
     Frame,
     Run,
+    Check,
 }
 
 /// What a section holds, by the line above it.
@@ -15,11 +16,14 @@ pub enum Header {
     Board,
     Program,
     Answers,
+    Table,
 }
 
 const FRAME_HEADERS: [Header; 1] = [Header::Message];
 
 const RUN_HEADERS: [Header; 3] = [Header::Board, Header::Program, Header::Answers];
+
+const CHECK_HEADERS: [Header; 3] = [Header::Board, Header::Program, Header::Table];
 
 impl Header {
     /// The header line.
@@ -31,6 +35,7 @@ impl Header {
             Header::Board => "%board",
             Header::Program => "%program",
             Header::Answers => "%answers",
+            Header::Table => "%table",
         }
     }
 }
@@ -43,6 +48,7 @@ impl Command {
         match self {
             Command::Frame => &FRAME_HEADERS,
             Command::Run => &RUN_HEADERS,
+            Command::Check => &CHECK_HEADERS,
         }
     }
 
@@ -53,6 +59,7 @@ impl Command {
         match line {
             "%frame" => Some(Command::Frame),
             "%run" => Some(Command::Run),
+            "%check" => Some(Command::Check),
             _ => None,
         }
     }

@@ -1,3 +1,4 @@
 pub mod Transfers
 pub mod Fronts
 pub mod Told
+pub mod Promised

@@ -4,17 +4,32 @@ use Rattle.std.specs.Str.Lines.{lines}
 use Rattle.texts.specs.Reading.{◌>>=◌}
 use Rattle.bundles.specs.declared.command.Command.{Command}
 use Rattle.bundles.specs.declared.command.Command.TheVariants as commands
-use Rattle.session.specs.declared.commands.Task.{Task}
+use Rattle.session.specs.declared.commands.Task.{Task as TaskCode}
 use Rattle.session.specs.declared.commands.Task.TheVariants as tasks
+use Rattle.session.specs.declared.scenario.Scenario.{Scenario}
 use Rattle.session.specs.declared.fault.InputFault.{InputFault}
 use Rattle.session.specs.declared.fault.InputFault.TheVariants as faults
 use Rattle.session.specs.Faults.{faulted}
 use Rattle.bundles.specs.Bundles.{Line, Section, Bundle, bundle_of}
+use Rattle.bundles.specs.declared.message.Exchange.{Exchange}
 use Rattle.bundles.specs.Messages.{exchange_in}
 use Rattle.session.specs.Replies.{Reply}
 use Rattle.session.specs.FrameReplies.{IsFrameReply}
 use Rattle.session.specs.RunReplies.{IsRunReply}
+use Rattle.session.specs.CheckReplies.{IsCheckReply}
 use Rattle.session.specs.Scenarios.{scenario_in, IsOnItsBoard}
+use Rattle.session.specs.Trials.{Trial, trial_in, trial_view}
+
+-- a message with its answer, a program with answers, or a program with a table
+pub data Task : Type 0 where
+  Frame : (exchange : Exchange) → Task
+  Run : (scenario : Scenario) → Task
+  Check : (trial : Trial) → Task
+
+abbrev pub task_view : TaskCode → Task
+task_view (tasks.Frame exchange) = Frame exchange
+task_view (tasks.Run scenario) = Run scenario
+task_view (tasks.Check trial) = Check (trial_view trial)
 
 abbrev pub section_at : List Section → ℕ → Section
 section_at sections place = slice_index_or sections place (record { first_line = 0; lines = [] })
@@ -23,11 +38,14 @@ section_at sections place = slice_index_or sections place (record { first_line =
 abbrev pub asked_by : Command → List Section → Result Task InputFault
 asked_by commands.Frame sections =
     faulted faults.Bundle (exchange_in (section_at sections 0)) >>= λ exchange.
-    Ok (tasks.Frame exchange)
+    Ok (Frame exchange)
 asked_by commands.Run sections =
     scenario_in (section_at sections 0) (section_at sections 1) (section_at sections 2)
     >>= λ scenario.
-    Ok (tasks.Run scenario)
+    Ok (Run scenario)
+asked_by commands.Check sections =
+    trial_in (section_at sections 0) (section_at sections 1) (section_at sections 2) >>= λ trial.
+    Ok (Check trial)
 
 abbrev pub task_of : Bundle → Result Task InputFault
 task_of bundle = asked_by bundle.command bundle.sections
@@ -42,10 +60,12 @@ task_in text = task_in_lines (lines text)
 
 -- the holds of a message can be driven, and a program is on its board
 abbrev pub IsReady : Task → Type 0
-IsReady (tasks.Frame exchange) = All (λ hold. hold ≤ 6999) exchange.answer.holds
-IsReady (tasks.Run scenario) = IsOnItsBoard scenario
+IsReady (Frame exchange) = All (λ hold. hold ≤ 6999) exchange.answer.holds
+IsReady (Run scenario) = IsOnItsBoard scenario
+IsReady (Check trial) = Unit {0}
 
 -- the reply to each task
 abbrev pub IsReplyOf : Task → Reply → Type 0
-IsReplyOf (tasks.Frame exchange) reply = IsFrameReply exchange.message exchange.answer reply
-IsReplyOf (tasks.Run scenario) reply = IsRunReply scenario reply
+IsReplyOf (Frame exchange) reply = IsFrameReply exchange.message exchange.answer reply
+IsReplyOf (Run scenario) reply = IsRunReply scenario reply
+IsReplyOf (Check trial) reply = IsCheckReply trial reply

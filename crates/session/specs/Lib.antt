@@ -6,6 +6,9 @@ pub mod FrameReplies
 pub mod SectionTexts
 pub mod Scenarios
 pub mod RunReplies
+pub mod Trials
+pub mod CheckReplies
 pub mod Commands
 pub mod Sessions
+pub mod Promises
 pub mod Devices

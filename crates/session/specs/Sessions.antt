@@ -6,9 +6,8 @@ use Rattle.std.specs.Io.KnownBytes.{Appends}
 use Rattle.texts.specs.Reading.{◌>>=◌, some_or, value_if}
 use Rattle.texts.specs.Sending.{AppendsBeginning}
 use Rattle.session.specs.Intake.{kept_limit}
-use Rattle.session.specs.Commands.{task_in, IsReplyOf}
+use Rattle.session.specs.Commands.{Task, task_in, IsReplyOf}
 use Rattle.session.specs.Replies.{Reply, refusal}
-use Rattle.session.specs.declared.commands.Task.{Task}
 use Rattle.session.specs.declared.reply.Status.{Status}
 use Rattle.session.specs.declared.fault.InputFault.{InputFault}
 use Rattle.session.specs.declared.fault.InputFault.TheVariants as faults

@@ -4,13 +4,15 @@ ghost use Rattle.bundles.specs.Bundles.{headers_of};
 ghost use Rattle.bundles.specs.Texts.{texts_of};
 ghost use Rattle.bundles.specs.Views.{bundle_view};
 ghost use Rattle.session.specs.Replies.{reply_view};
-ghost use Rattle.session.specs.Commands.{task_of, task_in_lines, IsReady, IsReplyOf};
+ghost use Rattle.session.specs.Commands.{task_of, task_in_lines, task_view, IsReady, IsReplyOf};
 
+use crate::checking::check_reply;
 use crate::fault::{InputFault, of_bundle};
 use crate::frame::frame_reply;
 use crate::reply::{Reply, Status};
 use crate::scenario::{Scenario, scenario_in};
 use crate::tracing::run_reply;
+use crate::trial::{Trial, trial_in};
 use bundles::{Bundle, Command, Exchange, exchange_in, read_bundle};
 use std::alloc::{AllocError, Global};
 use texts::ReadError;
@@ -20,13 +22,14 @@ use texts::ReadError;
 pub enum Task<'a> {
     Frame(Exchange),
     Run(Scenario<'a>),
+    Check(Trial),
 }
 
 /// What a bundle asks for. Its sections are read in order.
 fn task_of<'a>(alloc: Global, bundle: &Bundle<'a>) -> Result<Task<'a>, ReadError<InputFault>>
     requires { vec_len bundle.now.sections ≡ length (headers_of bundle.now.command) }
-    ensures value { Gives (λ task. task) result (task_of (bundle_view bundle.now)) }
-    ensures ready { IfOk result IsReady }
+    ensures value { Gives task_view result (task_of (bundle_view bundle.now)) }
+    ensures ready { IfOk result (λ task. IsReady (task_view task)) }
 {
     match bundle.command {
         Command::Frame => {
@@ -38,13 +41,18 @@ fn task_of<'a>(alloc: Global, bundle: &Bundle<'a>) -> Result<Task<'a>, ReadError
             let scenario = scenario_in(alloc, &sections[0], &sections[1], &sections[2])?;
             Ok(Task::Run(scenario))
         }
+        Command::Check => {
+            let sections = &bundle.sections;
+            let trial = trial_in(alloc, &sections[0], &sections[1], &sections[2])?;
+            Ok(Task::Check(trial))
+        }
     }
 }
 
 /// What the lines of a bundle ask for.
 pub fn read_task<'a>(alloc: Global, lines: &'a [&'a str]) -> Result<Task<'a>, ReadError<InputFault>>
-    ensures value { Gives (λ task. task) result (task_in_lines (texts_of lines.now)) }
-    ensures ready { IfOk result IsReady }
+    ensures value { Gives task_view result (task_in_lines (texts_of lines.now)) }
+    ensures ready { IfOk result (λ task. IsReady (task_view task)) }
 {
     let bundle = read_bundle(alloc, lines).map_err(of_bundle)?;
     task_of(alloc, &bundle)
@@ -52,12 +60,13 @@ pub fn read_task<'a>(alloc: Global, lines: &'a [&'a str]) -> Result<Task<'a>, Re
 
 /// The reply to what was asked for.
 pub fn reply_of(alloc: Global, task: &Task<'_>) -> Result<Reply, AllocError>
-    requires { IsReady task.now }
+    requires { IsReady (task_view task.now) }
     ensures whole { IfOk result (λ reply. reply.status ≢ Status.DeviceFault) }
-    ensures replies { IfOk result (λ reply. IsReplyOf task.now (reply_view reply)) }
+    ensures replies { IfOk result (λ reply. IsReplyOf (task_view task.now) (reply_view reply)) }
 {
     match task {
         Task::Frame(exchange) => frame_reply(alloc, &exchange.message, &exchange.answer),
         Task::Run(scenario) => run_reply(alloc, scenario),
+        Task::Check(trial) => check_reply(alloc, trial),
     }
 }

@@ -7,6 +7,7 @@ use seq_program::ProgramFault;
 use simulator::RunFault;
 use smbus::SmbusFault;
 use std::alloc::{AllocError, Global};
+use table_check::TableFault;
 use texts::ReadError;
 use thiserror::Error;
 
@@ -23,6 +24,8 @@ pub enum InputFault {
     Program(ProgramFault),
     #[error("{0}")]
     Run(RunFault),
+    #[error("{0}")]
+    Table(TableFault),
 }
 
 /// A bundle's error as an input's.
@@ -93,6 +96,12 @@ pub fn fault_line(alloc: Global, fault: InputFault) -> Result<String, AllocError
             let name = fault.name();
             let index = counted_text(alloc, fault.index())?;
             format!(in alloc; "fault run {number} {name}{index}\n")
+        }
+        InputFault::Table(fault) => {
+            let number = fault.number();
+            let name = fault.name();
+            let line = counted_text(alloc, fault.line())?;
+            format!(in alloc; "fault table {number} {name}{line}\n")
         }
     }
 }

@@ -2,6 +2,7 @@
 #![tactic(auto)]
 
 mod answering;
+mod checking;
 mod commands;
 mod fault;
 mod frame;
@@ -10,6 +11,7 @@ mod outcome;
 mod reply;
 mod scenario;
 mod tracing;
+mod trial;
 
 pub use answering::{DeviceFault, answer, session};
 pub use outcome::outcome_line;

@@ -21,7 +21,7 @@ pub struct Scenario<'a> {
 }
 
 /// The text of a section: its lines, each of them ended by a line feed.
-fn section_text(alloc: Global, section: &Section<'_>) -> Result<String, AllocError>
+pub(crate) fn section_text(alloc: Global, section: &Section<'_>) -> Result<String, AllocError>
     ensures { IfOk result (λ text. string_bytes text ≡ section_text (section_view section.now)) }
 {
     let mut text = String::new(alloc);
@@ -33,7 +33,7 @@ fn section_text(alloc: Global, section: &Section<'_>) -> Result<String, AllocErr
 }
 
 /// The board of a section.
-fn board_in(alloc: Global, section: &Section<'_>) -> Result<Board, ReadError<InputFault>>
+pub(crate) fn board_in(alloc: Global, section: &Section<'_>) -> Result<Board, ReadError<InputFault>>
     ensures { Gives (λ b. b) result (board_in (section_view section.now)) }
 {
     let text = section_text(alloc, section)?;
@@ -45,7 +45,7 @@ fn board_in(alloc: Global, section: &Section<'_>) -> Result<Board, ReadError<Inp
 }
 
 /// The program of a section, on its board.
-fn program_in(
+pub(crate) fn program_in(
     alloc: Global,
     board: &Board,
     section: &Section<'_>,

@@ -13,12 +13,12 @@ ghost use Rattle.table_check.specs.SafeTables.{IsSafeVerdict};
 use crate::forming::{form_fault, row_at};
 use crate::law::inductive_runs_are_safe;
 use crate::leading::{board_law, edges_fault, end_fault, shaped_edges};
+use crate::table::Table;
 use crate::verdict::Verdict;
 use board::Board;
 use facts::{Row, Rule, duty};
 use seq_program::{Instr, Program};
 use std::alloc::{AllocError, Global};
-use crate::table::Table;
 
 /// The first rule that an instruction breaks at its row, or one of its edges.
 fn instr_fault(

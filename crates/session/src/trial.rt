@@ -1,0 +1,41 @@
+ghost use Rattle.std.specs.Prelude.{◌≡◌};
+ghost use Rattle.texts.specs.Reading.{Gives};
+ghost use Rattle.bundles.specs.Views.{section_view};
+ghost use Rattle.session.specs.Trials.{trial_in, trial_view};
+
+use crate::fault::InputFault;
+use crate::scenario::{board_in, program_in, section_text};
+use board::Board;
+use bundles::Section;
+use seq_program::Program;
+use std::alloc::Global;
+use texts::ReadError;
+
+/// A program on its board, and the text of a table of facts.
+#[derive(Drop)]
+pub struct Trial {
+    pub board: Board,
+    pub program: Program,
+    pub table: String,
+}
+
+/// What the sections of a check say, read in order, but for the table.
+#[tactic(auto, unfolding(crate::specs::Trials::trial_in))]
+pub fn trial_in(
+    alloc: Global,
+    on: &Section<'_>,
+    program: &Section<'_>,
+    table: &Section<'_>,
+) -> Result<Trial, ReadError<InputFault>>
+    ensures { Gives trial_view result
+        (trial_in (section_view on.now) (section_view program.now) (section_view table.now)) }
+{
+    let board = board_in(alloc, on)?;
+    let program = program_in(alloc, &board, program)?;
+    let table = section_text(alloc, table)?;
+    Ok(Trial {
+        board,
+        program,
+        table,
+    })
+}
