@@ -12,6 +12,10 @@ mod boards;
 #[cfg(test)]
 mod bundles_rows;
 #[cfg(test)]
+mod check_rows;
+#[cfg(test)]
+mod facts_rows;
+#[cfg(test)]
 mod fitting_rows;
 #[cfg(test)]
 mod outcome_rows;

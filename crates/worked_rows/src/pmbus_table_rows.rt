@@ -1,6 +1,7 @@
 use bitflags::Flags;
 use pmbus_table::{
-    Command, StatusWord, by_code, by_name, code, enables, name_of, permits, reported_good, within,
+    Command, StatusWord, by_code, by_name, carries_voltage, code, enables, name_of, permits,
+    reported_good, within,
 };
 use smbus::Form;
 use std::alloc::{AllocError, Global};
@@ -211,6 +212,14 @@ fn operations(rt: HostRuntime) {
     assert!(rt; enables(0x80));
     for value in [0x00, 0x40, 0x81, 0xFF] {
         assert!(rt; !enables(value), "{value}");
+    }
+}
+
+#[test]
+fn voltage_commands(rt: HostRuntime) {
+    assert!(rt; carries_voltage(code::VOUT_COMMAND));
+    for code in [0x00, 0x01, 0x20, 0x22, 0x8B, 0xFF] {
+        assert!(rt; !carries_voltage(code), "{code}");
     }
 }
 

@@ -1,0 +1,90 @@
+//! What is known at a place: the parts of rows, duties, edges and ticks.
+
+mod branches;
+mod duties;
+mod edges;
+mod known;
+mod ticks;
+
+use crate::boards::two_board;
+use board::Board;
+use facts::{Part, Row, duty, edges};
+use known::{Counted, NOTHING, row_of};
+use seq_program::{Program, read_program};
+use std::alloc::{AllocError, Global};
+use std::process::Abort;
+use std::test::Fail;
+
+/// `count c0 3; spin: wait 10; again c0 spin; end`.
+const LOOP: &str = "count c0 3\nspin:\nwait 10\nagain c0 spin\nend";
+
+/// Whether the join of two parts covers both.
+fn joins<P: Part + Drop>(alloc: Global, first: &P, second: &P) -> Result<bool, AllocError>
+    requires { P.Alike first.now second.now }
+{
+    let joined = first.join(alloc, second)?;
+    Ok(joined.covers(first) && joined.covers(second))
+}
+
+/// Whether the joins of the parts of two rows cover them, and that of the rows.
+fn rows_join(alloc: Global, first: &Row, second: &Row) -> Result<bool, AllocError> {
+    if first.pages.len() != second.pages.len() || first.protects.len() != second.protects.len() {
+        return Ok(false);
+    }
+    if first.pages.is_empty() || first.protects.is_empty() {
+        return Ok(false);
+    }
+    Ok(
+        joins(alloc, &first.pages[0], &second.pages[0])?
+            && joins(alloc, &first.protects[0], &second.protects[0])?
+            && joins(alloc, &first.good, &second.good)?
+            && joins(alloc, &first.counters[0], &second.counters[0])?
+            && joins(alloc, &first.sources[7], &second.sources[7])?
+            && joins(alloc, first, second)?,
+    )
+}
+
+/// The places to which the edges of place 2 lead, their ticks, and the ends of c0 there.
+fn ways_of(
+    alloc: Global,
+    board: &Board,
+    program: &Program,
+    row: &Row,
+) -> Result<Vec<(usize, u64, u16, u16)>, AllocError> {
+    let mut ways = Vec::new(alloc);
+    let Some(instr) = program.at(2) else {
+        return Ok(ways);
+    };
+    if !row.is_of(board) || duty(board, instr, row).is_some() {
+        return Ok(ways);
+    }
+    let edges = edges(alloc, board, program, 2, row)?;
+    for edge in &edges {
+        let counter = edge.1.counters[0];
+        ways.push((edge.0, edge.2, counter.lo, counter.hi))?;
+    }
+    Ok(ways)
+}
+
+/// Whether the joins of all parts of two rows cover both.
+fn counted_rows_join(alloc: Global, first: Counted, second: Counted) -> Result<bool, Fail> {
+    let first = row_of(alloc, NOTHING, first)?;
+    let second = row_of(alloc, NOTHING, second)?;
+    Ok(rows_join(alloc, &first, &second)?)
+}
+
+/// The ways from place 2 of the loop.
+fn counted_ways(alloc: Global, counted: Counted) -> Result<Vec<(usize, u64, u16, u16)>, Fail> {
+    let board = two_board(alloc)?;
+    let program = read_program(alloc, &board, LOOP)?;
+    let row = row_of(alloc, NOTHING, counted)?;
+    Ok(ways_of(alloc, &board, &program, &row)?)
+}
+
+#[test]
+fn rows_of_a_counted_loop(rt: HostRuntime) -> Result<(), Fail> {
+    assert!(rt; counted_rows_join(rt.alloc(), ((0, 0), 50, 0), ((0, 3), 13, 12))?);
+    let ways = counted_ways(rt.alloc(), ((0, 3), 2, 12))?;
+    assert!(rt; ways.as_slice() == [(1, 1, 0, 2), (3, 1, 0, 0)].as_slice());
+    Ok(())
+}
