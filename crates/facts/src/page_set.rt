@@ -1,8 +1,9 @@
-ghost use Rattle.std.specs.Prelude.{◌≡◌, ◌<◌, ◌≤◌, IsTrue, IfOk, option_map};
+ghost use Rattle.std.specs.Prelude.{◌≡◌, ◌<◌, ◌≤◌, ◌&&◌, ◌↔◌, ℕ, IsTrue, IfOk, option_map};
+ghost use Rattle.board.specs.Valid.{is_page_value};
 ghost use Rattle.facts.specs.Sets.{is_page, page_bit, pages_in, set_of};
 
 use crate::byte_set::{ByteSet, set_of};
-use crate::mask::{has_all, has_place, with_place, without_place};
+use crate::mask::{has_all, has_place, lowest, with_place, without_place};
 use crate::part::Part;
 use std::alloc::{AllocError, Global};
 use std::marker::Model;
@@ -49,6 +50,22 @@ impl PageSet {
         ensures { IfOk result (λ s. option_map pages_in s ≡ set_of is_page values.now) }
     {
         Ok(set_of(values))
+    }
+
+    /// All values of PAGE of a target with so many pages: these, and FFh.
+    pub(crate) fn values_of(pages: u8) -> PageSet
+        ensures { pages_in result ≡ λ v. is_page v && is_page_value pages v }
+    {
+        PageSet {
+            bits: with_place(lowest(pages.min(32)), page_bit(ALL_PAGES)),
+        }
+    }
+
+    /// Whether some value is in the set.
+    pub(crate) fn has_some(&self) -> bool
+        ensures { IsTrue result ↔ ((v : ℕ) × IsTrue (pages_in self.now v)) }
+    {
+        self.bits != 0
     }
 
     /// Whether a value is in the set.

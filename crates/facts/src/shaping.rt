@@ -8,6 +8,8 @@ ghost use Rattle.facts.specs.Rows.{row_view, set_at, IsSource, IsSetOf, IsRow, m
 ghost use Rattle.facts.specs.Shapes.{IsSizedRow, EachTarget, HasSets, IsShapedByPart};
 
 use crate::good_set::GoodSet;
+use crate::page_set::PageSet;
+use crate::part::Part;
 use crate::parts::{pages_at, protects_at};
 use crate::row::Row;
 use crate::source::Source;
@@ -47,12 +49,7 @@ pub(crate) fn has_none_from(good: GoodSet, first: u8) -> bool
 fn has_some_page(row: &Row, target: usize) -> bool
     ensures { IsTrue result ↔ ((v : ℕ) × IsTrue (set_at (row_view row.now).pages target v)) }
 {
-    for value in 0..255 {
-        if has_page(row, target, value) {
-            return true;
-        }
-    }
-    has_page(row, target, 255)
+    pages_at(row, target).has_some()
 }
 
 /// Whether each value that a target may store in PAGE is one of so many pages, or FFh.
@@ -60,12 +57,7 @@ fn has_pages_below(row: &Row, target: usize, pages: u8) -> bool
     ensures { IsTrue result ↔ ((v : ℕ) → IsTrue (set_at (row_view row.now).pages target v)
         → IsTrue (is_page_value pages v)) }
 {
-    for value in pages..255 {
-        if has_page(row, target, value) {
-            return false;
-        }
-    }
-    true
+    PageSet::values_of(pages).covers(&pages_at(row, target))
 }
 
 /// Whether a target may store one of the four values of WRITE_PROTECT.

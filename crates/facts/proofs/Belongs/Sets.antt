@@ -1,14 +1,19 @@
 -- Sets of pages and of protections by the values that are looked at.
-use Rattle.std.proofs.Common.{◌≡◌, ◌≢◌, ℕ, zero, suc, ◌≤◌, ◌<◌, ◌↔◌, ◌⊎◌, List, [], ◌∷◌, inl, inr}
-use Rattle.std.proofs.Common.{arith, IsTrue, Bool, map, sym, subst, ◌||◌, true, false, refl}
+use Rattle.std.proofs.Common.{◌≡◌, ◌≢◌, ℕ, zero, suc, ◌<◌, ◌↔◌, ◌⊎◌, List, [], ◌∷◌, inl, inr}
+use Rattle.std.proofs.Common.{arith, IsTrue, Bool, map, sym, subst, ◌||◌, ◌&&◌, ◌==◌, not, true}
+use Rattle.std.proofs.Common.{false}
+use Rattle.std.proofs.Common.{refl, ap, ◌∙◌, ◌^◌, nat_lt, min}
 use Rattle.std.proofs.lemmas.Bool.{cases_lt, cases_eq}
 use Rattle.std.proofs.lemmas.Bool.Decides.{nat_tests}
 use Rattle.board.specs.Valid.{is_page_value}
 use Rattle.pmbus_table.specs.Protect.{is_protection}
-use Rattle.facts.specs.Sets.{pages_in, protects_in, is_page, is_protect}
+use Rattle.wires.specs.Bits.{bit}
+use Rattle.facts.specs.Sets.{Set, pages_in, protects_in, is_page, is_protect, page_bit, gains}
 use Rattle.facts.specs.SetLaws.{in_kind}
-use Rattle.facts.specs.Rows.{set_at, IsSetOf}
+use Rattle.facts.specs.Rows.{set_at, IsSetOf, SetCovers}
 use Rattle.facts.proofs.Belongs.EachTargets.{false_true}
+use Rattle.facts.proofs.Coded.Placed.{page_at as value_at, and_both, and_right, differ}
+use Rattle.facts.proofs.Coded.Words.{no_bit, some_bit}
 
 pub page_at : (xs : List ℕ) (i v : ℕ) → IsTrue (set_at (map pages_in xs) i v) → IsTrue (is_page v)
 page_at [] i v t = absurd (false_true t)
@@ -20,51 +25,6 @@ pub protect_at : (xs : List ℕ) (i v : ℕ) → IsTrue (set_at (map protects_in
 protect_at [] i v t = absurd (false_true t)
 protect_at (x ∷ xs) zero v t = in_kind _ _ t
 protect_at (x ∷ xs) (suc i) v t = protect_at xs i v t
-
-is_last : (v : ℕ) → 255 ≤ v → IsTrue (is_page v) → v ≡ 255
-is_last v le t = grind (arith, nat_tests)
-
-below : (pages v : ℕ) → v < pages → IsTrue (is_page_value pages v)
-below pages v lt = grind (arith, nat_tests)
-
-all_value : (pages v : ℕ) → v ≡ 255 → IsTrue (is_page_value pages v)
-all_value pages v e = grind (arith, nat_tests)
-
-not_past : (pages v : ℕ) → pages ≤ v → v < 255 → IsTrue (is_page_value pages v) → ⊥
-not_past pages v le lt t = grind (arith, nat_tests)
-
-pub pages_below : (xs : List ℕ) (i pages value : ℕ) → 255 ≤ value
-    → ((v : ℕ) → pages ≤ v → v < value → IsTrue (set_at (map pages_in xs) i v) → ⊥)
-    → (v : ℕ) → IsTrue (set_at (map pages_in xs) i v) → IsTrue (is_page_value pages v)
-pages_below xs i pages value last none v t =
-    elim (cases_lt v pages) [
-      | inl lt ↦ below pages v lt
-      | inr le ↦ elim (cases_lt v 255) [
-        | inl lt ↦ absurd (none v le (omega (arith, lt, last)) t)
-        | inr ge ↦ all_value pages v (is_last v ge (page_at xs i v t))
-      ]
-    ]
-
-pub one_past : (xs : List ℕ) (i pages value : ℕ) → pages ≤ value → value < 255
-    → IsTrue (set_at (map pages_in xs) i value)
-    → ((v : ℕ) → IsTrue (set_at (map pages_in xs) i v) → IsTrue (is_page_value pages v)) → ⊥
-one_past xs i pages value le lt t all = not_past pages value le lt (all value t)
-
-pub some_page : (xs : List ℕ) (i value : ℕ) (x : Bool) → 255 ≤ value
-    → ((v : ℕ) → v < value → IsTrue (set_at (map pages_in xs) i v) → ⊥)
-    → x ≡ set_at (map pages_in xs) i 255
-    → IsTrue x ↔ ((v : ℕ) × IsTrue (set_at (map pages_in xs) i v))
-some_page xs i value x last none e =
-    ((λ t. (255, subst IsTrue e t)), (λ s. from s.0 s.1))
-  where
-    from : (v : ℕ) → IsTrue (set_at (map pages_in xs) i v) → IsTrue x
-    from v t =
-        elim (cases_lt v 255) [
-          | inl lt ↦ absurd (none v (omega (arith, lt, last)) t)
-          | inr ge ↦
-              let f : v ≡ 255 = is_last v ge (page_at xs i v t) in
-              subst IsTrue (sym e) (subst (λ n. IsTrue (set_at (map pages_in xs) i n)) f t)
-        ]
 
 not_other : (v : ℕ) → v ≢ 0 → v ≢ 32 → v ≢ 64 → v ≢ 128 → IsTrue (is_protect v) → ⊥
 not_other v a b c d t = grind (arith, nat_tests)
@@ -129,3 +89,72 @@ protect_set xs i x e = (to, λ h. from h)
         (λ a. subst IsTrue (sym e) (put (s 0) (s 32) (s 64) (s 128) (inr (inr (inl a)))))
         (λ a. subst IsTrue (sym e) (put (s 0) (s 32) (s 64) (s 128) (inr (inr (inr a)))))
         p.1
+
+-- all values of a target with so many pages
+value_places : (pages v : ℕ)
+    → (is_page v && (nat_lt (page_bit v) (min pages 32) || page_bit v == 32))
+    ≡ (is_page v && is_page_value pages v)
+value_places pages v = grind (arith, nat_tests)
+
+pub all_values : (pages bits low place most : ℕ) → bit bits ≡ gains (bit low) place
+    → bit low ≡ (λ x. nat_lt x most) → place ≡ 32 → most ≡ min pages 32
+    → pages_in bits ≡ λ v. is_page v && is_page_value pages v
+all_values pages bits low place most e lowest last least = λ j v.
+    (ap (λ (s : Set). is_page v && s (page_bit v)) e
+    ∙ ap (λ (s : Set). is_page v && gains s place (page_bit v)) lowest
+    ∙ ap (λ n. is_page v && (nat_lt (page_bit v) most || page_bit v == n)) last
+    ∙ ap (λ n. is_page v && (nat_lt (page_bit v) n || page_bit v == 32)) least
+    ∙ value_places pages v) j
+
+-- a set among all values of so many pages
+pub all_below : (xs : List ℕ) (i pages of' at' : ℕ) (x : Bool)
+    → pages_in of' ≡ (λ v. is_page v && is_page_value pages v)
+    → pages_in at' ≡ set_at (map pages_in xs) i
+    → IsTrue x ↔ SetCovers (pages_in of') (pages_in at')
+    → IsTrue x ↔ ((v : ℕ) → IsTrue (set_at (map pages_in xs) i v) → IsTrue (is_page_value pages v))
+all_below xs i pages of' at' x all here covers = (
+  λ t v in'. and_right (is_page v) (is_page_value pages v)
+      (subst (λ (s : Set). IsTrue (s v)) all
+      (covers.0 t v (subst (λ (s : Set). IsTrue (s v)) (sym here) in'))),
+  λ each. covers.1 (λ v in'.
+      let there : IsTrue (set_at (map pages_in xs) i v) =
+      subst (λ (s : Set). IsTrue (s v)) here in' in
+      subst (λ (s : Set). IsTrue (s v)) (sym all)
+      (and_both (is_page v) (is_page_value pages v) (page_at xs i v there) (each v there))),
+)
+
+-- some value is in a set whose word isn't 0
+place_below : (bits k : ℕ) → bits < 2 ^ 33 → IsTrue (bit bits k) → k < 33
+place_below bits k small t = elim (cases_lt k 33) [
+  | inl lt ↦ lt
+  | inr ge ↦ absurd (differ (bit bits k) (no_bit 33 bits k small ge) t)
+]
+
+some_value : (bits : ℕ) → bits < 2 ^ 33 → bits ≢ 0 → (v : ℕ) × IsTrue (pages_in bits v)
+some_value bits small ne =
+    let k = some_bit bits (omega (arith, ne)) (omega (arith, small)) in
+    let at' = value_at k.0 (place_below bits k.0 small k.1) in
+    let place' = at'.place in (
+      at'.value,
+      and_both (is_page at'.value) (bit bits (page_bit at'.value)) at'.valid
+          (subst (λ n. IsTrue (bit bits n)) (sym place') k.1),
+    )
+
+no_value : (bits v : ℕ) → bits ≡ 0 → IsTrue (pages_in bits v) → ⊥
+no_value bits v e t =
+    differ (bit bits (page_bit v)) (no_bit 0 bits (page_bit v) (omega (arith, e)) (omega arith))
+    (and_right (is_page v) (bit bits (page_bit v)) t)
+
+isnt_zero : (n : ℕ) → IsTrue (not (n == 0)) → n ≢ 0
+isnt_zero n t = grind (arith, nat_tests)
+
+not_zero : (n : ℕ) → n ≢ 0 → IsTrue (not (n == 0))
+not_zero n ne = grind (arith, nat_tests)
+
+pub has_some : (bits set : ℕ) → bits ≡ set → bits < 2 ^ 33
+    → IsTrue (not (bits == 0)) ↔ ((v : ℕ) × IsTrue (pages_in set v))
+has_some bits set same small =
+    subst (λ n. IsTrue (not (bits == 0)) ↔ ((v : ℕ) × IsTrue (pages_in n v))) same (
+      λ t. some_value bits small (isnt_zero bits t),
+      λ k. not_zero bits (λ e. no_value bits k.0 e k.1),
+    )

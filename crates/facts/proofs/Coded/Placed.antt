@@ -55,7 +55,7 @@ pub record ValueAt (p : ℕ → Bool) (f : ℕ → ℕ) (n : ℕ) : Type 0 where
   pub valid : IsTrue (p value)
   pub place : f value ≡ n
 
-and_right : (p s : Bool) → IsTrue (p && s) → IsTrue s
+pub and_right : (p s : Bool) → IsTrue (p && s) → IsTrue s
 and_right true s t = t
 and_right false true t = refl
 and_right false false t = t
@@ -64,11 +64,11 @@ and_left : (p s : Bool) → IsTrue (p && s) → IsTrue p
 and_left true s t = refl
 and_left false s t = t
 
-and_both : (p s : Bool) → IsTrue p → IsTrue s → IsTrue (p && s)
+pub and_both : (p s : Bool) → IsTrue p → IsTrue s → IsTrue (p && s)
 and_both true s a b = b
 and_both false s a b = a
 
-differ : (b : Bool) → b ≡ false → IsTrue b → ⊥
+pub differ : (b : Bool) → b ≡ false → IsTrue b → ⊥
 differ true e t = grind (arith, nat_tests)
 differ false e t = grind (arith, nat_tests)
 

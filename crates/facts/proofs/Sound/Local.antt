@@ -34,7 +34,8 @@ use Rattle.facts.specs.Duties.{MayBeSent}
 use Rattle.facts.specs.Ticks.{frame_ticks, longest_slots, ticks_of, worst_ticks}
 use Rattle.facts.specs.Steps.{Leads, Stands, IsSoundStep, StepsAreSound}
 use Rattle.facts.proofs.Shared.Places.{all_at, same_at}
-use Rattle.facts.proofs.Sound.Moved.{place_after, leads_request, moved_counters, moved_ended, moved_place, moved_regs, place_after, step_ticks}
+use Rattle.facts.proofs.Sound.Moved.{place_after, leads_request, moved_counters, moved_ended}
+use Rattle.facts.proofs.Sound.Moved.{moved_place, moved_regs, place_after, step_ticks}
 use Rattle.facts.proofs.Sound.RowChanges.{Change}
 use Rattle.facts.proofs.Sound.Seen.{silent_changes}
 use Rattle.facts.proofs.Sound.Silent.{leads_same, leads_again}

@@ -51,7 +51,8 @@ else_rank b row i (ReadsProtect g) counters = refl
 else_rank b row i (Loads g) counters = refl
 else_rank b row i Nothing counters = refl
 
-pub rank_same : (r s : Row) (cs ds : List ℕ) → rank r cs ≡ rank s cs → cs ≡ ds → rank r cs ≤ rank s ds
+pub rank_same : (r s : Row) (cs ds : List ℕ) → rank r cs ≡ rank s cs → cs ≡ ds
+    → rank r cs ≤ rank s ds
 rank_same r s cs ds e f = let k : rank s cs ≡ rank s ds = ap (rank s) f in omega (arith, e, k)
 
 -- where a message leads

@@ -1,11 +1,8 @@
-use Rattle.std.proofs.Common.{arith, refl}
-use Rattle.facts.proofs.Belongs.Sets.{pages_below}
+use Rattle.facts.proofs.Belongs.Sets.{all_below}
 use Rattle.facts.proofs.shaping.has_pages_below.Goals as goal
 
 pub returns : goal.returns
 returns c =
-    let stop = c.loop-value-test.false in (
-      (λ t. pages_below c.args.row.now.pages.items c.args.target c.args.pages c.loop-value.value
-          (omega (arith, stop)) c.loop-value.invariant),
-      (λ h. refl),
-    )
+    all_below c.args.row.now.pages.items c.args.target c.args.pages c.values_of.result
+    c.pages_at.result c.covers.result c.values_of.ensures c.pages_at.ensures
+    c.covers.ensures.exact

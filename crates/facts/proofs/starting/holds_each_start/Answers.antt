@@ -1,4 +1,4 @@
-use Rattle.std.proofs.Common.{refl, sym, ap, length, arith, List}
+use Rattle.std.proofs.Common.{refl, ap, length, arith, List}
 use Rattle.board.specs.Boards.{Target}
 use Rattle.facts.specs.Rows.{row_view}
 use Rattle.facts.specs.Starts.{StartsAt}
