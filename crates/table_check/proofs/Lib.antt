@@ -1,8 +1,10 @@
 pub mod Places
 pub mod Obligations
 pub mod Whole
+pub mod ByPlace
 pub mod Firsts
 pub mod Parts
 pub mod Gains
 pub mod Broken
+pub mod TypedRows
 pub mod Text

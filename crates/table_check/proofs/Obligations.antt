@@ -73,7 +73,7 @@ hold_shape b p t (Some y ∷ rows) first (suc n) row h r =
     hold_shape b p t rows (first + 1) n row h.1 r
 
 -- the rules from K6 on ask nothing of an instruction alone
-others : (b : Board) (row : Row) (o : Option Sent) → MeetsSent b row o K6 × MeetsSent b row o K7
+pub others : (b : Board) (row : Row) (o : Option Sent) → MeetsSent b row o K6 × MeetsSent b row o K7
     × MeetsSent b row o K8 × MeetsSent b row o K9
 others b row None = (tt, tt, tt, tt)
 others b row (Some s) = (tt, tt, tt, tt)
@@ -99,7 +99,8 @@ at_end b p t n i row (inr e) h =
     (let P : Instr → Type 0 = λ x. AllHold b p t (of_end n row x) in subst P
     e h).0
 
-pub worst_of_end : (b : Board) (i : Instr) → (i ≡ instr.End) ⊎ (i ≡ instr.Fail) → worst_ticks b i ≡ 1
+pub worst_of_end : (b : Board) (i : Instr) → (i ≡ instr.End) ⊎ (i ≡ instr.Fail)
+    → worst_ticks b i ≡ 1
 worst_of_end b i (inl e) = ap (worst_ticks b) e
 worst_of_end b i (inr e) = ap (worst_ticks b) e
 

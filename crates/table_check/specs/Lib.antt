@@ -10,5 +10,6 @@ pub mod Saying
 pub mod Passes
 pub mod Rules
 pub mod Obligations
+pub mod ByPlace
 pub mod SafeTables
 pub mod Looking

@@ -16,7 +16,8 @@ use Rattle.table_check.specs.declared.part.Part.{Part as CodePart}
 use Rattle.table_check.specs.declared.pass.Pass.{Pass as CodePass}
 use Rattle.table_check.specs.Tables.{Table, rows_view}
 use Rattle.table_check.specs.Lines.{Words}
-use Rattle.table_check.specs.Saying.{page_said, protect_said, good_said, register_said, counter_said}
+use Rattle.table_check.specs.Saying.{page_said, protect_said, good_said, register_said}
+use Rattle.table_check.specs.Saying.{counter_said}
 use Rattle.table_check.specs.Saying.{ticks_said, head_said}
 
 -- what is read of a row

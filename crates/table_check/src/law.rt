@@ -1,5 +1,7 @@
 //! What holds of all tables: of their texts, and of the runs of a program with one.
 
+ghost use Rattle.table_check.specs.ByPlace.{FollowingTablesTellDuties, InductiveByPlace};
+ghost use Rattle.table_check.specs.ByPlace.{ClosedTablesTellDutiesOrTicks};
 ghost use Rattle.table_check.specs.SafeTables.{InductiveRunsAreSafe, VerdictsAreSafe};
 ghost use Rattle.table_check.specs.TextLaws.{TextsHaveOneTable, TablesHaveTexts, BoardsHaveTables};
 
@@ -17,6 +19,14 @@ pub fn inductive_runs_are_safe()
     steps_are_seen();
     safe_steps_are_safe_runs();
 }
+
+/// A table keeps the rule book where it does so place by place. One that keeps it but for duties is
+/// accepted, or its verdict tells the first duty that an instruction doesn't meet.
+pub fn tables_are_judged_by_place()
+    ensures whole { InductiveByPlace }
+    ensures duties { FollowingTablesTellDuties }
+    ensures ticks { ClosedTablesTellDutiesOrTicks }
+{}
 
 /// A text is the text of at most one table, and each table that can be written has one.
 pub fn tables_have_texts()

@@ -16,13 +16,14 @@ mod set_line;
 mod shape;
 mod span_line;
 mod table;
+mod typed;
 mod verdict;
 mod writing;
 mod written;
 
 pub use checking::check;
 pub use fault::TableFault;
-pub use law::{inductive_runs_are_safe, tables_have_texts};
+pub use law::{inductive_runs_are_safe, tables_are_judged_by_place, tables_have_texts};
 pub use reading::read_table;
 pub use shape::shaped;
 pub use table::Table;

@@ -6,7 +6,8 @@ ghost use Rattle.facts.specs.Rows.{row_view};
 ghost use Rattle.table_check.specs.declared.fault.TableFault.TheVariants.{BadLine};
 ghost use Rattle.table_check.specs.Faults.{Gives};
 ghost use Rattle.table_check.specs.Passes.{part_view, no_part, is_full, with_page, with_protect};
-ghost use Rattle.table_check.specs.Passes.{with_good, with_register, with_counter, with_line, finished};
+ghost use Rattle.table_check.specs.Passes.{with_good, with_register, with_counter, with_line};
+ghost use Rattle.table_check.specs.Passes.{finished};
 
 use crate::fault::TableFault;
 use crate::row_line::ticks_said;

@@ -5,7 +5,8 @@ ghost use Rattle.texts.specs.Reading.{some_or};
 ghost use Rattle.table_check.specs.declared.fault.TableFault.TheVariants.{BadLine};
 ghost use Rattle.table_check.specs.Tables.{rows_view, table_view};
 ghost use Rattle.table_check.specs.Faults.{Gives};
-ghost use Rattle.table_check.specs.Passes.{part_view, pass_view, no_part, is_full, with_head, in_part};
+ghost use Rattle.table_check.specs.Passes.{part_view, pass_view, no_part, is_full, with_head};
+ghost use Rattle.table_check.specs.Passes.{in_part};
 ghost use Rattle.table_check.specs.Passes.{after_words, after_line, parted, no_pass, whole};
 
 use crate::fault::TableFault;

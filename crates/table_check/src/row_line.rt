@@ -1,7 +1,8 @@
 //! The first and the last line of a row.
 
 ghost use Rattle.std.specs.Prelude.{◌≡◌, map};
-ghost use Rattle.table_check.specs.Saying.{number_of, five_numbers, numbers_of, ticks_said, has_row};
+ghost use Rattle.table_check.specs.Saying.{number_of, five_numbers, numbers_of, ticks_said};
+ghost use Rattle.table_check.specs.Saying.{has_row};
 ghost use Rattle.table_check.specs.Saying.{numbered, head_said};
 
 use crate::set_line::after_key;

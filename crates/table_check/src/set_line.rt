@@ -4,7 +4,8 @@ ghost use Rattle.std.specs.Prelude.{◌≡◌, [], map, option_map, codes, IfOk}
 ghost use Rattle.texts.specs.Hex.{pair_of};
 ghost use Rattle.facts.specs.Sets.{pages_in, protects_in, rails_in};
 ghost use Rattle.table_check.specs.Saying.{after_key, after_name, ascending, page_set, protect_set};
-ghost use Rattle.table_check.specs.Saying.{rail_named, rail_set, some_pages, some_protects, page_said};
+ghost use Rattle.table_check.specs.Saying.{rail_named, rail_set, some_pages, some_protects};
+ghost use Rattle.table_check.specs.Saying.{page_said};
 ghost use Rattle.table_check.specs.Saying.{protect_said, good_said};
 
 use board::Board;

@@ -2,7 +2,8 @@
 
 ghost use Rattle.std.specs.Prelude.{◌≡◌, map, option_map, slice_get};
 ghost use Rattle.table_check.specs.Lines.{register_names, counter_names};
-ghost use Rattle.table_check.specs.Saying.{word_of, span_of, rail_named, target_named, named_source};
+ghost use Rattle.table_check.specs.Saying.{word_of, span_of, rail_named, target_named};
+ghost use Rattle.table_check.specs.Saying.{named_source};
 ghost use Rattle.table_check.specs.Saying.{source_of, sourced_span, only_span, register_said};
 ghost use Rattle.table_check.specs.Saying.{counter_said};
 

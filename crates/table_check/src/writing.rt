@@ -7,15 +7,17 @@ ghost use Rattle.facts.specs.Sets.{pages_in, protects_in, rails_in};
 ghost use Rattle.facts.specs.Rows.{row_view};
 ghost use Rattle.table_check.specs.Tables.{rows_view, table_view};
 ghost use Rattle.table_check.specs.Lines.{page_words, protect_words, good_words, register_words};
-ghost use Rattle.table_check.specs.Lines.{counter_words, ticks_words, head_words, none_words, each_at};
+ghost use Rattle.table_check.specs.Lines.{counter_words, ticks_words, head_words, none_words};
+ghost use Rattle.table_check.specs.Lines.{each_at};
 ghost use Rattle.table_check.specs.Lines.{place_lines, lines_from, table_text};
 ghost use Rattle.table_check.specs.Texts.{IsTextOf};
-ghost use Rattle.table_check.specs.Writable.{IsShaped, IsTyped};
+ghost use Rattle.table_check.specs.Writable.{IsShaped};
 ghost use Rattle.table_check.specs.Written.{all_spaced, line_text, text_of};
 
 use crate::shape::is_board;
 use crate::span_line::{counter_name, register_name};
 use crate::table::Table;
+use crate::typed::is_typed;
 use crate::written::{
     push_good, push_number, push_pages, push_protects, push_source, push_word, target_name,
 };
@@ -279,9 +281,10 @@ pub fn write_table(alloc: Global, board: &Board, table: &Table) -> Result<String
     requires { IsShaped board.now (table_view table.now) }
     ensures text { IfOk result (λ text. string_bytes text
         ≡ table_text board.now (table_view table.now)) }
-    ensures read { IfOk result (λ text. IsTyped (table_view table.now)
-        → IsTextOf board.now (table_view table.now) (string_bytes text)) }
+    ensures read { IfOk result (λ text.
+        IsTextOf board.now (table_view table.now) (string_bytes text)) }
 {
     is_board(board);
+    is_typed(table);
     written(alloc, board, table)
 }

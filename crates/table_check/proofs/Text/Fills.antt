@@ -19,7 +19,8 @@ use Rattle.table_check.specs.Writable.{IsWordSpan}
 use Rattle.table_check.specs.Passes.{Part, Pass, is_full, row_from, finished, with_line, with_page}
 use Rattle.table_check.specs.Passes.{with_protect, with_good, with_register, with_counter}
 use Rattle.table_check.proofs.Text.Spelled.{IsByteSet, AreRails, page_back, protect_back, good_back}
-use Rattle.table_check.proofs.Text.SpelledRows.{IsKnown, AreTicks, register_back, counter_back, ticks_back}
+use Rattle.table_check.proofs.Text.SpelledRows.{IsKnown, AreTicks, register_back, counter_back}
+use Rattle.table_check.proofs.Text.SpelledRows.{ticks_back}
 use Rattle.table_check.proofs.Text.PartLines.{one_longer}
 use Rattle.table_check.proofs.Text.Stands.{run}
 

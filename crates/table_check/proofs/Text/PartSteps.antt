@@ -11,14 +11,17 @@ use Rattle.facts.specs.declared.source.Source.{Source}
 use Rattle.facts.specs.declared.span.Span.{Span}
 use Rattle.table_check.specs.Lines.{Words}
 use Rattle.table_check.specs.Writable.{IsWordSpan}
-use Rattle.table_check.specs.Saying.{page_said, protect_said, good_said, register_said, counter_said}
+use Rattle.table_check.specs.Saying.{page_said, protect_said, good_said, register_said}
+use Rattle.table_check.specs.Saying.{counter_said}
 use Rattle.table_check.specs.Passes.{Part, with_page, with_protect, with_good, with_register}
 use Rattle.table_check.specs.Passes.{with_counter, with_line, is_missing, is_full}
 use Rattle.table_check.proofs.Text.Options.{from_map}
 use Rattle.table_check.proofs.Text.Spelled.{IsByteSet, page_only, protect_only, good_only}
 use Rattle.table_check.proofs.Text.SpelledRows.{IsKnown, register_only, counter_only}
-use Rattle.table_check.proofs.Text.PartLines.{either, each_push, one_longer, no_items, part_lines, page_line}
-use Rattle.table_check.proofs.Text.PartLines.{protect_line, good_line, register_line, counter_line, GoodPart}
+use Rattle.table_check.proofs.Text.PartLines.{either, each_push, one_longer, no_items, part_lines}
+use Rattle.table_check.proofs.Text.PartLines.{page_line}
+use Rattle.table_check.proofs.Text.PartLines.{protect_line, good_line, register_line, counter_line}
+use Rattle.table_check.proofs.Text.PartLines.{GoodPart}
 
 pub less_of : (a b : ℕ) → nat_lt a b ≡ true → a < b
 less_of a b t = ltb-true a b t

@@ -23,8 +23,10 @@ use Rattle.table_check.specs.Writable.{HasValue, IsWordSpan}
 use Rattle.table_check.specs.Saying.{after_key, after_name, rail_named, page_set}
 use Rattle.table_check.specs.Saying.{protect_set, rail_set, some_pages, some_protects, page_said}
 use Rattle.table_check.specs.Saying.{protect_said, good_said, word_of, number_of, span_of}
-use Rattle.table_check.proofs.Text.Options.{none_some, same_some, from_then, from_map, from_if, from_else}
-use Rattle.table_check.proofs.Text.SetWords.{EachIs, AreSpelled, IsIn, has, set_only, set_back, members_in}
+use Rattle.table_check.proofs.Text.Options.{none_some, same_some, from_then, from_map, from_if}
+use Rattle.table_check.proofs.Text.Options.{from_else}
+use Rattle.table_check.proofs.Text.SetWords.{EachIs, AreSpelled, IsIn, has, set_only, set_back}
+use Rattle.table_check.proofs.Text.SetWords.{members_in}
 use Rattle.table_check.proofs.Text.SetWords.{member}
 
 -- ---- keys and names

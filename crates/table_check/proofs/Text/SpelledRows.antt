@@ -19,12 +19,15 @@ use Rattle.table_check.specs.Lines.{head_words, none_words}
 use Rattle.table_check.specs.Writable.{IsWordSpan}
 use Rattle.table_check.specs.Saying.{after_key, after_name, rail_named, target_named}
 use Rattle.table_check.specs.Saying.{number_of, span_of, named_source, source_of, sourced_span}
-use Rattle.table_check.specs.Saying.{only_span, register_said, counter_said, five_numbers, numbers_of}
+use Rattle.table_check.specs.Saying.{only_span, register_said, counter_said, five_numbers}
+use Rattle.table_check.specs.Saying.{numbers_of}
 use Rattle.table_check.specs.Saying.{ticks_said, has_row, is_some_of, numbered, head_said}
 use Rattle.table_check.proofs.Text.Options.{none_some, same_some, from_then, from_map, from_if}
 use Rattle.table_check.proofs.Text.SetWords.{EachIs}
-use Rattle.table_check.proofs.Text.Spelled.{key_only, key_back, name_only, name_back, at_only, at_back}
-use Rattle.table_check.proofs.Text.Spelled.{place_only, place_back, rail_back, number_only, number_back}
+use Rattle.table_check.proofs.Text.Spelled.{key_only, key_back, name_only, name_back, at_only}
+use Rattle.table_check.proofs.Text.Spelled.{at_back}
+use Rattle.table_check.proofs.Text.Spelled.{place_only, place_back, rail_back, number_only}
+use Rattle.table_check.proofs.Text.Spelled.{number_back}
 use Rattle.table_check.proofs.Text.Spelled.{span_only, span_back}
 
 -- ---- sources

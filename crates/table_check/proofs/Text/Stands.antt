@@ -24,8 +24,10 @@ use Rattle.table_check.specs.Passes.{Part, Pass, no_part, is_full, row_from, fin
 use Rattle.table_check.specs.Passes.{with_line, after_words}
 use Rattle.table_check.proofs.Text.Options.{from_then, from_map}
 use Rattle.table_check.proofs.Text.Spelled.{IsByteSet, AreRails}
-use Rattle.table_check.proofs.Text.SpelledRows.{IsKnown, AreTicks, ticks_only, first_words, head_only}
-use Rattle.table_check.proofs.Text.PartLines.{either, each_push, part_lines, good_lines, zip_back, ended}
+use Rattle.table_check.proofs.Text.SpelledRows.{IsKnown, AreTicks, ticks_only, first_words}
+use Rattle.table_check.proofs.Text.SpelledRows.{head_only}
+use Rattle.table_check.proofs.Text.PartLines.{either, each_push, part_lines, good_lines, zip_back}
+use Rattle.table_check.proofs.Text.PartLines.{ended}
 use Rattle.table_check.proofs.Text.PartLines.{GoodPart, no_items}
 use Rattle.table_check.proofs.Text.PartSteps.{line_added}
 

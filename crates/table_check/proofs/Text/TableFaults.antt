@@ -28,7 +28,8 @@ use Rattle.table_check.proofs.Text.SpelledRows.{IsKnown}
 use Rattle.table_check.proofs.Text.PartLines.{GoodPart, no_items, one_longer}
 use Rattle.table_check.proofs.Text.Stands.{run, ran, Stands, left_lines, all_pages, all_protects}
 use Rattle.table_check.proofs.Text.Fills.{Rest, Sets, at, past, from_pages, from_registers}
-use Rattle.table_check.proofs.Text.TableReads.{cut, Linked, Stuck, linked, stands, table_stands, never}
+use Rattle.table_check.proofs.Text.TableReads.{cut, Linked, Stuck, linked, stands, table_stands}
+use Rattle.table_check.proofs.Text.TableReads.{never}
 use Rattle.table_check.proofs.Text.TableReads.{writable, few_rows, read_all}
 use Rattle.table_check.proofs.Text.LineWords.{lines_whole}
 

@@ -16,7 +16,8 @@ use Rattle.table_check.specs.Tables.{Table}
 use Rattle.table_check.specs.Lines.{Words, place_lines, lines_from, line_of, table_lines}
 use Rattle.table_check.specs.Writable.{IsShapedRow, IsTypedRow, IsWritable}
 use Rattle.table_check.specs.Texts.{Lines, AreLinesOf}
-use Rattle.table_check.specs.Passes.{Part, Pass, no_pass, after_words, parted, after_line, after_lines}
+use Rattle.table_check.specs.Passes.{Part, Pass, no_pass, after_words, parted, after_line}
+use Rattle.table_check.specs.Passes.{after_lines}
 use Rattle.table_check.specs.Passes.{whole_of, whole, table_in}
 use Rattle.table_check.proofs.Text.Options.{none_some, same_some}
 use Rattle.table_check.proofs.Text.Stands.{run, ran, Stands, GoodPlace}

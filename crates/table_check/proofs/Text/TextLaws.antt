@@ -120,8 +120,8 @@ text_written b t (Ok text) e = e ∙ text_is b t
 text_written b t (Err x) e = tt
 
 pub reads_written : (b : Board) (t : Table) (r : Answer) → IsBoard b → IsShaped b t
-    → IfOk r (λ text. string_bytes text ≡ text_of (lines_from b 0 t))
-    → IfOk r (λ text. IsTyped t → IsTextOf b t (string_bytes text))
-reads_written b t (Ok text) board shaped e = λ typed.
+    → IsTyped t → IfOk r (λ text. string_bytes text ≡ text_of (lines_from b 0 t))
+    → IfOk r (λ text. IsTextOf b t (string_bytes text))
+reads_written b t (Ok text) board shaped typed e =
     text_read b t (string_bytes text) board shaped (e ∙ text_is b t) typed
-reads_written b t (Err x) board shaped e = tt
+reads_written b t (Err x) board shaped typed e = tt

@@ -40,7 +40,8 @@ returns-in-Some-edges_fault c =
     let same : of_code n c.in_ok-edges.edges.items ≡ of_edges n (worst_ticks b i) es =
     ap (of_timed n) c.in_ok-edges.ensures.edges ∙ of_same_ticks n (worst_ticks b i) es in
     let P : List Obligation → Type 0 = λ os. IsFirstFault b p t os (Some fault) in
-    let Q : List (ℕ × CodeRow × ℕ) → Type 0 = λ items. IsFirstFault b p t (of_code n items) (Some fault) in
+    let Q : List (ℕ × CodeRow × ℕ) → Type 0 =
+    λ items. IsFirstFault b p t (of_code n items) (Some fault) in
     back b p t (map (Duty n i row) duties)
     (of_edges n (worst_ticks b i) es ++ of_end n row i) (Some fault)
     (duties_met b p t n i row duties c.in_default.ensures)

@@ -9,4 +9,4 @@ returns-clause-text c =
 pub returns-clause-read : goal.returns-clause-read
 returns-clause-read c =
     reads_written c.args.board.now (table_view c.args.table.now) c.written.result
-    c.is_board.ensures c.requires c.written.ensures
+    c.is_board.ensures c.requires c.is_typed.ensures c.written.ensures
