@@ -1,0 +1,4 @@
+-- What is found.
+pub mod Ticked
+pub mod Found
+pub mod Shaped

@@ -1,0 +1,116 @@
+-- Where the edges of a place lead: to the next place, or to where its instruction may jump.
+use Rattle.std.proofs.Common.{◌≡◌, ℕ, ◌+◌, ◌-◌, ◌<◌, ◌⊎◌, List, ◌++◌, length, refl, ap, sym, ◌∙◌}
+use Rattle.std.proofs.Common.{subst, inl, inr, arith, false}
+use Rattle.std.proofs.lemmas.Bool.{false≢true, cases_eq}
+use Rattle.std.specs.Prelude.{slice_get, Option, Some, IfSome, IsTrue, ◌==◌, nat_lt, nat_le}
+use Rattle.board.specs.Boards.{Board}
+use Rattle.seq_program.specs.declared.instr.Instr.{Instr}
+use Rattle.seq_program.specs.declared.instr.Instr.TheVariants as instr
+use Rattle.seq_program.specs.Programs.{is_end}
+use Rattle.seq_program.specs.Valid.{IsProgram, jump_in}
+use Rattle.facts.specs.declared.span.Span.{Span}
+use Rattle.facts.specs.Rows.{Row, span_at}
+use Rattle.facts.specs.Edges.{Edge, edges, edge_if, if_may_jump, if_jump_row, if_may_go_on}
+use Rattle.facts.specs.Edges.{if_next_row}
+use Rattle.facts.specs.Steps.{HasEdge}
+use Rattle.fact_search.specs.Forward.{IsForward}
+use Rattle.fact_search.proofs.Shared.Places.{all_at, within}
+use Rattle.fact_search.proofs.Leads.Has.{one_has, two_have, ifs_have, has_possible}
+
+abbrev pub GoesTo : ℕ → Instr → Edge → Type 0
+GoesTo n i x = (is_end i ≡ false) × ((x.to ≡ n + 1) ⊎ (jump_in i ≡ Some x.to))
+
+pub goes : (b : Board) (n : ℕ) (i : Instr) (row : Row) (x : Edge) → HasEdge (edges b n i row) x
+    → GoesTo n i x
+goes b n (instr.Quick t read l) row x h =
+    two_have (GoesTo n (instr.Quick t read l)) (n + 1) l _ _ x (refl, inl refl) (refl, inr refl) h
+goes b n (instr.Send t c l) row x h =
+    two_have (GoesTo n (instr.Send t c l)) (n + 1) l _ _ x (refl, inl refl) (refl, inr refl) h
+goes b n (instr.Receive t r l) row x h =
+    two_have (GoesTo n (instr.Receive t r l)) (n + 1) l _ _ x (refl, inl refl) (refl, inr refl) h
+goes b n (instr.Write t c v l) row x h =
+    two_have (GoesTo n (instr.Write t c v l)) (n + 1) l _ _ x (refl, inl refl) (refl, inr refl) h
+goes b n (instr.Read t c w r l) row x h =
+    two_have (GoesTo n (instr.Read t c w r l)) (n + 1) l _ _ x (refl, inl refl) (refl, inr refl) h
+goes b n (instr.Call t c v r l) row x h =
+    two_have (GoesTo n (instr.Call t c v r l)) (n + 1) l _ _ x (refl, inl refl) (refl, inr refl) h
+goes b n (instr.BlockWrite t c bytes l) row x h =
+    two_have (GoesTo n (instr.BlockWrite t c bytes l)) (n + 1) l _ _ x (refl, inl refl)
+    (refl, inr refl) h
+goes b n (instr.BlockRead t c r l) row x h =
+    two_have (GoesTo n (instr.BlockRead t c r l)) (n + 1) l _ _ x (refl, inl refl)
+    (refl, inr refl) h
+goes b n (instr.BlockCall t c bytes r l) row x h =
+    two_have (GoesTo n (instr.BlockCall t c bytes r l)) (n + 1) l _ _ x (refl, inl refl)
+    (refl, inr refl) h
+goes b n (instr.Alert r l) row x h =
+    two_have (GoesTo n (instr.Alert r l)) (n + 1) l _ _ x (refl, inl refl) (refl, inr refl) h
+goes b n (instr.IfAlert l) row x h =
+    two_have (GoesTo n (instr.IfAlert l)) l (n + 1) _ _ x (refl, inr refl) (refl, inl refl) h
+goes b n (instr.Set r v) row x h = one_has (GoesTo n (instr.Set r v)) (n + 1) _ x
+    (refl, inl refl) h
+goes b n (instr.Add r v) row x h = one_has (GoesTo n (instr.Add r v)) (n + 1) _ x
+    (refl, inl refl) h
+goes b n (instr.Count c v) row x h = one_has (GoesTo n (instr.Count c v)) (n + 1) _ x
+    (refl, inl refl) h
+goes b n (instr.Wait t) row x h = one_has (GoesTo n (instr.Wait t)) (n + 1) _ x (refl, inl refl) h
+goes b n (instr.If r m v l) row x h =
+    let jumps = if_may_jump (span_at row.regs r) m v in
+    let on = if_may_go_on (span_at row.regs r) m v in
+    ifs_have (GoesTo n (instr.If r m v l)) jumps on l (n + 1) (if_jump_row row r m v)
+    (if_next_row row r m v) x
+    (λ _. (refl, inr refl)) (λ _. (refl, inl refl))
+    (has_possible row r (edge_if jumps l (if_jump_row row r m v) ++ edge_if on (n + 1)
+    (if_next_row row r m v)) x h).0
+goes b n (instr.Above r v l) row x h =
+    ifs_have (GoesTo n (instr.Above r v l)) (nat_lt v (Span.hi (span_at row.regs r)))
+    (nat_le (Span.lo (span_at row.regs r)) v) l (n + 1) _ _ x (λ _. (refl, inr refl))
+    (λ _. (refl, inl refl)) h
+goes b n (instr.Again c l) row x h =
+    ifs_have (GoesTo n (instr.Again c l)) (nat_le 1 (Span.hi (span_at row.counters c)))
+    (Span.lo (span_at row.counters c) == 0) l (n + 1) _ _ x (λ _. (refl, inr refl))
+    (λ _. (refl, inl refl)) h
+goes b n (instr.Goto l) row x h = one_has (GoesTo n (instr.Goto l)) l _ x (refl, inr refl) h
+goes b n instr.End row x h = absurd h
+goes b n instr.Fail row x h = absurd h
+
+of_some : (P : ℕ → Type 0) (o : Option ℕ) (l : ℕ) → o ≡ Some l → IfSome o P → P l
+of_some P o l e k = let Q : Option ℕ → Type 0 = λ z. IfSome z P in subst Q e k
+
+-- a place whose instruction doesn't end isn't the last one
+not_last : (p : List Instr) (n : ℕ) (i : Instr) → IsProgram p → slice_get p n ≡ Some i
+    → is_end i ≡ false
+    → n + 1 < length p
+not_last p n i program here goes_on = go (cases_eq (n + 1) (length p))
+  where
+    inside : n < length p
+    inside = within p n i here
+
+    go : (n + 1 ≡ length p) ⊎ (n + 1 ≡ length p → ⊥) → n + 1 < length p
+    go (inr apart) = omega (arith, apart, inside)
+    go (inl e) =
+        let last : length p - 1 ≡ n = omega (arith, e) in
+        let Q : Option Instr → Type 0 = λ z. IfSome z (λ j. IsTrue (is_end j)) in
+        let ends : IsTrue (is_end i) = subst Q (ap (slice_get p) last ∙ here) program.last in
+        absurd (false≢true (sym goes_on ∙ ends))
+
+-- within the program
+pub inside : (b : Board) (p : List Instr) (n : ℕ) (i : Instr) (row : Row) (x : Edge)
+    → IsProgram p → slice_get p n ≡ Some i → HasEdge (edges b n i row) x → x.to < length p
+inside b p n i row x program here h = go (goes b n i row x h)
+  where
+    go : GoesTo n i x → x.to < length p
+    go (on, inl next) = let more = not_last p n i program here on in omega (arith, next, more)
+    go (on, inr jump) =
+        of_some (λ place. place < length p) (jump_in i) x.to jump
+        (all_at (λ (j : Instr). IfSome (jump_in j) (λ place. place < length p)) p n i
+        program.jumps here)
+
+-- of a forward program: onward
+pub onward : (b : Board) (p : List Instr) (n : ℕ) (i : Instr) (row : Row) (x : Edge)
+    → IsForward p → slice_get p n ≡ Some i → HasEdge (edges b n i row) x → n < x.to
+onward b p n i row x forward here h = go (goes b n i row x h)
+  where
+    go : GoesTo n i x → n < x.to
+    go (on, inl next) = omega (arith, next)
+    go (on, inr jump) = of_some (λ place. n < place) (jump_in i) x.to jump (forward n i here)

@@ -1,0 +1,6 @@
+pub mod Shared
+pub mod Rows
+pub mod Leads
+pub mod Steps
+pub mod Ticks
+pub mod Ends

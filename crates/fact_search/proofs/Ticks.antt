@@ -1,0 +1,4 @@
+-- Ticks that fit.
+pub mod Worst
+pub mod Paying
+pub mod Descending

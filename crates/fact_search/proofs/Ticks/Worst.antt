@@ -1,0 +1,155 @@
+-- Worst ticks are low.
+use Rattle.std.proofs.Common.{◌≡◌, ℕ, ◌+◌, ◌*◌, ◌≤◌, ◌⊎◌, inl, inr, sym, ◌∙◌, subst, true, false}
+use Rattle.std.proofs.Common.{List, [], ◌∷◌, length, refl, arith}
+use Rattle.std.proofs.Common.{mul-le-mul}
+use Rattle.std.proofs.lemmas.List.Elements.{recursion_from_All}
+use Rattle.std.specs.Prelude.{slice_get, Option, Some, None, IfSome, option_and_then, option_map}
+use Rattle.std.specs.Prelude.{unwrap_or}
+use Rattle.std.proofs.lemmas.Bool.{cases_Bool, cond-true, cond-false}
+use Rattle.std.specs.List.{AllByRecursion}
+use Rattle.board.specs.declared.entry.Range.{Range}
+use Rattle.board.specs.Boards.{Allow, Target, Board, largest_stretch, entry_of, is_for}
+use Rattle.board.specs.Valid.{IsBoard, IsTarget, IsEntry, full_length}
+use Rattle.seq_program.specs.declared.instr.Instr.{Instr}
+use Rattle.seq_program.specs.declared.instr.Instr.TheVariants as instr
+use Rattle.seq_program.specs.declared.instr.Width.TheVariants as width
+use Rattle.seq_program.specs.declared.instr.Written.TheVariants as written
+use Rattle.seq_program.specs.Valid.{IsInstr}
+use Rattle.smbus.specs.declared.message.Form.{Form}
+use Rattle.facts.specs.Requests.{Request, QuickTo, Send, Receive, Write, Read, Call, PutBlock}
+use Rattle.facts.specs.Requests.{GetBlock, CallBlock, Sent, sent, sent_in, form_in, code_in}
+use Rattle.facts.specs.Requests.{lengths_at}
+use Rattle.facts.specs.Ticks.{frame_ticks, longest_slots, ticks_of, other_ticks, worst_ticks}
+use Rattle.fact_search.proofs.Shared.Places.{is_target, none_some, some_same}
+
+-- the entry that is found is one of the list
+found_entry : (P : Allow → Type 0) (f : Form) (code : ℕ) (allow : List Allow) (e : Allow)
+    → AllByRecursion P allow → entry_of f code allow ≡ Some e → P e
+found_entry P f code [] e all is = absurd (none_some e is)
+found_entry P f code (x ∷ allow) e all is =
+    go (λ later. found_entry P f code allow e all.1 later) (cases_Bool (is_for f code x))
+  where
+    go : (entry_of f code allow ≡ Some e → P e)
+        → (is_for f code x ≡ true) ⊎ (is_for f code x ≡ false) → P e
+    go rest (inl t) =
+        subst P (some_same x e (sym (cond-true (is_for f code x) (Some x)
+        (entry_of f code allow) t) ∙ is)) all.0
+    go rest (inr t) =
+        rest (sym (cond-false (is_for f code x) (Some x) (entry_of f code allow) t) ∙ is)
+
+stretch_low : (targets : List Target) → AllByRecursion IsTarget targets
+    → largest_stretch targets ≤ 6999
+stretch_low [] k = omega arith
+stretch_low (t ∷ targets) k = let rest = stretch_low targets k.1 in let one = k.0.stretch in
+    omega (arith, rest, one)
+
+lengths_low : (b : Board) (i : ℕ) (r : Request) → IsBoard b → Range.high (lengths_at b i r) ≤ 255
+lengths_low b i r is = at_target (slice_get b.targets i) refl
+  where
+    at_entry : (t : Target) → slice_get b.targets i ≡ Some t → (o : Option Allow)
+        → entry_of (form_in r) (code_in r) t.allow ≡ o
+        → Range.high (unwrap_or (option_map (λ (e : Allow). e.length) o) full_length) ≤ 255
+    at_entry t there None e = omega arith
+    at_entry t there (Some x) e =
+        let good = found_entry IsEntry (form_in r) (code_in r) t.allow x
+        (recursion_from_All IsEntry t.allow (is_target b i t is there).entries) e in
+        let k = good.in_length in omega (arith, k.below)
+
+    at_target : (o : Option Target) → slice_get b.targets i ≡ o
+        → Range.high (unwrap_or (option_map (λ (e : Allow). e.length)
+        (option_and_then (λ (t : Target). entry_of (form_in r) (code_in r) t.allow) o))
+        full_length) ≤ 255
+    at_target None e = omega arith
+    at_target (Some t) e = at_entry t e (entry_of (form_in r) (code_in r) t.allow) refl
+
+ticks_low : (b : Board) (slots : ℕ) → largest_stretch b.targets ≤ 6999 → slots ≤ 4700
+    → (1 ≤ frame_ticks b slots) × (frame_ticks b slots ≤ 536870912)
+unfolding frame_ticks
+ticks_low b slots s k =
+    let m : slots * (3 + largest_stretch b.targets) ≤ 4700 * 7002 =
+    mul-le-mul {m₂ = 7002} k (omega (arith, s)) in
+    (omega arith, omega (arith, m))
+
+-- blocks have at most 255 bytes
+abbrev pub FitsBlocks : Request → Type 0
+FitsBlocks (PutBlock c bytes) = length bytes ≤ 255
+FitsBlocks (CallBlock c bytes g) = length bytes ≤ 254
+FitsBlocks _ = Unit {0}
+
+fits_blocks : (i : Instr) → IsInstr i → IfSome (sent_in i) (λ s. FitsBlocks s.request)
+fits_blocks (instr.BlockWrite t c bytes l) k = k.1.1
+fits_blocks (instr.BlockCall t c bytes r l) k = k.1.1
+fits_blocks (instr.Quick t read l) k = tt
+fits_blocks (instr.Send t c l) k = tt
+fits_blocks (instr.Receive t r l) k = tt
+fits_blocks (instr.Write t c v l) k = tt
+fits_blocks (instr.Read t c w r l) k = tt
+fits_blocks (instr.Call t c v r l) k = tt
+fits_blocks (instr.BlockRead t c r l) k = tt
+fits_blocks (instr.Alert r l) k = tt
+fits_blocks (instr.IfAlert l) k = tt
+fits_blocks (instr.Set r v) k = tt
+fits_blocks (instr.Add r v) k = tt
+fits_blocks (instr.If r m v l) k = tt
+fits_blocks (instr.Above r v l) k = tt
+fits_blocks (instr.Count c v) k = tt
+fits_blocks (instr.Again c l) k = tt
+fits_blocks (instr.Wait x) k = tt
+fits_blocks (instr.Goto l) k = tt
+fits_blocks instr.End k = tt
+fits_blocks instr.Fail k = tt
+
+slots_low : (b : Board) (i : ℕ) (r : Request) (l : ℕ) → IsBoard b → FitsBlocks r
+    → longest_slots b (sent i r l) ≤ 4700
+slots_low b i (QuickTo read) l is f = omega arith
+slots_low b i (Send c) l is f = omega arith
+slots_low b i (Receive g) l is f = omega arith
+slots_low b i (Write c (written.Byte v)) l is f = omega arith
+slots_low b i (Write c (written.Word v)) l is f = omega arith
+slots_low b i (Write c (written.Register g)) l is f = omega arith
+slots_low b i (Read c width.Byte g) l is f = omega arith
+slots_low b i (Read c width.Word g) l is f = omega arith
+slots_low b i (Call c v g) l is f = omega arith
+slots_low b i (PutBlock c bytes) l is f = omega (arith, f)
+slots_low b i (GetBlock c g) l is f = let k = lengths_low b i (GetBlock c g) is in omega (arith, k)
+slots_low b i (CallBlock c bytes g) l is f =
+    let k = lengths_low b i (CallBlock c bytes g) is in omega (arith, k, f)
+
+abbrev pub IsLow : ℕ → Type 0
+IsLow ticks = (1 ≤ ticks) × (ticks ≤ 536870912)
+
+other_low : (b : Board) (i : Instr) → IsBoard b → IsInstr i → IsLow (other_ticks b i)
+other_low b (instr.Alert r l) is f =
+    ticks_low b 19 (stretch_low b.targets (recursion_from_All IsTarget b.targets is.targets))
+    (omega arith)
+other_low b (instr.Wait t) is f = (omega arith, omega (arith, f.1))
+other_low b (instr.Quick t read l) is f = (omega arith, omega arith)
+other_low b (instr.Send t c l) is f = (omega arith, omega arith)
+other_low b (instr.Receive t r l) is f = (omega arith, omega arith)
+other_low b (instr.Write t c v l) is f = (omega arith, omega arith)
+other_low b (instr.Read t c w r l) is f = (omega arith, omega arith)
+other_low b (instr.Call t c v r l) is f = (omega arith, omega arith)
+other_low b (instr.BlockWrite t c bytes l) is f = (omega arith, omega arith)
+other_low b (instr.BlockRead t c r l) is f = (omega arith, omega arith)
+other_low b (instr.BlockCall t c bytes r l) is f = (omega arith, omega arith)
+other_low b (instr.IfAlert l) is f = (omega arith, omega arith)
+other_low b (instr.Set r v) is f = (omega arith, omega arith)
+other_low b (instr.Add r v) is f = (omega arith, omega arith)
+other_low b (instr.If r m v l) is f = (omega arith, omega arith)
+other_low b (instr.Above r v l) is f = (omega arith, omega arith)
+other_low b (instr.Count c v) is f = (omega arith, omega arith)
+other_low b (instr.Again c l) is f = (omega arith, omega arith)
+other_low b (instr.Goto l) is f = (omega arith, omega arith)
+other_low b instr.End is f = (omega arith, omega arith)
+other_low b instr.Fail is f = (omega arith, omega arith)
+
+of_low : (b : Board) (i : Instr) (o : Option Sent) → IsBoard b → IsInstr i
+    → IfSome o (λ s. FitsBlocks s.request) → IsLow (ticks_of b i o)
+of_low b i None is f f' = other_low b i is f
+of_low b i (Some s) is f f' =
+    ticks_low b (longest_slots b s) (stretch_low b.targets (recursion_from_All IsTarget b.targets
+    is.targets))
+    (slots_low b s.target s.request s.otherwise is f')
+
+pub worst_low : (b : Board) (i : Instr) → IsBoard b → IsInstr i → IsLow (worst_ticks b i)
+worst_low b i is f = of_low b i (sent_in i) is f (fits_blocks i f)

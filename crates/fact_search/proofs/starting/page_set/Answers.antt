@@ -1,0 +1,13 @@
+use Rattle.facts.specs.Sets.{is_page, pages_in}
+use Rattle.fact_search.proofs.Rows.Starts.{just, never_none}
+use Rattle.fact_search.proofs.starting.page_set.Goals as goal
+
+pub unreachable-requires : goal.unreachable-requires
+unreachable-requires c =
+    never_none is_page pages_in c.in_ok-set.field-0 c.args.values.now c.in_ok-set.ensures
+    c.in-None.is c.requires
+
+pub returns : goal.returns
+returns c =
+    just is_page pages_in c.in_ok-set.field-0 c.in-Some.set c.args.values.now c.in_ok-set.ensures
+    c.in-Some.is

@@ -1,0 +1,6 @@
+use Rattle.table_check.specs.Looking.{rows_view}
+use Rattle.fact_search.proofs.Ticks.Descending.{FitLast}
+use Rattle.fact_search.proofs.ticking.forward_ticks.Given as goal
+
+abbrev pub invariant-loop-done : goal.invariant-loop-done
+invariant-loop-done l = FitLast l.board l.program (rows_view l.rows) l.ticks.items l.done

@@ -1,0 +1,6 @@
+pub mod Faults
+pub mod Forward
+pub mod Finds
+pub mod Starting
+pub mod Searching
+pub mod Ticking

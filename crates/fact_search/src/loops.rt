@@ -1,0 +1,212 @@
+//! The ticks that are left at the places of a program with loops.
+
+ghost use Rattle.table_check.specs.Looking.{HasRowsOf, rows_view};
+
+use crate::carrying::carry;
+use crate::fault::FindFault;
+use crate::graph::{Cut, Graph, graph_of};
+use crate::nest::{Loop, Nest, loop_at, nest_of};
+use crate::turning::{Aim, Measure, TURN, value_at};
+use board::Board;
+use facts::Row;
+use seq_program::Program;
+use std::alloc::{AllocError, Global};
+
+/// No base and no coefficient of a row is greater.
+const MOST_TICKS: u64 = 1 << 40;
+
+/// The ticks that are left at a place, at most: a base, and a coefficient for each counter.
+#[derive(Clone, Copy, Debug)]
+pub(crate) struct Ticks {
+    pub base: u64,
+    pub coeffs: [u64; 4],
+}
+
+/// At all places no ticks.
+fn no_ticks(alloc: Global, places: usize) -> Result<Vec<Ticks>, AllocError> {
+    let mut ticks = Vec::new(alloc);
+    for _ in 0..places {
+        ticks.push(Ticks {
+            base: 0,
+            coeffs: [0; 4],
+        })?;
+    }
+    Ok(ticks)
+}
+
+/// For each place a 0.
+fn zeros(alloc: Global, places: usize) -> Result<Vec<u64>, AllocError> {
+    let mut zeros = Vec::new(alloc);
+    for _ in 0..places {
+        zeros.push(0)?;
+    }
+    Ok(zeros)
+}
+
+/// What is left at each place of the loops at a depth, to their next turns.
+fn left_to_turn(
+    alloc: Global,
+    graph: &Graph,
+    nest: &Nest,
+    ticks: &[Ticks],
+    depth: usize,
+) -> Result<Vec<u64>, AllocError> {
+    let mut left = zeros(alloc, graph.nodes.len())?;
+    if let Some(inside) = nest.depths.get(depth) {
+        let aim = Aim::Turn { depth, inside };
+        Measure { graph, ticks, aim }.settle(&mut left, &nest.order);
+    }
+    Ok(left)
+}
+
+/// What the dearest turns of the loops at a depth cost.
+fn measure_turns(graph: &Graph, nest: &mut Nest, left: &[u64], depth: usize) {
+    if let Some(inside) = nest.depths.get(depth) {
+        for way in &graph.ways {
+            if way.cut == Cut::Paid(depth) {
+                if let Some(number) = loop_at(inside, way.from) {
+                    let turn = value_at(left, way.to).saturating_sub(TURN);
+                    if let Some(found) = nest.loops.get_mut(number) {
+                        found.turn = found.turn.max(turn);
+                    }
+                }
+            }
+        }
+    }
+}
+
+/// The counter of a loop pays for its turns at a place of the loop.
+fn pay(ticks: &mut Ticks, found: &Loop) {
+    if let Some(counter) = found.payer {
+        if counter < 4 {
+            ticks.coeffs[counter] = ticks.coeffs[counter].max(found.turn);
+        }
+    }
+}
+
+/// The counters of loops pay for their turns.
+fn pay_all(ticks: &mut [Ticks], loops: &[Loop], inside: &[Option<usize>]) {
+    for (place, ticks) in ticks.iter_mut().enumerate() {
+        if let Some(number) = loop_at(inside, place) {
+            if let Some(found) = loops.get(number) {
+                pay(ticks, found);
+            }
+        }
+    }
+}
+
+/// The counters of the loops at a depth pay for their turns, also between the loops.
+fn pay_turns(
+    alloc: Global,
+    graph: &Graph,
+    nest: &Nest,
+    ticks: &mut [Ticks],
+    depth: usize,
+) -> Result<(), AllocError> {
+    if let Some(inside) = nest.depths.get(depth) {
+        pay_all(ticks, &nest.loops, inside);
+        carry(alloc, graph, nest, inside, ticks)?;
+    }
+    Ok(())
+}
+
+/// One tick has to be left at the ends.
+fn end_ticks(alloc: Global, graph: &Graph) -> Result<Vec<u64>, AllocError> {
+    let mut left = Vec::new(alloc);
+    for node in &graph.nodes {
+        left.push(u64::from(node.ends))?;
+    }
+    Ok(left)
+}
+
+/// What is left at each place, to the dearest end.
+fn left_to_end<'a>(
+    alloc: Global,
+    graph: &'a Graph,
+    ticks: &'a [Ticks],
+    order: &[usize],
+) -> Result<Vec<u64>, AllocError> {
+    let mut left = end_ticks(alloc, graph)?;
+    let aim = Aim::End;
+    Measure { graph, ticks, aim }.settle(&mut left, order);
+    Ok(left)
+}
+
+/// The coefficients at all places: what the turns of the loops around them cost, inner loops first.
+fn coefficients(alloc: Global, graph: &Graph, nest: &mut Nest) -> Result<Vec<Ticks>, AllocError> {
+    let mut ticks = no_ticks(alloc, graph.nodes.len())?;
+    for depth in (0..nest.depths.len()).rev() {
+        let left = left_to_turn(alloc, graph, nest, &ticks, depth)?;
+        measure_turns(graph, nest, &left, depth);
+        pay_turns(alloc, graph, nest, &mut ticks, depth)?;
+    }
+    Ok(ticks)
+}
+
+/// Ticks that a row may have.
+fn within_most(ticks: &Ticks, base: u64) -> Ticks {
+    let mut within = *ticks;
+    within.base = MOST_TICKS.min(base);
+    for c in 0..4 {
+        within.coeffs[c] = MOST_TICKS.min(ticks.coeffs[c]);
+    }
+    within
+}
+
+/// The ticks that are left at each place, with the loops of a nest.
+fn ticks_in(alloc: Global, graph: &Graph, nest: &mut Nest) -> Result<Vec<Ticks>, AllocError> {
+    let mut ticks = coefficients(alloc, graph, nest)?;
+    let left = left_to_end(alloc, graph, &ticks, &nest.order)?;
+    for (ticks, base) in ticks.iter_mut().zip(left.iter()) {
+        *ticks = within_most(ticks, *base);
+    }
+    Ok(ticks)
+}
+
+/// The bound on all ticks.
+fn bound(ticks: &[Ticks]) -> u64 {
+    match ticks.first() {
+        Some(start) => start.base,
+        None => 0,
+    }
+}
+
+/// The ticks with the least bound, of those with one counter favored or another.
+fn least_ticks(
+    alloc: Global,
+    graph: &mut Graph,
+    nest: &mut Nest,
+) -> Result<Vec<Ticks>, AllocError> {
+    let mut least = ticks_in(alloc, graph, nest)?;
+    for counter in 0..4 {
+        if nest.has_choice(counter) {
+            let mut other = nest_of(alloc, graph, counter)?;
+            let ticks = ticks_in(alloc, graph, &mut other)?;
+            if bound(&ticks) < bound(&least) {
+                least = ticks;
+            }
+        }
+    }
+    Ok(least)
+}
+
+/// The ticks that are left at each place of a program, where its rows hold: an end has one left,
+/// each other place enough for its ways.
+///
+/// A counter that only falls in a loop pays for the loop's turns. Where no counter does, and no
+/// instruction breaks a duty of its own, it gives up at the loop's least place.
+pub(crate) fn ticks_with_loops(
+    alloc: Global,
+    board: &Board,
+    program: &Program,
+    rows: &[Option<Row>],
+) -> Result<Vec<Ticks>, FindFault>
+    requires rows { HasRowsOf board.now (rows_view rows.now) }
+{
+    let mut graph = graph_of(alloc, board, program, rows)?;
+    let mut nest = nest_of(alloc, &mut graph, 0)?;
+    match nest.unbounded() {
+        Some(place) if !graph.breaks_duty => Err(FindFault::GaveUp(place)),
+        _ => Ok(least_ticks(alloc, &mut graph, &mut nest)?),
+    }
+}

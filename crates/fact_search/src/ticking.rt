@@ -1,0 +1,139 @@
+//! Ticks for programs that only lead on, and rows with ticks.
+
+ghost use Rattle.std.specs.Prelude.{◌≡◌, ◌≤◌, ◌<◌, ◌+◌, ◌^◌, ℕ, All, IfOk, IfSome, length, map};
+ghost use Rattle.std.specs.Prelude.{option_map};
+ghost use Rattle.std.specs.Prelude.{slice_get, slice_index};
+ghost use Rattle.facts.specs.Rows.{row_view};
+ghost use Rattle.table_check.specs.Looking.{HasRowsOf, rows_view};
+ghost use Rattle.fact_search.specs.Forward.{IsForward};
+ghost use Rattle.fact_search.specs.Ticking.{DoFit, PaysAt, most_worst, plain, ticked};
+ghost use Rattle.fact_search.specs.Ticking.{ticked_row, with_left};
+
+use crate::laws::premises;
+use crate::leading::edges_at;
+use crate::loops::Ticks;
+use board::Board;
+use facts::Row;
+use seq_program::Program;
+use std::alloc::{AllocError, Global};
+
+/// The ticks that pay for each of some edges, and at least one.
+fn longest(edges: &[(usize, Row, u64)], ticks: &[u64]) -> u64
+    requires inside { All (λ e. e.0 < length ticks.now) edges.now }
+    requires worst { All (λ e. e.2 ≤ most_worst) edges.now }
+    requires most { All (λ n. n ≤ 2 ^ 40) ticks.now }
+    ensures some { 1 ≤ result }
+    ensures pays { All (λ e. e.2 + slice_index ticks.now e.0 ≤ result) edges.now }
+    ensures most { (bound : ℕ) → 1 ≤ bound → All (λ n. n ≤ bound) ticks.now
+        → result ≤ bound + most_worst }
+{
+    let mut most = 1;
+    for edge in edges {
+        most = most.max(edge.2 + ticks[edge.0]);
+    }
+    most
+}
+
+/// The ticks at a place, where those of the places after it are known.
+fn ticks_at(
+    alloc: Global,
+    board: &Board,
+    program: &Program,
+    rows: &[Option<Row>],
+    ticks: &[u64],
+    place: usize,
+) -> Result<u64, AllocError>
+    requires rows { HasRowsOf board.now (rows_view rows.now) }
+    requires count { length ticks.now ≡ length program.now }
+    requires most { All (λ n. n ≤ 2 ^ 40) ticks.now }
+    ensures some { IfOk result (λ n. 1 ≤ n) }
+    ensures pays { IfOk result (λ n. PaysAt board.now program.now (rows_view rows.now) ticks.now
+        place n) }
+    ensures most { IfOk result (λ n. (bound : ℕ) → 1 ≤ bound → All (λ m. m ≤ bound) ticks.now
+        → n ≤ bound + most_worst) }
+{
+    premises(board, program);
+    let edges = edges_at(alloc, board, program, rows, place)?;
+    Ok(longest(&edges, ticks))
+}
+
+/// The ticks at each place of a program that only leads on, from its last place down.
+pub(crate) fn forward_ticks(
+    alloc: Global,
+    board: &Board,
+    program: &Program,
+    rows: &[Option<Row>],
+) -> Result<Vec<u64>, AllocError>
+    requires rows { HasRowsOf board.now (rows_view rows.now) }
+    requires forward { IsForward program.now }
+    ensures { IfOk result
+        (λ ticks. DoFit board.now program.now (rows_view rows.now) ticks.items) }
+{
+    premises(board, program);
+    let places = program.places();
+    let mut ticks = vec![in alloc; 1u64; places]?;
+    for done in 0..places {
+        let place = places - 1 - done;
+        ticks[place] = ticks_at(alloc, board, program, rows, &ticks, place)?;
+    }
+    Ok(ticks)
+}
+
+/// Ticks without coefficients.
+pub(crate) fn without_coeffs(alloc: Global, ticks: &[u64]) -> Result<Vec<Ticks>, AllocError>
+    ensures { IfOk result (λ lefts. lefts.items ≡ map plain ticks.now) }
+{
+    let mut lefts = Vec::new(alloc);
+    for base in ticks {
+        lefts.push(Ticks {
+            base: *base,
+            coeffs: [0; 4],
+        })?;
+    }
+    Ok(lefts)
+}
+
+/// A row with ticks.
+fn set_ticks(mut row: Row, left: &Ticks) -> Row
+    ensures row { row_view result ≡ with_left left.now (row_view row) }
+    ensures count { length result.coeffs ≡ 4 }
+{
+    let coeffs = left.coeffs;
+    row.base = left.base;
+    row.coeffs = coeffs;
+    row
+}
+
+/// A row with the ticks of its place, if there are both.
+fn with_left(row: Option<Row>, lefts: &[Ticks], place: usize) -> Option<Row>
+    ensures row { option_map row_view result
+        ≡ ticked_row (slice_get lefts.now place) (option_map row_view row) }
+    ensures count { IfSome result (λ r. length r.coeffs ≡ 4) }
+{
+    match row {
+        None => None,
+        Some(row) => match lefts.get(place) {
+            None => None,
+            Some(left) => Some(set_ticks(row, left)),
+        },
+    }
+}
+
+/// The rows with their ticks.
+pub(crate) fn with_ticks(
+    alloc: Global,
+    rows: Vec<Option<Row>>,
+    lefts: &[Ticks],
+) -> Result<Vec<Option<Row>>, AllocError>
+    ensures rows { IfOk result
+        (λ out. rows_view out.items ≡ ticked lefts.now (rows_view rows.items)) }
+    ensures counts { IfOk result
+        (λ out. All (λ row. IfSome row (λ r. length r.coeffs ≡ 4)) out.items) }
+{
+    let mut out = Vec::new(alloc);
+    for row in rows {
+        let place = out.len();
+        out.push(with_left(row, lefts, place))?;
+    }
+    Ok(out)
+}
