@@ -1,5 +1,5 @@
 -- Lines of which those before the rest were looked at, and are answers.
-use Rattle.std.proofs.Common.{◌≡◌, ◌≤◌, ℕ, List, [], ◌∷◌, ◌++◌, Result, Ok, Err, refl, sym, ap}
+use Rattle.std.proofs.Common.{◌≡◌, ◌≤◌, ℕ, List, [], ◌∷◌, ◌++◌, Result, Ok, Err, refl, sym}
 use Rattle.std.proofs.Common.{length, subst, arith, ◌∙◌}
 use Rattle.std.specs.List.{All, AllByRecursion}
 use Rattle.std.specs.List.{enumerate_from}
@@ -9,7 +9,7 @@ use Rattle.std.proofs.lemmas.List.FromFn.{length-enumerate_from}
 use Rattle.std.proofs.lemmas.List.Elements.{All-nil, All-append, All-from_recursion}
 use Rattle.std.proofs.lemmas.List.Elements.{recursion_from_All}
 use Rattle.std.specs.Result.{IsErrAnd}
-use Rattle.texts.specs.Reading.{◌>>=◌, Fails, Gives}
+use Rattle.texts.specs.Reading.{Fails, Gives}
 use Rattle.texts.specs.declared.reading.ReadError.{ReadError}
 use Rattle.texts.specs.declared.reading.ReadError.TheVariants as error
 use Rattle.smbus.specs.Answered.{Answered}

@@ -9,7 +9,7 @@ use Rattle.std.specs.Str.Lines.{lines}
 use Rattle.texts.specs.Reading.{◌>>=◌, some_or}
 use Rattle.bundles.specs.declared.fault.BundleFault.{BundleFault}
 use Rattle.bundles.specs.declared.command.Command.{Command}
-use Rattle.bundles.specs.declared.command.Command.TheVariants.{Frame, Run, Check}
+use Rattle.bundles.specs.declared.command.Command.TheVariants.{Frame, Run, Check, Find, Verify}
 use Rattle.bundles.specs.declared.command.Header.{Header}
 use Rattle.bundles.specs.declared.command.Header.TheVariants.{Message, Board, Program, Answers}
 use Rattle.bundles.specs.declared.command.Header.TheVariants.{Table}
@@ -25,6 +25,8 @@ command_of line =
     if bytes_eq line (codes "%frame") then Some Frame
     else if bytes_eq line (codes "%run") then Some Run
     else if bytes_eq line (codes "%check") then Some Check
+    else if bytes_eq line (codes "%find") then Some Find
+    else if bytes_eq line (codes "%verify") then Some Verify
     else None
 
 abbrev pub header_text : Header → Line
@@ -39,6 +41,8 @@ abbrev pub headers_of : Command → List Header
 headers_of Frame = Message ∷ []
 headers_of Run = Board ∷ Program ∷ Answers ∷ []
 headers_of Check = Board ∷ Program ∷ Table ∷ []
+headers_of Find = Board ∷ Program ∷ []
+headers_of Verify = Board ∷ Program ∷ []
 
 -- nothing but spaces
 abbrev pub is_blank : Line → Bool

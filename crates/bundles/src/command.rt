@@ -7,6 +7,8 @@ pub enum Command {
     Frame,
     Run,
     Check,
+    Find,
+    Verify,
 }
 
 /// What a section holds, by the line above it.
@@ -24,6 +26,8 @@ const FRAME_HEADERS: [Header; 1] = [Header::Message];
 const RUN_HEADERS: [Header; 3] = [Header::Board, Header::Program, Header::Answers];
 
 const CHECK_HEADERS: [Header; 3] = [Header::Board, Header::Program, Header::Table];
+
+const SEARCH_HEADERS: [Header; 2] = [Header::Board, Header::Program];
 
 impl Header {
     /// The header line.
@@ -49,6 +53,8 @@ impl Command {
             Command::Frame => &FRAME_HEADERS,
             Command::Run => &RUN_HEADERS,
             Command::Check => &CHECK_HEADERS,
+            Command::Find => &SEARCH_HEADERS,
+            Command::Verify => &SEARCH_HEADERS,
         }
     }
 
@@ -60,6 +66,8 @@ impl Command {
             "%frame" => Some(Command::Frame),
             "%run" => Some(Command::Run),
             "%check" => Some(Command::Check),
+            "%find" => Some(Command::Find),
+            "%verify" => Some(Command::Verify),
             _ => None,
         }
     }
