@@ -1,4 +1,5 @@
 pub mod Transfers
 pub mod Fronts
 pub mod Told
+pub mod GaveUp
 pub mod Promised

@@ -7,6 +7,7 @@ use Rattle.bundles.specs.declared.command.Command.TheVariants as commands
 use Rattle.session.specs.declared.commands.Task.{Task as TaskCode}
 use Rattle.session.specs.declared.commands.Task.TheVariants as tasks
 use Rattle.session.specs.declared.scenario.Scenario.{Scenario}
+use Rattle.session.specs.declared.sequence.Sequence.{Sequence}
 use Rattle.session.specs.declared.fault.InputFault.{InputFault}
 use Rattle.session.specs.declared.fault.InputFault.TheVariants as faults
 use Rattle.session.specs.Faults.{faulted}
@@ -17,19 +18,25 @@ use Rattle.session.specs.Replies.{Reply}
 use Rattle.session.specs.FrameReplies.{IsFrameReply}
 use Rattle.session.specs.RunReplies.{IsRunReply}
 use Rattle.session.specs.CheckReplies.{IsCheckReply}
+use Rattle.session.specs.SearchReplies.{IsFindReply, IsVerifyReply}
 use Rattle.session.specs.Scenarios.{scenario_in, IsOnItsBoard}
+use Rattle.session.specs.Sequences.{sequence_in}
 use Rattle.session.specs.Trials.{Trial, trial_in, trial_view}
 
--- a message with its answer, a program with answers, or a program with a table
+-- a message with its answer, a program with answers, a program with a table, or a program alone
 pub data Task : Type 0 where
   Frame : (exchange : Exchange) → Task
   Run : (scenario : Scenario) → Task
   Check : (trial : Trial) → Task
+  Find : (sequence : Sequence) → Task
+  Verify : (sequence : Sequence) → Task
 
 abbrev pub task_view : TaskCode → Task
 task_view (tasks.Frame exchange) = Frame exchange
 task_view (tasks.Run scenario) = Run scenario
 task_view (tasks.Check trial) = Check (trial_view trial)
+task_view (tasks.Find sequence) = Find sequence
+task_view (tasks.Verify sequence) = Verify sequence
 
 abbrev pub section_at : List Section → ℕ → Section
 section_at sections place = slice_index_or sections place (record { first_line = 0; lines = [] })
@@ -46,6 +53,12 @@ asked_by commands.Run sections =
 asked_by commands.Check sections =
     trial_in (section_at sections 0) (section_at sections 1) (section_at sections 2) >>= λ trial.
     Ok (Check trial)
+asked_by commands.Find sections =
+    sequence_in (section_at sections 0) (section_at sections 1) >>= λ sequence.
+    Ok (Find sequence)
+asked_by commands.Verify sections =
+    sequence_in (section_at sections 0) (section_at sections 1) >>= λ sequence.
+    Ok (Verify sequence)
 
 abbrev pub task_of : Bundle → Result Task InputFault
 task_of bundle = asked_by bundle.command bundle.sections
@@ -63,9 +76,13 @@ abbrev pub IsReady : Task → Type 0
 IsReady (Frame exchange) = All (λ hold. hold ≤ 6999) exchange.answer.holds
 IsReady (Run scenario) = IsOnItsBoard scenario
 IsReady (Check trial) = Unit {0}
+IsReady (Find sequence) = Unit {0}
+IsReady (Verify sequence) = Unit {0}
 
 -- the reply to each task
 abbrev pub IsReplyOf : Task → Reply → Type 0
 IsReplyOf (Frame exchange) reply = IsFrameReply exchange.message exchange.answer reply
 IsReplyOf (Run scenario) reply = IsRunReply scenario reply
 IsReplyOf (Check trial) reply = IsCheckReply trial reply
+IsReplyOf (Find sequence) reply = IsFindReply sequence reply
+IsReplyOf (Verify sequence) reply = IsVerifyReply sequence reply

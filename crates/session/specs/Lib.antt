@@ -8,6 +8,8 @@ pub mod Scenarios
 pub mod RunReplies
 pub mod Trials
 pub mod CheckReplies
+pub mod Sequences
+pub mod SearchReplies
 pub mod Commands
 pub mod Sessions
 pub mod Promises

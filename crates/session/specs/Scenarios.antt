@@ -1,6 +1,6 @@
 -- What a run is asked with, and what it is: a program on its board, how the targets start, and what
 -- they answer.
-use Rattle.std.specs.Prelude.{ℕ, List, length, Result, Ok, All}
+use Rattle.std.specs.Prelude.{List, length, Result, Ok, All}
 use Rattle.texts.specs.Reading.{◌>>=◌}
 use Rattle.board.specs.Boards.{Board}
 use Rattle.board.specs.Files.{read_of}

@@ -6,7 +6,7 @@ ghost use Rattle.session.specs.Commands.{task_in_lines};
 ghost use Rattle.session.specs.Replies.{reply_view};
 ghost use Rattle.session.specs.Sessions.{text_if, kept_text, kept_task, IsReplyAfter, IsReplyTo};
 ghost use Rattle.session.specs.Sessions.{IsAnswered, IsBegun};
-ghost use Rattle.session.specs.Promises.{IsKeptPromise};
+ghost use Rattle.session.specs.Promises.{GivesUpOnLoopsAlone, IsKeptPromise};
 ghost use Rattle.session.specs.Devices.{device_of};
 ghost use Rattle.session.specs.declared.answering.DeviceFault.TheVariants.{Memory, Writer};
 
@@ -126,6 +126,9 @@ pub fn answer<R: Read, W: Write>(
     // What is accepted is safe.
     ensures accepted { IfOk result (λ status. IfSome (R.remaining reader.old) (λ input.
         IsKeptPromise input (W.contents writer.old) (W.contents writer.new) status)) }
+    // Where each jump of a program leads on, the search doesn't give up.
+    ensures gave_up { IfOk result (λ status. IfSome (R.remaining reader.old) (λ input.
+        GivesUpOnLoopsAlone input (W.contents writer.old) (W.contents writer.new))) }
     ensures whole { IfOk result (λ status. status ≢ Status.DeviceFault) }
     ensures begun { IfErr result
         (λ fault. fault ≡ Writer → IfSome (R.remaining reader.old) (λ input.
@@ -146,10 +149,14 @@ pub fn session<R: Read, W: Write>(alloc: Global, reader: &mut R, writer: &mut W)
     ensures answered { result ≢ Status.DeviceFault → IfSome (R.remaining reader.old) (λ input.
         IsAnswered input (W.contents writer.old) (W.contents writer.new) result) }
 
-    // What is accepted is safe: where the input asks for a check and its reply accepts, every run
-    // of the program on its board is safe within the bound that is written.
+    // What is accepted is safe: where the input asks for a check or to verify and its reply
+    // accepts, every run of the program on its board is safe within the bound that is written.
     ensures accepted { result ≢ Status.DeviceFault → IfSome (R.remaining reader.old) (λ input.
         IsKeptPromise input (W.contents writer.old) (W.contents writer.new) result) }
+
+    // Where each jump of a program leads on, the search doesn't give up.
+    ensures gave_up { result ≢ Status.DeviceFault → IfSome (R.remaining reader.old) (λ input.
+        GivesUpOnLoopsAlone input (W.contents writer.old) (W.contents writer.new)) }
 
     // A device failed: nothing was written, or a beginning of the reply.
     ensures failed { result ≡ Status.DeviceFault

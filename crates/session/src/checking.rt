@@ -41,7 +41,7 @@ fn verdict_text(alloc: Global, verdict: Verdict) -> Result<String, AllocError>
 }
 
 /// The reply with a verdict.
-fn verdict_reply(alloc: Global, verdict: Verdict) -> Result<Reply, AllocError>
+pub(crate) fn verdict_reply(alloc: Global, verdict: Verdict) -> Result<Reply, AllocError>
     ensures whole { IfOk result (λ reply. reply.status ≢ Status.DeviceFault) }
     ensures replies { IfOk result (λ reply. reply_view reply ≡ verdict_reply verdict) }
 {
@@ -58,7 +58,8 @@ fn verdict_reply(alloc: Global, verdict: Verdict) -> Result<Reply, AllocError>
 /// The reply to a check: the verdict on its table, or the first line that is none of a table.
 pub fn check_reply(alloc: Global, trial: &Trial) -> Result<Reply, AllocError>
     ensures whole { IfOk result (λ reply. reply.status ≢ Status.DeviceFault) }
-    ensures replies { IfOk result (λ reply. IsCheckReply (trial_view trial.now) (reply_view reply)) }
+    ensures replies { IfOk result
+        (λ reply. IsCheckReply (trial_view trial.now) (reply_view reply)) }
 {
     match read_table(alloc, &trial.board, &trial.table) {
         Ok(table) => {

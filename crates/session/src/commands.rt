@@ -11,6 +11,8 @@ use crate::fault::{InputFault, of_bundle};
 use crate::frame::frame_reply;
 use crate::reply::{Reply, Status};
 use crate::scenario::{Scenario, scenario_in};
+use crate::searching::{find_reply, verify_reply};
+use crate::sequence::{Sequence, sequence_in};
 use crate::tracing::run_reply;
 use crate::trial::{Trial, trial_in};
 use bundles::{Bundle, Command, Exchange, exchange_in, read_bundle};
@@ -23,6 +25,8 @@ pub enum Task<'a> {
     Frame(Exchange),
     Run(Scenario<'a>),
     Check(Trial),
+    Find(Sequence),
+    Verify(Sequence),
 }
 
 /// What a bundle asks for. Its sections are read in order.
@@ -46,6 +50,14 @@ fn task_of<'a>(alloc: Global, bundle: &Bundle<'a>) -> Result<Task<'a>, ReadError
             let trial = trial_in(alloc, &sections[0], &sections[1], &sections[2])?;
             Ok(Task::Check(trial))
         }
+        Command::Find => {
+            let sequence = sequence_in(alloc, &bundle.sections[0], &bundle.sections[1])?;
+            Ok(Task::Find(sequence))
+        }
+        Command::Verify => {
+            let sequence = sequence_in(alloc, &bundle.sections[0], &bundle.sections[1])?;
+            Ok(Task::Verify(sequence))
+        }
     }
 }
 
@@ -68,5 +80,7 @@ pub fn reply_of(alloc: Global, task: &Task<'_>) -> Result<Reply, AllocError>
         Task::Frame(exchange) => frame_reply(alloc, &exchange.message, &exchange.answer),
         Task::Run(scenario) => run_reply(alloc, scenario),
         Task::Check(trial) => check_reply(alloc, trial),
+        Task::Find(sequence) => find_reply(alloc, sequence),
+        Task::Verify(sequence) => verify_reply(alloc, sequence),
     }
 }

@@ -10,6 +10,8 @@ mod intake;
 mod outcome;
 mod reply;
 mod scenario;
+mod searching;
+mod sequence;
 mod tracing;
 mod trial;
 

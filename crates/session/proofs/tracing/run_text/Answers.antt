@@ -1,5 +1,4 @@
-use Rattle.std.proofs.Common.{◌≡◌, ◌++◌, ℕ, List, [], ◌∷◌, ap, ◌∙◌, string_bytes}
-use Rattle.smbus.specs.Answered.{Answered}
+use Rattle.std.proofs.Common.{◌≡◌, ◌++◌, ℕ, List, ap, ◌∙◌, string_bytes}
 use Rattle.targets.specs.States.{IsStart}
 use Rattle.simulator.specs.declared.machine.Ending.{Ending}
 use Rattle.simulator.specs.Machines.{Machine, Entry}
