@@ -22,6 +22,8 @@ mod outcome_rows;
 #[cfg(test)]
 mod pmbus_table_rows;
 #[cfg(test)]
+mod search_rows;
+#[cfg(test)]
 mod seq_program_rows;
 #[cfg(test)]
 mod session_rows;
