@@ -114,16 +114,28 @@ abbrev pub with_head : Pass → Bool → Pass
 with_head pass true = record pass { part = Some no_part }
 with_head pass false = record pass { rows = pass.rows ++ None ∷ [] }
 
+abbrev pub with_first : Pass → Words → Option Pass
+with_first pass words = option_map (with_head pass) (head_said (length pass.rows) words)
+
+-- the last line of a row
+abbrev pub with_last : Pass → Part → Words → Option Pass
+with_last pass p words =
+    option_map (λ row. record { rows = pass.rows ++ Some row ∷ []; part = None })
+    (finished p words)
+
+-- the first line of a row, or its last one
+abbrev pub with_end : Pass → Option Part → Words → Option Pass
+with_end pass None words = with_first pass words
+with_end pass (Some p) words = with_last pass p words
+
 -- a line more
 abbrev pub in_part : Board → Pass → Part → Words → Option Pass
 in_part b pass p words =
-    if is_full p
-    then option_map (λ row. record { rows = pass.rows ++ Some row ∷ []; part = None })
-    (finished p words)
+    if is_full p then with_last pass p words
     else option_map (λ q. record pass { part = Some q }) (with_line b p words)
 
 abbrev pub after_words : Board → Pass → Option Part → Words → Option Pass
-after_words b pass None words = option_map (with_head pass) (head_said (length pass.rows) words)
+after_words b pass None words = with_first pass words
 after_words b pass (Some p) words = in_part b pass p words
 
 -- words are parted by one space

@@ -5,24 +5,39 @@ ghost use Rattle.texts.specs.Words.{lines_by_feed};
 ghost use Rattle.table_check.specs.Faults.{Gives};
 ghost use Rattle.table_check.specs.Tables.{table_view};
 ghost use Rattle.table_check.specs.Texts.{AreLinesOf, IsTextOf, FindsTable, CarriesFirst};
-ghost use Rattle.table_check.specs.Passes.{pass_view, after_lines, no_pass, table_in};
+ghost use Rattle.table_check.specs.Passes.{pass_view, after_lines, no_pass, parted};
+ghost use Rattle.table_check.specs.Passes.{table_in};
 
 use crate::fault::TableFault;
 use crate::pass::Pass;
 use crate::shape::is_board;
 use crate::table::Table;
 use board::Board;
-use std::alloc::Global;
+use std::alloc::{AllocError, Global};
 use texts::lines_by_feed;
 
+/// Takes the words of a line, between single spaces, in place of those before.
+fn take_words<'a>(words: &mut Vec<&'a str>, line: &'a str) -> Result<(), AllocError>
+    ensures { IfOk result (λ _. map (λ w. w.now) words.new.items ≡ parted line.now) }
+{
+    words.clear();
+    for word in line.split(' ') {
+        words.push(word)?;
+    }
+    Ok(())
+}
+
 /// All lines of a text.
+#[tactic(auto, unfolding(crate::specs::Passes::after_line))]
 fn pass_of(alloc: Global, board: &Board, lines: &[&str]) -> Result<Pass, TableFault>
     ensures { Gives pass_view result
         (after_lines board.now 1 no_pass (map (λ l. l.now) lines.now)) }
 {
     let mut pass = Pass::new(alloc);
+    let mut words = Vec::new(alloc);
     for (index, line) in lines.iter().enumerate() {
-        pass.add_line(alloc, board, index + 1, line)?;
+        take_words(&mut words, line)?;
+        pass.add_line(alloc, board, index + 1, &words)?;
     }
     Ok(pass)
 }

@@ -1,7 +1,7 @@
 use Rattle.std.proofs.Common.{ap, ◌∙◌, List, ℕ, Bor, map, lit<}
 use Rattle.std.proofs.lemmas.Iterator.Consumers.{YieldsList-at, YieldsList-end}
 use Rattle.std.proofs.lemmas.Iterator.Splits.{YieldsList-from_str_split}
-use Rattle.table_check.proofs.pass.parted.Goals as goal
+use Rattle.table_check.proofs.reading.take_words.Goals as goal
 
 pub returns : goal.returns
 returns c =

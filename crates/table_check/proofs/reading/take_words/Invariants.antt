@@ -1,5 +1,5 @@
 use Rattle.std.proofs.Common.{◌≡◌}
-use Rattle.table_check.proofs.pass.parted.Given as goal
+use Rattle.table_check.proofs.reading.take_words.Given as goal
 
 abbrev pub invariant-loop-word : goal.invariant-loop-word
 invariant-loop-word l = l.words.items ≡ l.yielded
