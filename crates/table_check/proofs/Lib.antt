@@ -8,3 +8,4 @@ pub mod Gains
 pub mod Broken
 pub mod TypedRows
 pub mod Text
+pub mod SmallTables

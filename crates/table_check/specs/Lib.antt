@@ -13,3 +13,4 @@ pub mod Obligations
 pub mod ByPlace
 pub mod SafeTables
 pub mod Looking
+pub mod SmallTables

@@ -3,6 +3,9 @@
 ghost use Rattle.table_check.specs.ByPlace.{FollowingTablesTellDuties, InductiveByPlace};
 ghost use Rattle.table_check.specs.ByPlace.{ClosedTablesTellDutiesOrTicks};
 ghost use Rattle.table_check.specs.SafeTables.{InductiveRunsAreSafe, VerdictsAreSafe};
+ghost use Rattle.table_check.specs.Obligations.{IsInductive};
+ghost use Rattle.table_check.specs.SmallTables.{two_rails, voltage_program, voltage_table};
+ghost use Rattle.table_check.specs.Tables.{Table};
 ghost use Rattle.table_check.specs.TextLaws.{TextsHaveOneTable, TablesHaveTexts, BoardsHaveTables};
 
 use facts::{covered_rows_follow, steps_are_sound};
@@ -34,4 +37,12 @@ pub fn tables_have_texts()
     ensures text { TablesHaveTexts }
     // There are such tables, with a row.
     ensures case { BoardsHaveTables }
+{}
+
+/// Worked tables of facts. A voltage at most a rail's limit has a table that keeps the rule book
+/// with no tick to spare, and the next higher one has none.
+pub fn small_tables_are_judged()
+    ensures within { IsInductive two_rails (voltage_program 4505) (voltage_table 114) }
+    ensures tight { IsInductive two_rails (voltage_program 4505) (voltage_table 113) → ⊥ }
+    ensures over { (t : Table) → IsInductive two_rails (voltage_program 4506) t → ⊥ }
 {}

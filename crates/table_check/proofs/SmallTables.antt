@@ -1,0 +1,3 @@
+-- Worked tables.
+pub mod KnownRows
+pub mod Voltages

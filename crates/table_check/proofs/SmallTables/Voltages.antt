@@ -1,0 +1,147 @@
+-- A voltage within its limit, and one over it.
+use Rattle.std.proofs.Common.{◌≡◌, ◌≤◌, ◌<◌, ◌+◌, ◌*◌, ℕ, zero, suc, Some, List, [], ◌∷◌}
+use Rattle.std.proofs.Common.{refl, sym, subst, inl, arith, lit≤, lit<, rules, replicate}
+use Rattle.std.specs.Prelude.{IsTrue, All, ◌==◌}
+use Rattle.std.proofs.lemmas.Bool.{or_left, false≢true}
+use Rattle.smbus.specs.declared.message.Form.TheVariants.{WriteWord}
+use Rattle.pmbus_table.specs.Codes.{vout_command_code}
+use Rattle.pmbus_table.specs.Voltage.{IsWithin, carries_voltage}
+use Rattle.seq_program.specs.declared.instr.Instr.TheVariants as to
+use Rattle.seq_program.specs.declared.instr.Written.TheVariants as written
+use Rattle.facts.specs.declared.rule.Rule.TheVariants.{K4}
+use Rattle.facts.specs.declared.source.Source.TheVariants as source
+use Rattle.facts.specs.Sets.{empty, all_pages}
+use Rattle.facts.specs.Rows.{set_at, most_ticks}
+use Rattle.facts.specs.Requests.{Write}
+use Rattle.facts.specs.Duties.{one, touches, MayBeSent, IsWithinLimits}
+use Rattle.facts.specs.Edges.{edge}
+use Rattle.facts.specs.Ticks.{frame_ticks}
+use Rattle.table_check.specs.Tables.{Table, row_of}
+use Rattle.table_check.specs.Obligations.{IsInductive}
+use Rattle.table_check.specs.SmallTables.{two_rails, small_target, small_rail, voltage_program}
+use Rattle.table_check.specs.SmallTables.{voltage_table, entry, known_row}
+use Rattle.table_check.proofs.Places.{some_same}
+use Rattle.table_check.proofs.ByPlace.{by_place}
+use Rattle.table_check.proofs.SmallTables.KnownRows.{each_rail, is_zero, is_known_row, zeros_inside}
+use Rattle.table_check.proofs.SmallTables.KnownRows.{holds_starts, covers, Leads, leads, pays_end}
+
+-- the second rail isn't touched
+limits : (base : ℕ) → IsWithinLimits two_rails (known_row base) 0 (one 4505)
+limits base t d r at rail =
+    each_rail
+    (λ d r. IsTrue (touches (known_row base) 0 r) → IsWithin 4505 t.exponent r.limit_uv)
+    (λ touched.
+    subst (λ t. IsWithin 4505 t.exponent 1100000) (some_same (small_target 0x40) t at)
+    (record { least = search rules; most = search rules; below = omega arith }))
+    (λ touched. absurd (false≢true touched)) d r rail
+
+sent : (base : ℕ)
+    → MayBeSent two_rails (known_row base) 0 (Write vout_command_code (written.Word 4505))
+sent base = record {
+  target = small_target 0x40;
+  at = refl;
+  entry = entry WriteWord vout_command_code;
+  listed = refl;
+  in_entry = (lit≤ tt, lit≤ tt);
+  known = tt;
+}
+
+-- what is known doesn't change, and a message of a word takes 113 ticks at most
+goes : (to : ℕ) → row_of (voltage_table 114) to ≡ Some (known_row 1)
+    → Leads (voltage_table 114) 113 (edge to (known_row 114))
+goes to at =
+    leads (voltage_table 114) 113 to empty empty (one 0) (one 0) source.None source.None 1 114 at
+    (covers empty empty (one 0) (one 0) source.None source.None 1 114 (λ d k. k)
+    (lit≤ tt, lit≤ tt) (inl refl)) (lit≤ tt)
+
+pub within_the_limit : IsInductive two_rails (voltage_program 4505) (voltage_table 114)
+unfolding frame_ticks
+within_the_limit =
+    let ends = pays_end empty (one 0) source.None 1 (lit≤ tt) in
+    let next = goes 1 refl in
+    let other = goes 2 refl in (
+      refl,
+      (
+        is_known_row 114 (lit≤ tt),
+        (
+          is_known_row 1 (lit≤ tt),
+          (
+            is_known_row 1 (lit≤ tt),
+            (
+              (known_row 114, refl, holds_starts 114),
+              (
+                sent 114,
+                (
+                  (λ paged reads.
+                      refl),
+                  (
+                    (λ writes protect stored. rw (is_zero protect stored) refl),
+                    (
+                      (λ carries. limits 114),
+                      (
+                        tt,
+                        (
+                          next.0,
+                          (
+                            next.1,
+                            (
+                              other.0,
+                              (
+                                other.1,
+                                (
+                                  tt,
+                                  (
+                                    tt,
+                                    (
+                                      tt,
+                                      (
+                                        tt,
+                                        (
+                                          tt,
+                                          (
+                                            ends,
+                                            (tt, (tt, (tt, (tt, (tt, (ends, tt)))))),
+                                          ),
+                                        ),
+                                      ),
+                                    ),
+                                  ),
+                                ),
+                              ),
+                            ),
+                          ),
+                        ),
+                      ),
+                    ),
+                  ),
+                ),
+              ),
+            ),
+          ),
+        ),
+      ),
+    )
+
+-- the ticks don't fall where there is one less
+pub without_a_tick : IsInductive two_rails (voltage_program 4505) (voltage_table 113) → ⊥
+unfolding frame_ticks
+without_a_tick keeps =
+    let both = (by_place two_rails (voltage_program 4505) (voltage_table 113)).0 keeps in
+    let i = to.Write 0 vout_command_code (written.Word 4505) 2 in
+    let falls = (both.0.goes_on 0 i (known_row 113) refl refl
+    (both.1 0 i (known_row 113) refl refl)).falls (edge 1 (known_row 113)) (inl refl) (known_row 1)
+    refl (replicate 4 0) (zeros_inside 4) in
+    absurd (omega (arith, falls))
+
+-- place 0 has a row that holds every start, so PAGE may be the rail's
+pub over_the_limit : (t : Table) → IsInductive two_rails (voltage_program 4506) t → ⊥
+over_the_limit t keeps =
+    let both = (by_place two_rails (voltage_program 4506) t).0 keeps in
+    let start = both.0.start in
+    let pages = set_at start.0.pages 0 in
+    let touched = or_left (pages 0) (pages all_pages)
+    (start.2.pages 0 (small_target 0x40) refl 0 0 (lit< tt)) in
+    let within = both.1 0 (to.Write 0 vout_command_code (written.Word 4506) 2) start.0 refl start.1
+    K4 refl (small_target 0x40) 0 (small_rail 0 1100000 []) refl refl touched in
+    let below = within.below in
+    absurd (omega (arith, below))
