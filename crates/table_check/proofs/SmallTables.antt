@@ -1,3 +1,5 @@
 -- Worked tables.
 pub mod KnownRows
 pub mod Voltages
+pub mod Enabling
+pub mod Orders

@@ -16,6 +16,7 @@ use Rattle.facts.specs.declared.span.Span.{Span}
 use Rattle.facts.specs.Sets.{Set, empty, only}
 use Rattle.facts.specs.Rows.{Row}
 use Rattle.facts.specs.Duties.{one}
+use Rattle.facts.specs.Edges.{good_bits}
 use Rattle.table_check.specs.Tables.{Table}
 
 -- a command in a form, with all values that the form has
@@ -79,3 +80,64 @@ voltage_program word = Write 0 vout_command_code (written.Word word) 2 ∷ End �
 
 abbrev pub voltage_table : ℕ → Table
 voltage_table base = Some (known_row base) ∷ Some (known_row 1) ∷ Some (known_row 1) ∷ []
+
+abbrev pub a_word : Span
+a_word = record { lo = 0; hi = 65535 }
+
+-- r0 may be any word, and isn't known to equal anything
+abbrev pub any_row : ℕ → Row
+any_row base = row_at empty a_word source.None base
+
+-- r0 is the last report of the first rail
+abbrev pub reported_row : Set → ℕ → Row
+reported_row good base = row_at good a_word (source.Status 0) base
+
+-- turns on the first rail, asks it whether it is good, and then turns on the second one
+abbrev pub ordered_program : List Instr
+ordered_program =
+    Write 0 operation_code (written.Byte 0x80) 6
+    ∷ Read 0 status_word_code width.Word 0 6
+    ∷ If 0 good_bits 0 4
+    ∷ Fail
+    ∷ Write 1 operation_code (written.Byte 0x80) 6
+    ∷ End
+    ∷ Fail
+    ∷ []
+
+-- the first rail is good where the second one is turned on
+abbrev pub ordered_table : Table
+ordered_table =
+    Some (known_row 317)
+    ∷ Some (known_row 231)
+    ∷ Some (reported_row empty 88)
+    ∷ Some (any_row 1)
+    ∷ Some (reported_row (only 0) 87)
+    ∷ Some (any_row 1)
+    ∷ Some (any_row 1)
+    ∷ []
+
+-- the same, but turns off the first rail before it turns on the second one
+abbrev pub withdrawn_program : List Instr
+withdrawn_program =
+    Write 0 operation_code (written.Byte 0x80) 7
+    ∷ Read 0 status_word_code width.Word 0 7
+    ∷ If 0 good_bits 0 4
+    ∷ Fail
+    ∷ Write 0 operation_code (written.Byte 0x00) 7
+    ∷ Write 1 operation_code (written.Byte 0x80) 7
+    ∷ End
+    ∷ Fail
+    ∷ []
+
+-- no rail is good where the second one is turned on
+abbrev pub withdrawn_table : Table
+withdrawn_table =
+    Some (known_row 1000)
+    ∷ Some (known_row 800)
+    ∷ Some (reported_row empty 600)
+    ∷ Some (any_row 1)
+    ∷ Some (reported_row (only 0) 500)
+    ∷ Some (any_row 300)
+    ∷ Some (any_row 1)
+    ∷ Some (any_row 1)
+    ∷ []

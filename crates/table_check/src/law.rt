@@ -5,6 +5,8 @@ ghost use Rattle.table_check.specs.ByPlace.{ClosedTablesTellDutiesOrTicks};
 ghost use Rattle.table_check.specs.SafeTables.{InductiveRunsAreSafe, VerdictsAreSafe};
 ghost use Rattle.table_check.specs.Obligations.{IsInductive};
 ghost use Rattle.table_check.specs.SmallTables.{two_rails, voltage_program, voltage_table};
+ghost use Rattle.table_check.specs.SmallTables.{ordered_program, ordered_table};
+ghost use Rattle.table_check.specs.SmallTables.{withdrawn_program, withdrawn_table};
 ghost use Rattle.table_check.specs.Tables.{Table};
 ghost use Rattle.table_check.specs.TextLaws.{TextsHaveOneTable, TablesHaveTexts, BoardsHaveTables};
 
@@ -45,4 +47,6 @@ pub fn small_tables_are_judged()
     ensures within { IsInductive two_rails (voltage_program 4505) (voltage_table 114) }
     ensures tight { IsInductive two_rails (voltage_program 4505) (voltage_table 113) → ⊥ }
     ensures over { (t : Table) → IsInductive two_rails (voltage_program 4506) t → ⊥ }
+    ensures ordered { IsInductive two_rails ordered_program ordered_table }
+    ensures withdrawn { IsInductive two_rails withdrawn_program withdrawn_table → ⊥ }
 {}

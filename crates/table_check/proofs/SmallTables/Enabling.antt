@@ -1,0 +1,207 @@
+-- Places of programs that turn on rails, at rows of which the next ones know no more.
+use Rattle.std.proofs.Common.{◌≡◌, ◌≤◌, ◌<◌, ◌+◌, ◌*◌, ℕ, zero, suc, Some, None, List, [], ◌∷◌}
+use Rattle.std.proofs.Common.{slice_get}
+use Rattle.std.proofs.Common.{◌++◌, ◌&&◌, not, map, false, refl, inl, inr, arith, lit≤, lit<}
+use Rattle.std.specs.Prelude.{IsTrue, All, ◌==◌}
+use Rattle.std.proofs.lemmas.Bool.{false≢true}
+use Rattle.std.proofs.lemmas.List.Elements.{All-from_recursion}
+use Rattle.smbus.specs.declared.message.Form.TheVariants.{WriteByte, ReadWord}
+use Rattle.pmbus_table.specs.Codes.{operation_code, status_word_code}
+use Rattle.board.specs.Boards.{Rail}
+use Rattle.seq_program.specs.declared.instr.Instr.{Instr}
+use Rattle.seq_program.specs.declared.instr.Instr.TheVariants as to
+use Rattle.seq_program.specs.declared.instr.Width.TheVariants as width
+use Rattle.seq_program.specs.declared.instr.Written.TheVariants as written
+use Rattle.simulator.specs.Allowed.{is_operation_value}
+use Rattle.facts.specs.declared.rule.Rule.TheVariants.{K1, K2, K3, K4, K5}
+use Rattle.facts.specs.declared.source.Source.{Source}
+use Rattle.facts.specs.declared.source.Source.TheVariants as source
+use Rattle.facts.specs.declared.span.Span.{Span}
+use Rattle.facts.specs.Sets.{Set, empty, only}
+use Rattle.facts.specs.Rows.{Row, SetCovers, SpanCovers, SourceCovers}
+use Rattle.facts.specs.Requests.{Request, Write, Read}
+use Rattle.facts.specs.Duties.{one, touches, is_touched, MayBeSent, HasNeeds, Meets, duties}
+use Rattle.facts.specs.Edges.{Edge, edge, good_bits, bounds, loaded, status_source}
+use Rattle.facts.specs.Ticks.{frame_ticks}
+use Rattle.table_check.specs.Tables.{Table, row_of}
+use Rattle.table_check.specs.Rules.{PaysEnd}
+use Rattle.table_check.specs.Obligations.{Duty, AllHold, of_row, of_edges}
+use Rattle.table_check.specs.SmallTables.{two_rails, small_target, small_rail, entry, row_at}
+use Rattle.table_check.specs.SmallTables.{known_row, any_row, reported_row, a_word}
+use Rattle.table_check.proofs.SmallTables.KnownRows.{each_rail, is_zero, covers, Leads, leads}
+use Rattle.table_check.proofs.SmallTables.KnownRows.{pays_end}
+
+-- ---- duties
+
+-- a byte that is written to OPERATION
+pub turned : (row : Row) (i address value : ℕ)
+    → slice_get two_rails.targets i ≡ Some (small_target address)
+    → value ≤ 255 → IsTrue (is_operation_value value)
+    → MayBeSent two_rails row i (Write operation_code (written.Byte value))
+turned row i address value at small is = record {
+  target = small_target address;
+  at = at;
+  entry = entry WriteByte operation_code;
+  listed = refl;
+  in_entry = (omega arith, small);
+  known = ((λ e. cc), (λ e. cc), (λ e. is));
+}
+
+pub asked : (row : Row) → MayBeSent two_rails row 0 (Read status_word_code width.Word 0)
+asked row = record {
+  target = small_target 0x40;
+  at = refl;
+  entry = entry ReadWord status_word_code;
+  listed = refl;
+  in_entry = tt;
+  known = tt;
+}
+
+-- the first rail has no needs
+pub first_needs : (good : Set) (span : Span) (s : Source) (base : ℕ)
+    → HasNeeds two_rails (row_at good span s base) 0 (Write operation_code (written.Byte 0x80))
+first_needs good span s base same on d r rail =
+    each_rail
+    (λ d r. IsTrue (touches (row_at good span s base) 0 r)
+    → All (λ need. IsTrue (good need)) r.needs)
+    (λ touched. All-from_recursion (λ need. IsTrue (good need)) [] tt)
+    (λ touched. absurd (false≢true touched)) d r rail
+
+-- the second one needs the first
+pub second_needs : (good : Set) (span : Span) (s : Source) (base : ℕ) → IsTrue (good 0)
+    → HasNeeds two_rails (row_at good span s base) 1 (Write operation_code (written.Byte 0x80))
+second_needs good span s base first same on d r rail =
+    each_rail
+    (λ d r. IsTrue (touches (row_at good span s base) 1 r)
+    → All (λ need. IsTrue (good need)) r.needs)
+    (λ touched. absurd (false≢true touched))
+    (λ touched. All-from_recursion (λ need. IsTrue (good need)) (0 ∷ []) (first, tt)) d r rail
+
+-- ---- places
+
+-- five duties are met, and then two edges lead on
+abbrev Sends : List Instr → Table → ℕ → ℕ → Instr → Row → Edge → Edge → Type 0
+Sends p t place worst i row e f =
+    AllHold two_rails p t
+    (map (Duty place i row) duties ++ of_edges place worst (e ∷ f ∷ []))
+
+sends : (p : List Instr) (t : Table) (place worst : ℕ) (i : Instr) (row : Row) (e f : Edge)
+    → Meets two_rails row i K1 → Meets two_rails row i K2 → Meets two_rails row i K3
+    → Meets two_rails row i K4 → Meets two_rails row i K5 → Leads t worst e → Leads t worst f
+    → Sends p t place worst i row e f
+sends p t place worst i row e f k1 k2 k3 k4 k5 on off =
+    (k1, (k2, (k3, (k4, (k5, (on.0, (on.1, (off.0, (off.1, tt)))))))))
+
+-- the first rail is turned on
+pub first_on : (p : List Instr) (t : Table) (n m k fail : ℕ) → row_of t 1 ≡ Some (known_row m)
+    → row_of t fail ≡ Some (any_row k) → 86 + m ≤ n → 86 + k ≤ n
+    → AllHold two_rails p t
+    (of_row two_rails 0 (to.Write 0 operation_code (written.Byte 0x80) fail) (known_row n))
+unfolding frame_ticks
+first_on p t n m k fail next other enough more =
+    sends p t 0 86 (to.Write 0 operation_code (written.Byte 0x80) fail) (known_row n)
+    (edge 1 (known_row n)) (edge fail (known_row n))
+    (turned (known_row n) 0 0x40 0x80 refl (lit≤ tt) refl)
+    (λ paged reads. refl)
+    (λ writes protect stored. rw (is_zero protect stored) refl)
+    tt
+    (first_needs empty (one 0) source.None n)
+    (leads t 86 1 empty empty (one 0) (one 0) source.None source.None m n next
+    (covers empty empty (one 0) (one 0) source.None source.None m n (λ d x. x)
+    (lit≤ tt, lit≤ tt) (inl refl)) enough)
+    (leads t 86 fail empty empty a_word (one 0) source.None source.None k n other
+    (covers empty empty a_word (one 0) source.None source.None k n (λ d x. x)
+    (lit≤ tt, lit≤ tt) (inl refl)) more)
+
+-- it is asked for a report
+pub asks : (p : List Instr) (t : Table) (n m k fail : ℕ)
+    → row_of t 2 ≡ Some (reported_row empty m) → row_of t fail ≡ Some (any_row k) → 143 + m ≤ n
+    → 143 + k ≤ n
+    → AllHold two_rails p t
+    (of_row two_rails 1 (to.Read 0 status_word_code width.Word 0 fail) (known_row n))
+unfolding frame_ticks bounds loaded status_source
+asks p t n m k fail next other enough more =
+    sends p t 1 143 (to.Read 0 status_word_code width.Word 0 fail) (known_row n)
+    (edge 2 (reported_row empty n)) (edge fail (row_at empty (one 0) source.None n))
+    (asked (known_row n))
+    (λ paged reads. refl)
+    (λ writes protect stored. rw (is_zero protect stored) refl)
+    tt
+    tt
+    (leads t 143 2 empty empty a_word a_word (source.Status 0) (source.Status 0) m n next
+    (covers empty empty a_word a_word (source.Status 0) (source.Status 0) m n (λ d x. x)
+    (lit≤ tt, lit≤ tt) (inr refl)) enough)
+    (leads t 143 fail empty empty a_word (one 0) source.None source.None k n other
+    (covers empty empty a_word (one 0) source.None source.None k n (λ d x. x)
+    (lit≤ tt, lit≤ tt) (inl refl)) more)
+
+-- what it reports is looked at
+pub looks : (p : List Instr) (t : Table) (n m k : ℕ)
+    → row_of t 4 ≡ Some (reported_row (only 0) m) → row_of t 3 ≡ Some (any_row k) → 1 + m ≤ n
+    → 1 + k ≤ n
+    → AllHold two_rails p t (of_row two_rails 2 (to.If 0 good_bits 0 4) (reported_row empty n))
+looks p t n m k next other enough more =
+    sends p t 2 1 (to.If 0 good_bits 0 4) (reported_row empty n)
+    (edge 4 (reported_row (only 0) n)) (edge 3 (reported_row empty n)) tt tt tt tt tt
+    (leads t 1 4 (only 0) (only 0) a_word a_word (source.Status 0) (source.Status 0) m n next
+    (covers (only 0) (only 0) a_word a_word (source.Status 0) (source.Status 0) m n (λ d x. x)
+    (lit≤ tt, lit≤ tt) (inr refl)) enough)
+    (leads t 1 3 empty empty a_word a_word source.None (source.Status 0) k n other
+    (covers empty empty a_word a_word source.None (source.Status 0) k n (λ d x. x)
+    (lit≤ tt, lit≤ tt) (inl refl)) more)
+
+-- the second rail is turned on where the first one is good
+pub second_on : (p : List Instr) (t : Table) (n m k fail : ℕ) → row_of t 5 ≡ Some (any_row m)
+    → row_of t fail ≡ Some (any_row k) → 86 + m ≤ n → 86 + k ≤ n
+    → AllHold two_rails p t
+    (of_row two_rails 4 (to.Write 1 operation_code (written.Byte 0x80) fail)
+    (reported_row (only 0) n))
+unfolding frame_ticks
+second_on p t n m k fail next other enough more =
+    sends p t 4 86 (to.Write 1 operation_code (written.Byte 0x80) fail) (reported_row (only 0) n)
+    (edge 5 (reported_row (only 0) n)) (edge fail (reported_row (only 0) n))
+    (turned (reported_row (only 0) n) 1 0x41 0x80 refl (lit≤ tt) refl)
+    (λ paged reads. refl)
+    (λ writes protect stored. rw (is_zero protect stored) refl)
+    tt
+    (second_needs (only 0) a_word (source.Status 0) n refl)
+    (leads t 86 5 empty (only 0) a_word a_word source.None (source.Status 0) m n next
+    (covers empty (only 0) a_word a_word source.None (source.Status 0) m n
+    (λ d x. absurd (false≢true x)) (lit≤ tt, lit≤ tt) (inl refl)) enough)
+    (leads t 86 fail empty (only 0) a_word a_word source.None (source.Status 0) k n other
+    (covers empty (only 0) a_word a_word source.None (source.Status 0) k n
+    (λ d x. absurd (false≢true x)) (lit≤ tt, lit≤ tt) (inl refl)) more)
+
+-- the first rail is turned off, and is no longer good
+pub first_off : (p : List Instr) (t : Table) (n m k fail : ℕ) → row_of t 5 ≡ Some (any_row m)
+    → row_of t fail ≡ Some (any_row k) → 86 + m ≤ n → 86 + k ≤ n
+    → AllHold two_rails p t
+    (of_row two_rails 4 (to.Write 0 operation_code (written.Byte 0x00) fail)
+    (reported_row (only 0) n))
+unfolding frame_ticks
+first_off p t n m k fail next other enough more =
+    let left : Set = λ d. only 0 d && not (is_touched two_rails (reported_row (only 0) n) 0 d) in
+    sends p t 4 86 (to.Write 0 operation_code (written.Byte 0x00) fail) (reported_row (only 0) n)
+    (edge 5 (row_at left a_word source.None n)) (edge fail (row_at left a_word source.None n))
+    (turned (reported_row (only 0) n) 0 0x40 0x00 refl (lit≤ tt) refl)
+    (λ paged reads. refl)
+    (λ writes protect stored. rw (is_zero protect stored) refl)
+    tt
+    (λ same on. absurd (false≢true on))
+    (leads t 86 5 empty left a_word a_word source.None source.None m n next
+    (covers empty left a_word a_word source.None source.None m n
+    (λ d x. absurd (false≢true x)) (lit≤ tt, lit≤ tt) (inl refl)) enough)
+    (leads t 86 fail empty left a_word a_word source.None source.None k n other
+    (covers empty left a_word a_word source.None source.None k n
+    (λ d x. absurd (false≢true x)) (lit≤ tt, lit≤ tt) (inl refl)) more)
+
+-- an end
+pub ends : (p : List Instr) (t : Table) (place n : ℕ) → 1 ≤ n
+    → AllHold two_rails p t (of_row two_rails place to.End (any_row n))
+ends p t place n enough =
+    (tt, (tt, (tt, (tt, (tt, (pays_end empty a_word source.None n enough, tt))))))
+
+pub fails : (p : List Instr) (t : Table) (place n : ℕ) → 1 ≤ n
+    → AllHold two_rails p t (of_row two_rails place to.Fail (any_row n))
+fails p t place n enough =
+    (tt, (tt, (tt, (tt, (tt, (pays_end empty a_word source.None n enough, tt))))))
