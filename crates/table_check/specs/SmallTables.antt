@@ -34,7 +34,7 @@ abbrev pub small_target : ℕ → Target
 small_target address = record {
   address = address;
   pages = 1;
-  exponent = negsuc 11;
+  exponent = negsuc 11;  -- -12
   stretch = 0;
   alerts = false;
   start_pages = 0 ∷ [];
@@ -74,7 +74,7 @@ row_at good span s base = record {
 abbrev pub known_row : ℕ → Row
 known_row base = row_at empty (one 0) source.None base
 
--- a word as the first target's voltage
+-- a word as the first rail's voltage, in steps of 1/4096 volt: 4505 is within its limit, 4506 isn't
 abbrev pub voltage_program : ℕ → List Instr
 voltage_program word = Write 0 vout_command_code (written.Word word) 2 ∷ End ∷ Fail ∷ []
 
@@ -92,7 +92,8 @@ any_row base = row_at empty a_word source.None base
 abbrev pub reported_row : Set → ℕ → Row
 reported_row good base = row_at good a_word (source.Status 0) base
 
--- turns on the first rail, asks it whether it is good, and then turns on the second one
+-- turns on the first rail, asks for its status, and turns on the second one where the first reports
+-- good; else, and where a message isn't done, it fails
 abbrev pub ordered_program : List Instr
 ordered_program =
     Write 0 operation_code (written.Byte 0x80) 6
@@ -104,7 +105,7 @@ ordered_program =
     ∷ Fail
     ∷ []
 
--- the first rail is good where the second one is turned on
+-- the first rail is known to be good where the second one is turned on
 abbrev pub ordered_table : Table
 ordered_table =
     Some (known_row 317)
@@ -129,7 +130,7 @@ withdrawn_program =
     ∷ Fail
     ∷ []
 
--- no rail is good where the second one is turned on
+-- no rail is known to be good where the second one is turned on
 abbrev pub withdrawn_table : Table
 withdrawn_table =
     Some (known_row 1000)

@@ -1,14 +1,16 @@
 //! What holds of all tables: of their texts, and of the runs of a program with one.
 
+ghost use Rattle.facts.specs.declared.rule.Rule.TheVariants.{K5};
 ghost use Rattle.table_check.specs.ByPlace.{FollowingTablesTellDuties, InductiveByPlace};
 ghost use Rattle.table_check.specs.ByPlace.{ClosedTablesTellDutiesOrTicks};
+ghost use Rattle.table_check.specs.Obligations.{IsInductive, IsVerdict};
 ghost use Rattle.table_check.specs.SafeTables.{InductiveRunsAreSafe, VerdictsAreSafe};
-ghost use Rattle.table_check.specs.Obligations.{IsInductive};
 ghost use Rattle.table_check.specs.SmallTables.{two_rails, voltage_program, voltage_table};
 ghost use Rattle.table_check.specs.SmallTables.{ordered_program, ordered_table};
 ghost use Rattle.table_check.specs.SmallTables.{withdrawn_program, withdrawn_table};
 ghost use Rattle.table_check.specs.Tables.{Table};
 ghost use Rattle.table_check.specs.TextLaws.{TextsHaveOneTable, TablesHaveTexts, BoardsHaveTables};
+ghost use Rattle.table_check.specs.declared.verdict.Verdict.TheVariants.{Refused};
 
 use facts::{covered_rows_follow, steps_are_sound};
 use simulator::{safe_steps_are_safe_runs, steps_are_seen};
@@ -41,12 +43,14 @@ pub fn tables_have_texts()
     ensures case { BoardsHaveTables }
 {}
 
-/// Worked tables of facts. A voltage at most a rail's limit has a table that keeps the rule book
-/// with no tick to spare, and the next higher one has none.
+/// Worked tables of facts. A voltage within a rail's limit has a table that keeps the rule book,
+/// with no tick to spare; the voltage one bit over the limit has none. Two rails that are turned on
+/// in order, the second once the first reports good, have one too. Where the first is turned off in
+/// between, the verdict tells that a need of the second isn't good at the place that turns it on.
 pub fn small_tables_are_judged()
     ensures within { IsInductive two_rails (voltage_program 4505) (voltage_table 114) }
     ensures tight { IsInductive two_rails (voltage_program 4505) (voltage_table 113) → ⊥ }
     ensures over { (t : Table) → IsInductive two_rails (voltage_program 4506) t → ⊥ }
     ensures ordered { IsInductive two_rails ordered_program ordered_table }
-    ensures withdrawn { IsInductive two_rails withdrawn_program withdrawn_table → ⊥ }
+    ensures judged { IsVerdict two_rails withdrawn_program withdrawn_table (Refused 5 K5) }
 {}

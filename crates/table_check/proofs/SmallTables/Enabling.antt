@@ -1,13 +1,12 @@
 -- Places of programs that turn on rails, at rows of which the next ones know no more.
-use Rattle.std.proofs.Common.{◌≡◌, ◌≤◌, ◌<◌, ◌+◌, ◌*◌, ℕ, zero, suc, Some, None, List, [], ◌∷◌}
+use Rattle.std.proofs.Common.{◌≡◌, ◌≤◌, ◌+◌, ℕ, Some, List, [], ◌∷◌}
 use Rattle.std.proofs.Common.{slice_get}
-use Rattle.std.proofs.Common.{◌++◌, ◌&&◌, not, map, false, refl, inl, inr, arith, lit≤, lit<}
-use Rattle.std.specs.Prelude.{IsTrue, All, ◌==◌}
+use Rattle.std.proofs.Common.{◌++◌, ◌&&◌, not, map, refl, inl, inr, arith, lit≤}
+use Rattle.std.specs.Prelude.{IsTrue, All}
 use Rattle.std.proofs.lemmas.Bool.{false≢true}
 use Rattle.std.proofs.lemmas.List.Elements.{All-from_recursion}
 use Rattle.smbus.specs.declared.message.Form.TheVariants.{WriteByte, ReadWord}
 use Rattle.pmbus_table.specs.Codes.{operation_code, status_word_code}
-use Rattle.board.specs.Boards.{Rail}
 use Rattle.seq_program.specs.declared.instr.Instr.{Instr}
 use Rattle.seq_program.specs.declared.instr.Instr.TheVariants as to
 use Rattle.seq_program.specs.declared.instr.Width.TheVariants as width
@@ -18,15 +17,14 @@ use Rattle.facts.specs.declared.source.Source.{Source}
 use Rattle.facts.specs.declared.source.Source.TheVariants as source
 use Rattle.facts.specs.declared.span.Span.{Span}
 use Rattle.facts.specs.Sets.{Set, empty, only}
-use Rattle.facts.specs.Rows.{Row, SetCovers, SpanCovers, SourceCovers}
-use Rattle.facts.specs.Requests.{Request, Write, Read}
+use Rattle.facts.specs.Rows.{Row}
+use Rattle.facts.specs.Requests.{Write, Read}
 use Rattle.facts.specs.Duties.{one, touches, is_touched, MayBeSent, HasNeeds, Meets, duties}
 use Rattle.facts.specs.Edges.{Edge, edge, good_bits, bounds, loaded, status_source}
 use Rattle.facts.specs.Ticks.{frame_ticks}
 use Rattle.table_check.specs.Tables.{Table, row_of}
-use Rattle.table_check.specs.Rules.{PaysEnd}
 use Rattle.table_check.specs.Obligations.{Duty, AllHold, of_row, of_edges}
-use Rattle.table_check.specs.SmallTables.{two_rails, small_target, small_rail, entry, row_at}
+use Rattle.table_check.specs.SmallTables.{two_rails, small_target, entry, row_at}
 use Rattle.table_check.specs.SmallTables.{known_row, any_row, reported_row, a_word}
 use Rattle.table_check.proofs.SmallTables.KnownRows.{each_rail, is_zero, covers, Leads, leads}
 use Rattle.table_check.proofs.SmallTables.KnownRows.{pays_end}

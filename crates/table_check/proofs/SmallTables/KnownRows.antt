@@ -1,12 +1,12 @@
 -- Rows of the board with two rails: that they are rows, hold the starts, cover one another and pay.
-use Rattle.std.proofs.Common.{◌≡◌, ◌≤◌, ◌<◌, ◌+◌, ◌*◌, ◌⊎◌, ℕ, zero, suc, Some, List, [], ◌∷◌}
+use Rattle.std.proofs.Common.{◌≡◌, ◌≤◌, ◌<◌, ◌+◌, ℕ, zero, suc, Some, List, [], ◌∷◌}
 use Rattle.std.proofs.Common.{replicate, slice_get, slice_index, slice_index_or, refl, sym, subst}
 use Rattle.std.proofs.Common.{arith, inl, lit<, ◌∙◌}
 use Rattle.std.specs.Prelude.{IsTrue, All}
 use Rattle.std.proofs.lemmas.Bool.{eqb-true, false≢true}
 use Rattle.std.proofs.lemmas.List.Elements.{All-from_recursion}
 use Rattle.pmbus_table.specs.Protect.{is_protection}
-use Rattle.board.specs.Boards.{Target, Rail, Board}
+use Rattle.board.specs.Boards.{Target, Rail}
 use Rattle.board.specs.Valid.{is_page_value}
 use Rattle.targets.specs.States.{IsTargetAt}
 use Rattle.facts.specs.declared.source.Source.{Source}

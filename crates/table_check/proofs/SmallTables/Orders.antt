@@ -1,7 +1,6 @@
 -- Rails that are turned on in order, and a need that is withdrawn.
-use Rattle.std.proofs.Common.{◌≡◌, ◌≤◌, ◌<◌, ◌+◌, ◌*◌, ◌⊎◌, ℕ, Some, None, Option, List, [], ◌∷◌}
+use Rattle.std.proofs.Common.{◌≤◌, ◌+◌, ℕ, Some, Option, List, [], ◌∷◌}
 use Rattle.std.proofs.Common.{◌++◌, drop, refl, inl, inr, arith, lit≤, lit<}
-use Rattle.std.specs.Prelude.{IsTrue, All}
 use Rattle.std.proofs.lemmas.Bool.{false≢true, eqb-true}
 use Rattle.pmbus_table.specs.Codes.{operation_code, status_word_code}
 use Rattle.board.specs.Boards.{Board}
@@ -12,17 +11,20 @@ use Rattle.seq_program.specs.declared.instr.Written.TheVariants as written
 use Rattle.facts.specs.declared.rule.Rule.{Rule}
 use Rattle.facts.specs.declared.rule.Rule.TheVariants.{K5}
 use Rattle.facts.specs.declared.source.Source.TheVariants as source
-use Rattle.facts.specs.Sets.{Set, empty, only}
+use Rattle.facts.specs.Sets.{empty, only}
 use Rattle.facts.specs.Rows.{Row, IsRow, most_ticks}
+use Rattle.facts.specs.Requests.{Write}
+use Rattle.facts.specs.Duties.{HasNeeds}
 use Rattle.facts.specs.Edges.{good_bits}
 use Rattle.table_check.specs.Tables.{Table}
 use Rattle.table_check.specs.Obligations.{Obligation, Start, AllHold, IsInductive, IsFirstFault}
+use Rattle.table_check.specs.Obligations.{IsVerdict}
+use Rattle.table_check.specs.declared.verdict.Verdict.TheVariants.{Refused}
 use Rattle.table_check.specs.Obligations.{shapes, of_row, of_places}
-use Rattle.table_check.specs.SmallTables.{two_rails, small_rail, row_at, known_row, any_row}
+use Rattle.table_check.specs.SmallTables.{two_rails, small_rail, known_row, any_row}
 use Rattle.table_check.specs.SmallTables.{reported_row, a_word, ordered_program, ordered_table}
 use Rattle.table_check.specs.SmallTables.{withdrawn_program, withdrawn_table}
-use Rattle.table_check.proofs.ByPlace.{by_place}
-use Rattle.table_check.proofs.SmallTables.KnownRows.{is_row, is_known_row, holds_starts}
+use Rattle.table_check.proofs.SmallTables.KnownRows.{is_row, is_zero, is_known_row, holds_starts}
 use Rattle.table_check.proofs.SmallTables.Enabling.{first_on, asks, looks, second_on, first_off}
 use Rattle.table_check.proofs.SmallTables.Enabling.{ends, fails, turned}
 
@@ -114,11 +116,102 @@ in_order = (
 
 -- ---- out of order
 
-pub need_is_withdrawn : IsInductive two_rails withdrawn_program withdrawn_table → ⊥
-need_is_withdrawn keeps =
-    let both = (by_place two_rails withdrawn_program withdrawn_table).0 keeps in
-    let row = any_row 300 in
-    let needs =
-    both.1 5 (to.Write 1 operation_code (written.Byte 0x80) 7) row refl refl K5 refl refl
-    1 (small_rail 1 3300000 (0 ∷ [])) refl refl in
-    absurd (false≢true (needs 0 0 (lit< tt)))
+-- a fault further on
+past : (b : Board) (p : List Instr) (t : Table) (xs ys : List Obligation)
+    (found : Option (ℕ × Rule)) → AllHold b p t xs → IsFirstFault b p t ys found
+    → IsFirstFault b p t (xs ++ ys) found
+past b p t [] ys found h k = k
+past b p t (x ∷ xs) ys found h k = inl (h.0, past b p t xs ys found h.1 k)
+
+-- the places from one on have the fault that the second rail is turned on while its need isn't good
+abbrev Told : ℕ → Type 0
+Told place =
+    let p = withdrawn_program in
+    let t = withdrawn_table in
+    IsFirstFault two_rails p t (of_places two_rails place (drop place p) (drop place t))
+    (Some (5, K5))
+
+not_good : HasNeeds two_rails (any_row 300) 1 (Write operation_code (written.Byte 0x80)) → ⊥
+not_good needs =
+    absurd (false≢true (needs refl refl 1 (small_rail 1 3300000 (0 ∷ [])) refl refl 0 0 (lit< tt)))
+
+told_at_five : Told 5
+told_at_five =
+    inl (
+      turned (any_row 300) 1 0x41 0x80 refl (lit≤ tt) refl,
+      inl (
+        (λ paged reads. refl),
+        inl (
+          (λ writes protect stored. rw (is_zero protect stored) refl),
+          inl (
+            tt,
+            inr (not_good, refl),
+          ),
+        ),
+      ),
+    )
+
+further : (place : ℕ) (i : Instr) (is' : List Instr) (row : Row) (rows : Table)
+    → AllHold two_rails withdrawn_program withdrawn_table (of_row two_rails place i row)
+    → IsFirstFault two_rails withdrawn_program withdrawn_table
+    (of_places two_rails (place + 1) is' rows) (Some (5, K5))
+    → IsFirstFault two_rails withdrawn_program withdrawn_table
+    (of_places two_rails place (i ∷ is') (Some row ∷ rows)) (Some (5, K5))
+further place i is' row rows here rest =
+    past two_rails withdrawn_program withdrawn_table (of_row two_rails place i row)
+    (of_places two_rails (place + 1) is' rows) (Some (5, K5)) here rest
+
+told_at_three : Told 3
+told_at_three =
+    let p = withdrawn_program in
+    let t = withdrawn_table in
+    further 3 to.Fail (drop 4 p) (any_row 1) (drop 4 t) (fails p t 3 1 (lit≤ tt))
+    (further 4 (to.Write 0 operation_code (written.Byte 0x00) 7) (drop 5 p)
+    (reported_row (only 0) 500) (drop 5 t) (first_off p t 500 300 1 7 refl refl (lit≤ tt) (lit≤ tt))
+    told_at_five)
+
+told : Told 0
+told =
+    let p = withdrawn_program in
+    let t = withdrawn_table in
+    further 0 (to.Write 0 operation_code (written.Byte 0x80) 7) (drop 1 p) (known_row 1000)
+    (drop 1 t) (first_on p t 1000 800 1 7 refl refl (lit≤ tt) (lit≤ tt))
+    (further 1 (to.Read 0 status_word_code width.Word 0 7) (drop 2 p) (known_row 800)
+    (drop 2 t) (asks p t 800 600 1 7 refl refl (lit≤ tt) (lit≤ tt))
+    (further 2 (to.If 0 good_bits 0 4) (drop 3 p) (reported_row empty 600) (drop 3 t)
+    (looks p t 600 500 1 refl refl (lit≤ tt) (lit≤ tt)) told_at_three))
+
+rows_are_shaped : AllHold two_rails withdrawn_program withdrawn_table (shapes 0 withdrawn_table)
+rows_are_shaped = (
+  is_known_row 1000 (lit≤ tt),
+  (
+    is_known_row 800 (lit≤ tt),
+    (
+      is_reported_row 600 (lit≤ tt),
+      (
+        is_any_row 1 (lit≤ tt),
+        (
+          is_good_row 500 (lit≤ tt),
+          (
+            is_any_row 300 (lit≤ tt),
+            (is_any_row 1 (lit≤ tt), (is_any_row 1 (lit≤ tt), tt)),
+          ),
+        ),
+      ),
+    ),
+  ),
+)
+
+pub need_is_withdrawn : IsVerdict two_rails withdrawn_program withdrawn_table (Refused 5 K5)
+need_is_withdrawn =
+    let p = withdrawn_program in
+    let t = withdrawn_table in
+    let places = of_places two_rails 0 p t in (
+      Some (5, K5),
+      inl (
+        refl,
+        past two_rails p t (shapes 0 t) (Start ∷ places) (Some (5, K5))
+            rows_are_shaped (inl ((known_row 1000, refl, holds_starts 1000), told)),
+      ),
+      refl,
+    )

@@ -1,17 +1,17 @@
 -- A voltage within its limit, and one over it.
-use Rattle.std.proofs.Common.{◌≡◌, ◌≤◌, ◌<◌, ◌+◌, ◌*◌, ℕ, zero, suc, Some, List, [], ◌∷◌}
-use Rattle.std.proofs.Common.{refl, sym, subst, inl, arith, lit≤, lit<, rules, replicate}
-use Rattle.std.specs.Prelude.{IsTrue, All, ◌==◌}
+use Rattle.std.proofs.Common.{◌≡◌, ℕ, Some, []}
+use Rattle.std.proofs.Common.{refl, subst, inl, arith, lit≤, lit<, rules, replicate}
+use Rattle.std.specs.Prelude.{IsTrue}
 use Rattle.std.proofs.lemmas.Bool.{or_left, false≢true}
 use Rattle.smbus.specs.declared.message.Form.TheVariants.{WriteWord}
 use Rattle.pmbus_table.specs.Codes.{vout_command_code}
-use Rattle.pmbus_table.specs.Voltage.{IsWithin, carries_voltage}
+use Rattle.pmbus_table.specs.Voltage.{IsWithin}
 use Rattle.seq_program.specs.declared.instr.Instr.TheVariants as to
 use Rattle.seq_program.specs.declared.instr.Written.TheVariants as written
 use Rattle.facts.specs.declared.rule.Rule.TheVariants.{K4}
 use Rattle.facts.specs.declared.source.Source.TheVariants as source
 use Rattle.facts.specs.Sets.{empty, all_pages}
-use Rattle.facts.specs.Rows.{set_at, most_ticks}
+use Rattle.facts.specs.Rows.{set_at}
 use Rattle.facts.specs.Requests.{Write}
 use Rattle.facts.specs.Duties.{one, touches, MayBeSent, IsWithinLimits}
 use Rattle.facts.specs.Edges.{edge}

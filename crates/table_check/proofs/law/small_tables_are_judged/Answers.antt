@@ -15,5 +15,5 @@ returns-clause-over c = over_the_limit
 pub returns-clause-ordered : goal.returns-clause-ordered
 returns-clause-ordered c = in_order
 
-pub returns-clause-withdrawn : goal.returns-clause-withdrawn
-returns-clause-withdrawn c = need_is_withdrawn
+pub returns-clause-judged : goal.returns-clause-judged
+returns-clause-judged c = need_is_withdrawn
