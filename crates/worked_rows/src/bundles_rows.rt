@@ -2,13 +2,17 @@
 
 use bundles::{Answers, BundleFault, answer_line_of, answers_in, read_bundle};
 use std::alloc::Global;
+use std::process::Abort;
 use std::test::*;
 use texts::{ReadError, lines_of};
 
 /// What a line answers, but for the slots that it holds.
 type Answered = (Option<u16>, u16, &'static [u8], bool, u16);
 
-const LINES: [(&str, &[u16], Answered); 16] = [
+/// A line, the slots that it holds, and what else it answers.
+type AnswerRow = (&'static str, &'static [u16], Answered);
+
+const LINES: [AnswerRow; 16] = [
     ("-", &[], (None, 0, &[], false, 0)),
     ("holds=0:0", &[0], (None, 0, &[], false, 0)),
     (
@@ -39,18 +43,28 @@ const LINES: [(&str, &[u16], Answered); 16] = [
     ),
 ];
 
-#[test]
-fn answer_lines(rt: HostRuntime) -> Result<(), Fail> {
-    for (line, holds, (refuse, value, bytes, took, alerts)) in LINES {
-        let answer = answer_line_of(rt.alloc(), 7, line)?;
-        assert_eq!(rt; answer.holds.as_slice(), holds, "{line}");
-        assert_eq!(rt; answer.refuse, refuse, "{line}");
-        assert_eq!(rt; answer.value, value, "{line}");
-        assert_eq!(rt; answer.bytes.as_slice(), bytes, "{line}");
-        assert_eq!(rt; answer.took, took, "{line}");
-        assert_eq!(rt; answer.alerts, alerts, "{line}");
+fn says(rt: &impl Abort, alloc: Global, row: AnswerRow) -> Result<(), Fail> {
+    let (line, holds, (refuse, value, bytes, took, alerts)) = row;
+    let answer = answer_line_of(alloc, 7, line)?;
+    assert_eq!(rt; answer.holds.as_slice(), holds, "{line}");
+    assert_eq!(rt; answer.refuse, refuse, "{line}");
+    assert_eq!(rt; answer.value, value, "{line}");
+    assert_eq!(rt; answer.bytes.as_slice(), bytes, "{line}");
+    assert_eq!(rt; answer.took, took, "{line}");
+    assert_eq!(rt; answer.alerts, alerts, "{line}");
+    Ok(())
+}
+
+fn all_say(rt: &impl Abort, alloc: Global, rows: &[AnswerRow]) -> Result<(), Fail> {
+    for row in rows {
+        says(rt, alloc, *row)?;
     }
     Ok(())
+}
+
+#[test]
+fn answer_lines(rt: HostRuntime) -> Result<(), Fail> {
+    all_say(&rt, rt.alloc(), &LINES)
 }
 
 #[test]
@@ -105,12 +119,16 @@ const BAD_LINES: [&str; 41] = [
     "form=send",
 ];
 
-#[test]
-fn bad_answer_lines(rt: HostRuntime) {
-    for line in BAD_LINES {
-        let fault = answer_line_of(rt.alloc(), 7, line).err();
+fn all_are_bad(rt: &impl Abort, alloc: Global, lines: &[&str]) {
+    for line in lines {
+        let fault = answer_line_of(alloc, 7, line).err();
         assert_eq!(rt; fault, Some(BundleFault::BadAnswer(7).error()), "{line}");
     }
+}
+
+#[test]
+fn bad_answer_lines(rt: HostRuntime) {
+    all_are_bad(&rt, rt.alloc(), &BAD_LINES);
 }
 
 /// The answers of the lines of a bundle for a run.
@@ -184,17 +202,26 @@ const BAD_SECTIONS: [(&str, usize); 17] = [
     ("\nstart 0G 00\nvalue=4G\n", 5),
 ];
 
-#[test]
-fn bad_sections(rt: HostRuntime) -> Result<(), Fail> {
-    for (below, line) in BAD_SECTIONS {
-        let text = format!(in rt.alloc(); "%run\n%board\n%program\n%answers{below}")?;
-        let lines = lines_of(rt.alloc(), &text)?;
-        let fault = answers_of(rt.alloc(), &lines).err();
-        assert_eq!(rt;
-            fault,
-            Some(BundleFault::BadAnswer(line).error()),
-            "{below}"
-        );
+fn has_fault(rt: &impl Abort, alloc: Global, below: &str, line: usize) -> Result<(), Fail> {
+    let text = format!(in alloc; "%run\n%board\n%program\n%answers{below}")?;
+    let lines = lines_of(alloc, &text)?;
+    let fault = answers_of(alloc, &lines).err();
+    assert_eq!(rt;
+        fault,
+        Some(BundleFault::BadAnswer(line).error()),
+        "{below}"
+    );
+    Ok(())
+}
+
+fn all_have_faults(rt: &impl Abort, alloc: Global, rows: &[(&str, usize)]) -> Result<(), Fail> {
+    for (below, line) in rows {
+        has_fault(rt, alloc, below, *line)?;
     }
     Ok(())
+}
+
+#[test]
+fn bad_sections(rt: HostRuntime) -> Result<(), Fail> {
+    all_have_faults(&rt, rt.alloc(), &BAD_SECTIONS)
 }

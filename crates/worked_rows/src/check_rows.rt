@@ -3,6 +3,7 @@
 use crate::boards::TWO;
 use session::{Status, session};
 use std::alloc::{AllocError, Global};
+use std::process::Abort;
 use std::test::Fail;
 
 /// What stands in the tables below for lines that are the same in each row.
@@ -116,15 +117,24 @@ const CHANGES: [(&str, &str, &str); 16] = [
     ("ticks 50 ", "ticks 050 ", "fault table 2 BadLine 19\n"),
 ];
 
-#[test]
-fn changed_tables(rt: HostRuntime) -> Result<(), Fail> {
-    let table = table_of(rt.alloc(), COUNTED_TABLE)?;
-    for (old, new, want) in CHANGES {
-        let changed = table.replace(rt.alloc(), old, new)?;
-        let (_, output) = checked(rt.alloc(), COUNTED, &changed)?;
+fn all_change(
+    rt: &impl Abort,
+    alloc: Global,
+    table: &str,
+    rows: &[(&str, &str, &str)],
+) -> Result<(), Fail> {
+    for (old, new, want) in rows {
+        let changed = table.replace(alloc, old, new)?;
+        let (_, output) = checked(alloc, COUNTED, &changed)?;
         assert_eq!(rt; output.as_slice(), want.as_bytes(), "{new}");
     }
     Ok(())
+}
+
+#[test]
+fn changed_tables(rt: HostRuntime) -> Result<(), Fail> {
+    let table = table_of(rt.alloc(), COUNTED_TABLE)?;
+    all_change(&rt, rt.alloc(), &table, &CHANGES)
 }
 
 const VOLTAGE: &str = "write a VOUT_COMMAND 4505 else bad\nend\nbad:\nfail";

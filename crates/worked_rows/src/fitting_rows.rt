@@ -35,17 +35,17 @@ const SILENCES: [(Silent, bool); 9] = [
     ((&[], None, 0, &[], false, 4), false),
 ];
 
-fn compare_silences(rt: &impl Abort, alloc: Global, board: &Board) {
-    for (silent, want) in SILENCES {
-        let is_fitting = silence_fits(alloc, board, silent);
-        assert_eq!(rt; is_fitting, Ok(want), "{silent:?}");
+fn compare_silences(rt: &impl Abort, alloc: Global, board: &Board, rows: &[(Silent, bool)]) {
+    for (silent, want) in rows {
+        let is_fitting = silence_fits(alloc, board, *silent);
+        assert_eq!(rt; is_fitting, Ok(*want), "{silent:?}");
     }
 }
 
 #[test]
 fn targets_alert_where_nothing_is_sent(rt: HostRuntime) -> Result<(), Fail> {
     let board = range_board(rt.alloc())?;
-    compare_silences(&rt, rt.alloc(), &board);
+    compare_silences(&rt, rt.alloc(), &board, &SILENCES);
     Ok(())
 }
 
@@ -83,12 +83,12 @@ const WRITES: [Asked; 6] = [
     (0, Form::BlockWrite, 0xD0, &[1, 2]),
 ];
 
-fn compare_writes(rt: &impl Abort, alloc: Global, board: &Board) {
-    for asked in WRITES {
+fn compare_writes(rt: &impl Abort, alloc: Global, board: &Board, messages: &[Asked]) {
+    for asked in messages {
         let rows = [
-            (asked, 0, b"".as_slice(), true),
-            (asked, 1, b"", false),
-            (asked, 0, b"a", false),
+            (*asked, 0, b"".as_slice(), true),
+            (*asked, 1, b"", false),
+            (*asked, 0, b"a", false),
         ];
         compare_returned(rt, alloc, board, &rows);
     }
@@ -97,7 +97,7 @@ fn compare_writes(rt: &impl Abort, alloc: Global, board: &Board) {
 #[test]
 fn writes_return_nothing(rt: HostRuntime) -> Result<(), Fail> {
     let board = range_board(rt.alloc())?;
-    compare_writes(&rt, rt.alloc(), &board);
+    compare_writes(&rt, rt.alloc(), &board, &WRITES);
     Ok(())
 }
 

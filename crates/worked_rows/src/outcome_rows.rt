@@ -32,7 +32,9 @@ const STATUS: Asked = (0, Form::ReadWord, 0x79, &[]);
 const REFUSES_ADDRESS: Said = (Some(0), None, false);
 
 /// What is asked, what the answer says, the number and the block that it returns, and how it ends.
-const ENDS: [(Asked, Said, u16, &[u8], Outcome); 18] = [
+type End = (Asked, Said, u16, &'static [u8], Outcome);
+
+const ENDS: [End; 18] = [
     (
         (0, Form::Quick(true), 0, &[]),
         DONE,
@@ -149,10 +151,10 @@ const ENDS: [(Asked, Said, u16, &[u8], Outcome); 18] = [
     ),
 ];
 
-fn compare_ends(rt: &impl Abort, alloc: Global, board: &Board) {
-    for (asked, said, value, bytes, want) in ENDS {
-        let end = ended(alloc, board, asked, said, value, bytes);
-        assert_eq!(rt; end, Ok((true, want)), "{asked:?} {said:?}");
+fn compare_ends(rt: &impl Abort, alloc: Global, board: &Board, rows: &[End]) {
+    for (asked, said, value, bytes, want) in rows {
+        let end = ended(alloc, board, *asked, *said, *value, bytes);
+        assert_eq!(rt; end, Ok((true, *want)), "{asked:?} {said:?}");
     }
 }
 
@@ -160,7 +162,7 @@ fn compare_ends(rt: &impl Abort, alloc: Global, board: &Board) {
 #[test]
 fn messages_end_as_answered(rt: HostRuntime) -> Result<(), Fail> {
     let board = range_board(rt.alloc())?;
-    compare_ends(&rt, rt.alloc(), &board);
+    compare_ends(&rt, rt.alloc(), &board, &ENDS);
     Ok(())
 }
 

@@ -151,20 +151,26 @@ const POLL: &str = "write a OPERATION 0x80 else bad\ncount c0 TURNS\npoll:\n\
     read a STATUS_WORD r0 else next\nif r0 0x0840 0x0000 good\nnext:\nwait 1000\nagain c0 poll\n\
     fail\ngood:\nwrite b OPERATION 0x80 else bad\nend\nbad:\nfail";
 
-#[test]
-fn polls_are_found(rt: HostRuntime) -> Result<(), Fail> {
-    for turns in [1, 2, 3, 7, 10, 50, 100, 999, 1000] {
-        let number = format!(in rt.alloc(); "{turns}")?;
-        let program = POLL.replace(rt.alloc(), "TURNS", &number)?;
-        let least = 1146 * (turns + 1) + 88;
-        match bound_of(rt.alloc(), TWO, &program)? {
-            Some(bound) => {
-                assert!(rt; least <= bound && bound <= 2 * least, "{turns}");
-            }
-            None => assert!(rt; false, "{turns}"),
-        }
+/// A poll of so many turns is accepted, with a bound that is at most twice the least.
+fn poll_is_found(rt: &impl Abort, alloc: Global, turns: u16) -> Result<(), Fail> {
+    let number = format!(in alloc; "{turns}")?;
+    let program = POLL.replace(alloc, "TURNS", &number)?;
+    let bound = bound_of(alloc, TWO, &program)?.unwrap_or(0);
+    let least = 1146 * (u64::from(turns) + 1) + 88;
+    assert!(rt; least <= bound && bound <= 2 * least, "{turns}");
+    Ok(())
+}
+
+fn polls_of(rt: &impl Abort, alloc: Global, turns: &[u16]) -> Result<(), Fail> {
+    for count in turns {
+        poll_is_found(rt, alloc, *count)?;
     }
     Ok(())
+}
+
+#[test]
+fn polls_are_found(rt: HostRuntime) -> Result<(), Fail> {
+    polls_of(&rt, rt.alloc(), &[1, 2, 3, 7, 10, 50, 100, 999, 1000])
 }
 
 const RAMP: &str = "set r2 3033\ncount c0 100\nloop:\nwrite a VOUT_COMMAND r2 else bad\n\
@@ -192,28 +198,46 @@ const LOOPS: [&str; 4] = [
         above r0 4095 out\nagain c0 loop\nfail\nout:\nend",
 ];
 
-#[test]
-fn loops_are_found(rt: HostRuntime) -> Result<(), Fail> {
-    for program in LOOPS {
-        assert!(rt; bound_of(rt.alloc(), TWO, program)?.is_some(), "{program}");
+fn all_are_accepted(rt: &impl Abort, alloc: Global, programs: &[&str]) -> Result<(), Fail> {
+    for program in programs {
+        assert!(rt; bound_of(alloc, TWO, program)?.is_some(), "{program}");
     }
     Ok(())
+}
+
+#[test]
+fn loops_are_found(rt: HostRuntime) -> Result<(), Fail> {
+    all_are_accepted(&rt, rt.alloc(), &LOOPS)
+}
+
+/// What `%check` prints for a program with a table.
+fn checked(
+    alloc: Global,
+    board: &str,
+    program: &str,
+    table: &[u8],
+) -> Result<(Status, Vec<u8>), AllocError> {
+    let table = str::from_utf8(table).unwrap_or("");
+    let bundle = format!(in alloc; "%check\n%board\n{board}%program\n{program}\n%table\n{table}")?;
+    let mut output = Vec::new(alloc);
+    let status = session(alloc, &mut bundle.as_bytes(), &mut output);
+    Ok((status, output))
 }
 
 #[test]
 fn a_found_table_is_accepted(rt: HostRuntime) -> Result<(), Fail> {
     let board = pages_text(rt.alloc())?;
     let program = ON_PAGES[1].0;
-    let (status, table) = told(rt.alloc(), "%find", &board, program)?;
-    assert!(rt; status == Status::Accepted);
-    let table = str::from_utf8(&table).unwrap_or("");
-    let bundle = format!(in rt.alloc();
-        "%check\n%board\n{board}%program\n{program}\n%table\n{table}"
-    )?;
-    let mut output = Vec::new(rt.alloc());
-    let status = session(rt.alloc(), &mut bundle.as_bytes(), &mut output);
+    let (found, table) = told(rt.alloc(), "%find", &board, program)?;
+    assert!(rt; found == Status::Accepted);
+    let (status, output) = checked(rt.alloc(), &board, program, &table)?;
     assert!(rt; status == Status::Accepted);
     assert_eq!(rt; output.as_slice(), b"accepted bound 290\n".as_slice());
+    Ok(())
+}
+
+#[test]
+fn a_loop_without_end_is_given_up(rt: HostRuntime) -> Result<(), Fail> {
     let (status, output) = told(rt.alloc(), "%find", TWO, "spin:\ngoto spin\nend")?;
     assert!(rt; status == Status::Refused);
     assert_eq!(rt; output.as_slice(), b"gave up place 0\n".as_slice());

@@ -5,6 +5,7 @@ mod devices;
 use session::{Status, outcome_line, session};
 use smbus::{Answer, Form, Message};
 use std::alloc::{AllocError, Global};
+use std::process::Abort;
 use std::test::*;
 
 /// A message, the frame and the outcome that are printed, and the number of samples between them.
@@ -78,6 +79,30 @@ fn word_outcome(
     outcome_line(alloc, &message, &answer, cut)
 }
 
+/// Tries what a session over a bundle prints, and its status.
+fn prints(rt: &impl Abort, alloc: Global, bundle: &str, status: Status, want: &str) {
+    let mut output = Vec::new(alloc);
+    let ended = session(alloc, &mut bundle.as_bytes(), &mut output);
+    assert_eq!(rt; ended, status, "{bundle}");
+    assert_eq!(rt; output.as_slice(), want.as_bytes(), "{bundle}");
+}
+
+/// Tries bundles that end with a fault of the input.
+fn all_fault(rt: &impl Abort, alloc: Global, rows: &[(&str, &str)]) {
+    for (bundle, want) in rows {
+        prints(rt, alloc, bundle, Status::InputFault, want);
+    }
+}
+
+/// Tries the frames of messages.
+fn all_frame(rt: &impl Abort, alloc: Global, rows: &[(&str, &str)]) -> Result<(), Fail> {
+    for (message, want) in rows {
+        let bundle = format!(in alloc; "%frame\r\n\n%message\n# a comment\n  \n{message}")?;
+        prints(rt, alloc, &bundle, Status::Accepted, want);
+    }
+    Ok(())
+}
+
 #[test]
 fn outcomes(rt: HostRuntime) -> Result<(), Fail> {
     for (refuse, cut, want) in [
@@ -93,44 +118,28 @@ fn outcomes(rt: HostRuntime) -> Result<(), Fail> {
 
 #[test]
 fn messages(rt: HostRuntime) -> Result<(), Fail> {
-    for (message, want) in MESSAGES {
-        let bundle = format!(in rt.alloc(); "%frame\r\n\n%message\n# a comment\n  \n{message}")?;
-        let mut output = Vec::new(rt.alloc());
-        let status = session(rt.alloc(), &mut bundle.as_bytes(), &mut output);
-        assert_eq!(rt; status, Status::Accepted, "{message}");
-        assert_eq!(rt; output.as_slice(), want.as_bytes(), "{message}");
-    }
-    Ok(())
+    all_frame(&rt, rt.alloc(), &MESSAGES)
 }
+
+/// Messages to the alert response address.
+const ALERTS: [(&str, &str); 2] = [
+    (
+        "form=alert address=0C value=42",
+        "S 19A 42N P\nsamples 40\ndone 0042\n",
+    ),
+    (
+        "form=alert address=0C refuse=0",
+        "S 19N P\nsamples 22\nnak\n",
+    ),
+];
 
 #[test]
 fn alerts(rt: HostRuntime) -> Result<(), Fail> {
-    for (message, want) in [
-        (
-            "form=alert address=0C value=42",
-            "S 19A 42N P\nsamples 40\ndone 0042\n",
-        ),
-        (
-            "form=alert address=0C refuse=0",
-            "S 19N P\nsamples 22\nnak\n",
-        ),
-        ("form=alert address=40", "fault bundle 6 BadMessage 3\n"),
-        ("form=receive address=0C", "fault bundle 6 BadMessage 3\n"),
-        (
-            "form=alert address=0C code=00",
-            "fault bundle 6 BadMessage 3\n",
-        ),
-    ] {
-        let bundle = format!(in rt.alloc(); "%frame\n%message\n{message}")?;
-        let mut output = Vec::new(rt.alloc());
-        session(rt.alloc(), &mut bundle.as_bytes(), &mut output);
-        assert_eq!(rt; output.as_slice(), want.as_bytes(), "{message}");
-    }
-    Ok(())
+    all_frame(&rt, rt.alloc(), &ALERTS)
 }
 
 /// Inputs with a fault, and what is printed.
-const FAULTS: [(&str, &str); 12] = [
+const FAULTS: [(&str, &str); 15] = [
     ("", "fault bundle 1 NoCommand\n"),
     ("\n", "fault bundle 3 UnknownCommand\n"),
     ("%stop\n", "fault bundle 3 UnknownCommand\n"),
@@ -164,16 +173,23 @@ const FAULTS: [(&str, &str); 12] = [
         "%frame\n%message\nform=writeword address=40 code=21 out=99\n",
         "fault frame 3 BadData\n",
     ),
+    (
+        "%frame\n%message\nform=alert address=40",
+        "fault bundle 6 BadMessage 3\n",
+    ),
+    (
+        "%frame\n%message\nform=receive address=0C",
+        "fault bundle 6 BadMessage 3\n",
+    ),
+    (
+        "%frame\n%message\nform=alert address=0C code=00",
+        "fault bundle 6 BadMessage 3\n",
+    ),
 ];
 
 #[test]
 fn faults(rt: HostRuntime) {
-    for (bundle, want) in FAULTS {
-        let mut output = Vec::new(rt.alloc());
-        let status = session(rt.alloc(), &mut bundle.as_bytes(), &mut output);
-        assert_eq!(rt; status, Status::InputFault, "{bundle}");
-        assert_eq!(rt; output.as_slice(), want.as_bytes(), "{bundle}");
-    }
+    all_fault(&rt, rt.alloc(), &FAULTS);
 }
 
 /// Bundles for a run whose sections aren't as they must be, and what is printed.
@@ -197,12 +213,7 @@ const SECTIONS: [(&str, &str); 6] = [
 
 #[test]
 fn sections_of_a_run(rt: HostRuntime) {
-    for (bundle, want) in SECTIONS {
-        let mut output = Vec::new(rt.alloc());
-        let status = session(rt.alloc(), &mut bundle.as_bytes(), &mut output);
-        assert_eq!(rt; status, Status::InputFault, "{bundle}");
-        assert_eq!(rt; output.as_slice(), want.as_bytes(), "{bundle}");
-    }
+    all_fault(&rt, rt.alloc(), &SECTIONS);
 }
 
 #[test]
@@ -296,16 +307,23 @@ fail ticks 108
     ),
 ];
 
-#[test]
-fn traces(rt: HostRuntime) -> Result<(), Fail> {
-    for (program, answers, want) in TRACES {
-        let bundle = run_bundle(rt.alloc(), ALERTING, program, answers)?;
-        let mut output = Vec::new(rt.alloc());
-        let status = session(rt.alloc(), &mut bundle.as_bytes(), &mut output);
-        assert_eq!(rt; status, Status::Accepted, "{program}{answers}");
-        assert_eq!(rt; output.as_slice(), want.as_bytes(), "{program}{answers}");
+/// Tries runs of programs under their answers.
+fn all_run(
+    rt: &impl Abort,
+    alloc: Global,
+    status: Status,
+    rows: &[(&str, &str, &str)],
+) -> Result<(), Fail> {
+    for (program, answers, want) in rows {
+        let bundle = run_bundle(alloc, ALERTING, program, answers)?;
+        prints(rt, alloc, &bundle, status, want);
     }
     Ok(())
+}
+
+#[test]
+fn traces(rt: HostRuntime) -> Result<(), Fail> {
+    all_run(&rt, rt.alloc(), Status::Accepted, &TRACES)
 }
 
 /// A program, its answers, and the fault. The program stands below line 35 of the bundle.
@@ -357,14 +375,7 @@ const RUN_FAULTS: [(&str, &str, &str); 10] = [
 
 #[test]
 fn faults_of_runs(rt: HostRuntime) -> Result<(), Fail> {
-    for (program, answers, want) in RUN_FAULTS {
-        let bundle = run_bundle(rt.alloc(), ALERTING, program, answers)?;
-        let mut output = Vec::new(rt.alloc());
-        let status = session(rt.alloc(), &mut bundle.as_bytes(), &mut output);
-        assert_eq!(rt; status, Status::InputFault, "{program}{answers}");
-        assert_eq!(rt; output.as_slice(), want.as_bytes(), "{program}{answers}");
-    }
-    Ok(())
+    all_run(&rt, rt.alloc(), Status::InputFault, &RUN_FAULTS)
 }
 
 /// A board, and its fault; it comes before those of the other sections.
@@ -374,14 +385,15 @@ const BOARDS: [(&str, &str); 3] = [
     ("target = []", "fault board 3 MissingKey\n"),
 ];
 
-#[test]
-fn faults_of_boards(rt: HostRuntime) -> Result<(), Fail> {
-    for (board, want) in BOARDS {
-        let bundle = run_bundle(rt.alloc(), board, "jump", "stop")?;
-        let mut output = Vec::new(rt.alloc());
-        let status = session(rt.alloc(), &mut bundle.as_bytes(), &mut output);
-        assert_eq!(rt; status, Status::InputFault, "{board}");
-        assert_eq!(rt; output.as_slice(), want.as_bytes(), "{board}");
+fn all_boards_fault(rt: &impl Abort, alloc: Global, rows: &[(&str, &str)]) -> Result<(), Fail> {
+    for (board, want) in rows {
+        let bundle = run_bundle(alloc, board, "jump", "stop")?;
+        prints(rt, alloc, &bundle, Status::InputFault, want);
     }
     Ok(())
+}
+
+#[test]
+fn faults_of_boards(rt: HostRuntime) -> Result<(), Fail> {
+    all_boards_fault(&rt, rt.alloc(), &BOARDS)
 }

@@ -135,12 +135,20 @@ const PLAIN: [(Asked, u16, &str, usize); 8] = [
     ((Form::Alert, 0, &[]), 0x42, "S 19A 42N P", 40),
 ];
 
-#[test]
-fn forms_without_a_block(rt: HostRuntime) -> Result<(), Fail> {
-    for (asked, value, text, samples) in PLAIN {
-        shows_done(&rt, rt.alloc(), asked, (value, &[]), (text, samples))?;
+fn all_show_done(
+    rt: &impl Abort,
+    alloc: Global,
+    rows: &[(Asked, u16, &'static str, usize)],
+) -> Result<(), Fail> {
+    for (asked, value, text, samples) in rows {
+        shows_done(rt, alloc, *asked, (*value, &[]), (text, *samples))?;
     }
     Ok(())
+}
+
+#[test]
+fn forms_without_a_block(rt: HostRuntime) -> Result<(), Fail> {
+    all_show_done(&rt, rt.alloc(), &PLAIN)
 }
 
 #[test]
@@ -203,13 +211,17 @@ const BROKEN: [BrokenFrame; 7] = [
     ),
 ];
 
-#[test]
-fn refused_and_cut(rt: HostRuntime) -> Result<(), Fail> {
-    for (asked, value, how, want) in BROKEN {
-        let answer = broken(rt.alloc(), value, how)?;
-        shows(&rt, rt.alloc(), asked, &answer, want)?;
+fn all_show_broken(rt: &impl Abort, alloc: Global, rows: &[BrokenFrame]) -> Result<(), Fail> {
+    for (asked, value, how, want) in rows {
+        let answer = broken(alloc, *value, *how)?;
+        shows(rt, alloc, *asked, &answer, *want)?;
     }
     Ok(())
+}
+
+#[test]
+fn refused_and_cut(rt: HostRuntime) -> Result<(), Fail> {
+    all_show_broken(&rt, rt.alloc(), &BROKEN)
 }
 
 /// A Block Write of 255 bytes, each of them 0.
@@ -280,12 +292,16 @@ const STRAYS: [(&[Event], Option<ObserveFault>); 6] = [
     (&[], None),
 ];
 
+fn all_stray(rt: &impl Abort, alloc: Global, rows: &[(&[Event], Option<ObserveFault>)]) {
+    for (events, want) in rows {
+        let fault = observe(alloc, events).err();
+        assert_eq!(rt; fault, *want, "{events:?}");
+    }
+}
+
 #[test]
 fn places_of_stray_events(rt: HostRuntime) {
-    for (events, want) in STRAYS {
-        let fault = observe(rt.alloc(), events).err();
-        assert_eq!(rt; fault, want, "{events:?}");
-    }
+    all_stray(&rt, rt.alloc(), &STRAYS);
     assert_eq!(rt; ObserveFault::NotFrames(3).number(), 2);
     assert_eq!(rt; ObserveFault::NotFrames(3).name(), "NotFrames");
 }

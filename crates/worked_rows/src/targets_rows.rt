@@ -59,7 +59,9 @@ fn may_start(
 }
 
 /// The pages, the protections and who alerts, and whether a run may start so.
-const STARTS: [(&[u8], &[u8], u16, bool); 5] = [
+type Start = (&'static [u8], &'static [u8], u16, bool);
+
+const STARTS: [Start; 5] = [
     (&[0, 0], &[0, 0], 0, true),
     (&[1, 0], &[0, 0], 0, false),
     (&[0, 0], &[0, 0x80], 0, false),
@@ -67,17 +69,17 @@ const STARTS: [(&[u8], &[u8], u16, bool); 5] = [
     (&[0], &[0], 0, false),
 ];
 
-fn compare_starts(rt: &impl Abort, alloc: Global, board: &Board) {
-    for (pages, protects, alerting, want) in STARTS {
-        let is_start = may_start(alloc, board, pages, protects, alerting);
-        assert_eq!(rt; is_start, Ok(want), "{pages:?} {protects:?} {alerting}");
+fn compare_starts(rt: &impl Abort, alloc: Global, board: &Board, rows: &[Start]) {
+    for (pages, protects, alerting, want) in rows {
+        let is_start = may_start(alloc, board, pages, protects, *alerting);
+        assert_eq!(rt; is_start, Ok(*want), "{pages:?} {protects:?} {alerting}");
     }
 }
 
 #[test]
 fn runs_start_where_the_board_says(rt: HostRuntime) -> Result<(), Fail> {
     let board = range_board(rt.alloc())?;
-    compare_starts(&rt, rt.alloc(), &board);
+    compare_starts(&rt, rt.alloc(), &board, &STARTS);
     Ok(())
 }
 
@@ -100,7 +102,9 @@ fn respond(
 }
 
 /// Who alerts, the refused byte and the value of an answer, and what becomes of it.
-const RESPONSES: [(u16, Option<u16>, u16, Responded); 5] = [
+type Response = (u16, Option<u16>, u16, Responded);
+
+const RESPONSES: [Response; 5] = [
     (3, None, 0x42, (true, 1, Outcome::Done(0x42))),
     (3, None, 0x80, (false, 1, Outcome::Done(0x80))),
     (1, None, 0x80, (true, 0, Outcome::Done(0x80))),
@@ -108,17 +112,17 @@ const RESPONSES: [(u16, Option<u16>, u16, Responded); 5] = [
     (3, Some(0), 0, (false, 3, Outcome::NotAcknowledged)),
 ];
 
-fn compare_responses(rt: &impl Abort, alloc: Global, board: &Board) {
-    for (alerting, refuse, value, want) in RESPONSES {
-        let responded = respond(alloc, board, alerting, refuse, value);
-        assert_eq!(rt; responded, Ok(want), "{alerting} {refuse:?} {value}");
+fn compare_responses(rt: &impl Abort, alloc: Global, board: &Board, rows: &[Response]) {
+    for (alerting, refuse, value, want) in rows {
+        let responded = respond(alloc, board, *alerting, *refuse, *value);
+        assert_eq!(rt; responded, Ok(*want), "{alerting} {refuse:?} {value}");
     }
 }
 
 #[test]
 fn lowest_address_answers_the_alert(rt: HostRuntime) -> Result<(), Fail> {
     let board = alert_board(rt.alloc())?;
-    compare_responses(&rt, rt.alloc(), &board);
+    compare_responses(&rt, rt.alloc(), &board, &RESPONSES);
     Ok(())
 }
 
@@ -141,10 +145,10 @@ fn alerting_after_silence(
 /// Who alerts before a step that sends nothing, who begins to, and who alerts after it.
 const SILENCES: [(u16, u16, u16); 5] = [(0, 0, 0), (0, 3, 3), (1, 2, 3), (2, 0, 2), (3, 1, 3)];
 
-fn compare_silences(rt: &impl Abort, alloc: Global, board: &Board) {
-    for (alerting, alerts, want) in SILENCES {
-        let after = alerting_after_silence(alloc, board, alerting, alerts);
-        assert_eq!(rt; after, Ok(Some(want)), "{alerting} {alerts}");
+fn compare_silences(rt: &impl Abort, alloc: Global, board: &Board, rows: &[(u16, u16, u16)]) {
+    for (alerting, alerts, want) in rows {
+        let after = alerting_after_silence(alloc, board, *alerting, *alerts);
+        assert_eq!(rt; after, Ok(Some(*want)), "{alerting} {alerts}");
     }
 }
 
@@ -152,7 +156,7 @@ fn compare_silences(rt: &impl Abort, alloc: Global, board: &Board) {
 #[test]
 fn alerts_join_where_nothing_is_sent(rt: HostRuntime) -> Result<(), Fail> {
     let board = alert_board(rt.alloc())?;
-    compare_silences(&rt, rt.alloc(), &board);
+    compare_silences(&rt, rt.alloc(), &board, &SILENCES);
     Ok(())
 }
 
