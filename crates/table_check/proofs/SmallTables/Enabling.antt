@@ -1,7 +1,7 @@
 -- Places of programs that turn on rails, at rows of which the next ones know no more.
 use Rattle.std.proofs.Common.{◌≡◌, ◌≤◌, ◌+◌, ℕ, Some, List, [], ◌∷◌}
 use Rattle.std.proofs.Common.{slice_get}
-use Rattle.std.proofs.Common.{◌++◌, ◌&&◌, not, map, refl, inl, inr, arith, lit≤}
+use Rattle.std.proofs.Common.{◌&&◌, not, refl, inl, inr, arith, lit≤}
 use Rattle.std.specs.Prelude.{IsTrue, All}
 use Rattle.std.proofs.lemmas.Bool.{false≢true}
 use Rattle.std.proofs.lemmas.List.Elements.{All-from_recursion}
@@ -12,22 +12,21 @@ use Rattle.seq_program.specs.declared.instr.Instr.TheVariants as to
 use Rattle.seq_program.specs.declared.instr.Width.TheVariants as width
 use Rattle.seq_program.specs.declared.instr.Written.TheVariants as written
 use Rattle.simulator.specs.Allowed.{is_operation_value}
-use Rattle.facts.specs.declared.rule.Rule.TheVariants.{K1, K2, K3, K4, K5}
 use Rattle.facts.specs.declared.source.Source.{Source}
 use Rattle.facts.specs.declared.source.Source.TheVariants as source
 use Rattle.facts.specs.declared.span.Span.{Span}
 use Rattle.facts.specs.Sets.{Set, empty, only}
 use Rattle.facts.specs.Rows.{Row}
 use Rattle.facts.specs.Requests.{Write, Read}
-use Rattle.facts.specs.Duties.{one, touches, is_touched, MayBeSent, HasNeeds, Meets, duties}
-use Rattle.facts.specs.Edges.{Edge, edge, good_bits, bounds, loaded, status_source}
+use Rattle.facts.specs.Duties.{one, touches, is_touched, MayBeSent, HasNeeds}
+use Rattle.facts.specs.Edges.{edge, good_bits, bounds, loaded, status_source}
 use Rattle.facts.specs.Ticks.{frame_ticks}
 use Rattle.table_check.specs.Tables.{Table, row_of}
-use Rattle.table_check.specs.Obligations.{Duty, AllHold, of_row, of_edges}
+use Rattle.table_check.specs.Obligations.{AllHold, of_row}
 use Rattle.table_check.specs.SmallTables.{two_rails, small_target, entry, row_at}
 use Rattle.table_check.specs.SmallTables.{known_row, any_row, reported_row, a_word}
-use Rattle.table_check.proofs.SmallTables.KnownRows.{each_rail, is_zero, covers, Leads, leads}
-use Rattle.table_check.proofs.SmallTables.KnownRows.{pays_end}
+use Rattle.table_check.proofs.SmallTables.KnownRows.{each_rail, leads}
+use Rattle.table_check.proofs.SmallTables.Owed.{leads_on}
 
 -- ---- duties
 
@@ -77,19 +76,6 @@ second_needs good span s base first same on d r rail =
 
 -- ---- places
 
--- five duties are met, and then two edges lead on
-abbrev Sends : List Instr → Table → ℕ → ℕ → Instr → Row → Edge → Edge → Type 0
-Sends p t place worst i row e f =
-    AllHold two_rails p t
-    (map (Duty place i row) duties ++ of_edges place worst (e ∷ f ∷ []))
-
-sends : (p : List Instr) (t : Table) (place worst : ℕ) (i : Instr) (row : Row) (e f : Edge)
-    → Meets two_rails row i K1 → Meets two_rails row i K2 → Meets two_rails row i K3
-    → Meets two_rails row i K4 → Meets two_rails row i K5 → Leads t worst e → Leads t worst f
-    → Sends p t place worst i row e f
-sends p t place worst i row e f k1 k2 k3 k4 k5 on off =
-    (k1, (k2, (k3, (k4, (k5, (on.0, (on.1, (off.0, (off.1, tt)))))))))
-
 -- the first rail is turned on
 pub first_on : (p : List Instr) (t : Table) (n m k fail : ℕ) → row_of t 1 ≡ Some (known_row m)
     → row_of t fail ≡ Some (any_row k) → 86 + m ≤ n → 86 + k ≤ n
@@ -97,19 +83,16 @@ pub first_on : (p : List Instr) (t : Table) (n m k fail : ℕ) → row_of t 1 �
     (of_row two_rails 0 (to.Write 0 operation_code (written.Byte 0x80) fail) (known_row n))
 unfolding frame_ticks
 first_on p t n m k fail next other enough more =
-    sends p t 0 86 (to.Write 0 operation_code (written.Byte 0x80) fail) (known_row n)
+    leads_on p t 0 86 (to.Write 0 operation_code (written.Byte 0x80) fail)
+    empty (one 0) source.None n
     (edge 1 (known_row n)) (edge fail (known_row n))
     (turned (known_row n) 0 0x40 0x80 refl (lit≤ tt) refl)
-    (λ paged reads. refl)
-    (λ writes protect stored. rw (is_zero protect stored) refl)
     tt
     (first_needs empty (one 0) source.None n)
     (leads t 86 1 empty empty (one 0) (one 0) source.None source.None m n next
-    (covers empty empty (one 0) (one 0) source.None source.None m n (λ d x. x)
-    (lit≤ tt, lit≤ tt) (inl refl)) enough)
+    (λ d x. x) (lit≤ tt, lit≤ tt) (inl refl) enough)
     (leads t 86 fail empty empty a_word (one 0) source.None source.None k n other
-    (covers empty empty a_word (one 0) source.None source.None k n (λ d x. x)
-    (lit≤ tt, lit≤ tt) (inl refl)) more)
+    (λ d x. x) (lit≤ tt, lit≤ tt) (inl refl) more)
 
 -- it is asked for a report
 pub asks : (p : List Instr) (t : Table) (n m k fail : ℕ)
@@ -119,19 +102,16 @@ pub asks : (p : List Instr) (t : Table) (n m k fail : ℕ)
     (of_row two_rails 1 (to.Read 0 status_word_code width.Word 0 fail) (known_row n))
 unfolding frame_ticks bounds loaded status_source
 asks p t n m k fail next other enough more =
-    sends p t 1 143 (to.Read 0 status_word_code width.Word 0 fail) (known_row n)
+    leads_on p t 1 143 (to.Read 0 status_word_code width.Word 0 fail)
+    empty (one 0) source.None n
     (edge 2 (reported_row empty n)) (edge fail (row_at empty (one 0) source.None n))
     (asked (known_row n))
-    (λ paged reads. refl)
-    (λ writes protect stored. rw (is_zero protect stored) refl)
     tt
     tt
     (leads t 143 2 empty empty a_word a_word (source.Status 0) (source.Status 0) m n next
-    (covers empty empty a_word a_word (source.Status 0) (source.Status 0) m n (λ d x. x)
-    (lit≤ tt, lit≤ tt) (inr refl)) enough)
+    (λ d x. x) (lit≤ tt, lit≤ tt) (inr refl) enough)
     (leads t 143 fail empty empty a_word (one 0) source.None source.None k n other
-    (covers empty empty a_word (one 0) source.None source.None k n (λ d x. x)
-    (lit≤ tt, lit≤ tt) (inl refl)) more)
+    (λ d x. x) (lit≤ tt, lit≤ tt) (inl refl) more)
 
 -- what it reports is looked at
 pub looks : (p : List Instr) (t : Table) (n m k : ℕ)
@@ -139,14 +119,13 @@ pub looks : (p : List Instr) (t : Table) (n m k : ℕ)
     → 1 + k ≤ n
     → AllHold two_rails p t (of_row two_rails 2 (to.If 0 good_bits 0 4) (reported_row empty n))
 looks p t n m k next other enough more =
-    sends p t 2 1 (to.If 0 good_bits 0 4) (reported_row empty n)
-    (edge 4 (reported_row (only 0) n)) (edge 3 (reported_row empty n)) tt tt tt tt tt
+    leads_on p t 2 1 (to.If 0 good_bits 0 4)
+    empty a_word (source.Status 0) n
+    (edge 4 (reported_row (only 0) n)) (edge 3 (reported_row empty n)) tt tt tt
     (leads t 1 4 (only 0) (only 0) a_word a_word (source.Status 0) (source.Status 0) m n next
-    (covers (only 0) (only 0) a_word a_word (source.Status 0) (source.Status 0) m n (λ d x. x)
-    (lit≤ tt, lit≤ tt) (inr refl)) enough)
+    (λ d x. x) (lit≤ tt, lit≤ tt) (inr refl) enough)
     (leads t 1 3 empty empty a_word a_word source.None (source.Status 0) k n other
-    (covers empty empty a_word a_word source.None (source.Status 0) k n (λ d x. x)
-    (lit≤ tt, lit≤ tt) (inl refl)) more)
+    (λ d x. x) (lit≤ tt, lit≤ tt) (inl refl) more)
 
 -- the second rail is turned on where the first one is good
 pub second_on : (p : List Instr) (t : Table) (n m k fail : ℕ) → row_of t 5 ≡ Some (any_row m)
@@ -156,19 +135,16 @@ pub second_on : (p : List Instr) (t : Table) (n m k fail : ℕ) → row_of t 5 �
     (reported_row (only 0) n))
 unfolding frame_ticks
 second_on p t n m k fail next other enough more =
-    sends p t 4 86 (to.Write 1 operation_code (written.Byte 0x80) fail) (reported_row (only 0) n)
+    leads_on p t 4 86 (to.Write 1 operation_code (written.Byte 0x80) fail)
+    (only 0) a_word (source.Status 0) n
     (edge 5 (reported_row (only 0) n)) (edge fail (reported_row (only 0) n))
     (turned (reported_row (only 0) n) 1 0x41 0x80 refl (lit≤ tt) refl)
-    (λ paged reads. refl)
-    (λ writes protect stored. rw (is_zero protect stored) refl)
     tt
     (second_needs (only 0) a_word (source.Status 0) n refl)
     (leads t 86 5 empty (only 0) a_word a_word source.None (source.Status 0) m n next
-    (covers empty (only 0) a_word a_word source.None (source.Status 0) m n
-    (λ d x. absurd (false≢true x)) (lit≤ tt, lit≤ tt) (inl refl)) enough)
+    (λ d x. absurd (false≢true x)) (lit≤ tt, lit≤ tt) (inl refl) enough)
     (leads t 86 fail empty (only 0) a_word a_word source.None (source.Status 0) k n other
-    (covers empty (only 0) a_word a_word source.None (source.Status 0) k n
-    (λ d x. absurd (false≢true x)) (lit≤ tt, lit≤ tt) (inl refl)) more)
+    (λ d x. absurd (false≢true x)) (lit≤ tt, lit≤ tt) (inl refl) more)
 
 -- the first rail is turned off, and is no longer good
 pub first_off : (p : List Instr) (t : Table) (n m k fail : ℕ) → row_of t 5 ≡ Some (any_row m)
@@ -179,27 +155,13 @@ pub first_off : (p : List Instr) (t : Table) (n m k fail : ℕ) → row_of t 5 �
 unfolding frame_ticks
 first_off p t n m k fail next other enough more =
     let left : Set = λ d. only 0 d && not (is_touched two_rails (reported_row (only 0) n) 0 d) in
-    sends p t 4 86 (to.Write 0 operation_code (written.Byte 0x00) fail) (reported_row (only 0) n)
+    leads_on p t 4 86 (to.Write 0 operation_code (written.Byte 0x00) fail)
+    (only 0) a_word (source.Status 0) n
     (edge 5 (row_at left a_word source.None n)) (edge fail (row_at left a_word source.None n))
     (turned (reported_row (only 0) n) 0 0x40 0x00 refl (lit≤ tt) refl)
-    (λ paged reads. refl)
-    (λ writes protect stored. rw (is_zero protect stored) refl)
     tt
     (λ same on. absurd (false≢true on))
     (leads t 86 5 empty left a_word a_word source.None source.None m n next
-    (covers empty left a_word a_word source.None source.None m n
-    (λ d x. absurd (false≢true x)) (lit≤ tt, lit≤ tt) (inl refl)) enough)
+    (λ d x. absurd (false≢true x)) (lit≤ tt, lit≤ tt) (inl refl) enough)
     (leads t 86 fail empty left a_word a_word source.None source.None k n other
-    (covers empty left a_word a_word source.None source.None k n
-    (λ d x. absurd (false≢true x)) (lit≤ tt, lit≤ tt) (inl refl)) more)
-
--- an end
-pub ends : (p : List Instr) (t : Table) (place n : ℕ) → 1 ≤ n
-    → AllHold two_rails p t (of_row two_rails place to.End (any_row n))
-ends p t place n enough =
-    (tt, (tt, (tt, (tt, (tt, (pays_end empty a_word source.None n enough, tt))))))
-
-pub fails : (p : List Instr) (t : Table) (place n : ℕ) → 1 ≤ n
-    → AllHold two_rails p t (of_row two_rails place to.Fail (any_row n))
-fails p t place n enough =
-    (tt, (tt, (tt, (tt, (tt, (pays_end empty a_word source.None n enough, tt))))))
+    (λ d x. absurd (false≢true x)) (lit≤ tt, lit≤ tt) (inl refl) more)

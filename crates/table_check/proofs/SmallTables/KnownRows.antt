@@ -135,7 +135,8 @@ holds_starts base = record {
 
 -- ---- edges
 
-pub covers : (good h : Set) (span u : Span) (s r : Source) (base n : ℕ) → SetCovers h good
+-- the second row knows no less
+covers : (good h : Set) (span u : Span) (s r : Source) (base n : ℕ) → SetCovers h good
     → SpanCovers span u → SourceCovers s r
     → RowCovers two_rails (row_at good span s base) (row_at h u r n)
 covers good h span u s r base n fewer wider knows = record {
@@ -163,11 +164,10 @@ abbrev pub Leads : Table → ℕ → Edge → Type 0
 Leads t worst e = IsCovered two_rails t e × Pays t worst e
 
 pub leads : (t : Table) (worst to : ℕ) (good h : Set) (span u : Span) (s r : Source) (base n : ℕ)
-    → row_of t to ≡ Some (row_at good span s base)
-    → RowCovers two_rails (row_at good span s base) (row_at h u r n) → worst + base ≤ n
-    → Leads t worst (edge to (row_at h u r n))
-leads t worst to good h span u s r base n at over enough = (
-  (row_at good span s base, at, over),
+    → row_of t to ≡ Some (row_at good span s base) → SetCovers h good → SpanCovers span u
+    → SourceCovers s r → worst + base ≤ n → Leads t worst (edge to (row_at h u r n))
+leads t worst to good h span u s r base n at fewer wider knows enough = (
+  (row_at good span s base, at, covers good h span u s r base n fewer wider knows),
   λ next there counters inside.
       let same : row_at good span s base ≡ next =
       some_same (row_at good span s base) next (sym at ∙ there) in

@@ -1,14 +1,12 @@
 -- Rails that are turned on in order, and a need that is withdrawn.
-use Rattle.std.proofs.Common.{◌≤◌, ◌+◌, ℕ, Some, Option, List, [], ◌∷◌}
-use Rattle.std.proofs.Common.{◌++◌, drop, refl, inl, inr, arith, lit≤, lit<}
+use Rattle.std.proofs.Common.{◌≤◌, ◌+◌, ℕ, Some, List, [], ◌∷◌}
+use Rattle.std.proofs.Common.{drop, refl, inl, inr, arith, lit≤, lit<}
 use Rattle.std.proofs.lemmas.Bool.{false≢true, eqb-true}
 use Rattle.pmbus_table.specs.Codes.{operation_code, status_word_code}
-use Rattle.board.specs.Boards.{Board}
 use Rattle.seq_program.specs.declared.instr.Instr.{Instr}
 use Rattle.seq_program.specs.declared.instr.Instr.TheVariants as to
 use Rattle.seq_program.specs.declared.instr.Width.TheVariants as width
 use Rattle.seq_program.specs.declared.instr.Written.TheVariants as written
-use Rattle.facts.specs.declared.rule.Rule.{Rule}
 use Rattle.facts.specs.declared.rule.Rule.TheVariants.{K5}
 use Rattle.facts.specs.declared.source.Source.TheVariants as source
 use Rattle.facts.specs.Sets.{empty, only}
@@ -17,16 +15,19 @@ use Rattle.facts.specs.Requests.{Write}
 use Rattle.facts.specs.Duties.{HasNeeds}
 use Rattle.facts.specs.Edges.{good_bits}
 use Rattle.table_check.specs.Tables.{Table}
-use Rattle.table_check.specs.Obligations.{Obligation, Start, AllHold, IsInductive, IsFirstFault}
+use Rattle.table_check.specs.Rules.{Starts}
+use Rattle.table_check.specs.Obligations.{Start, AllHold, IsInductive, IsFirstFault}
 use Rattle.table_check.specs.Obligations.{IsVerdict}
 use Rattle.table_check.specs.declared.verdict.Verdict.TheVariants.{Refused}
 use Rattle.table_check.specs.Obligations.{shapes, of_row, of_places}
 use Rattle.table_check.specs.SmallTables.{two_rails, small_rail, known_row, any_row}
 use Rattle.table_check.specs.SmallTables.{reported_row, a_word, ordered_program, ordered_table}
 use Rattle.table_check.specs.SmallTables.{withdrawn_program, withdrawn_table}
-use Rattle.table_check.proofs.SmallTables.KnownRows.{is_row, is_zero, is_known_row, holds_starts}
+use Rattle.table_check.proofs.SmallTables.KnownRows.{is_row, is_known_row, holds_starts}
 use Rattle.table_check.proofs.SmallTables.Enabling.{first_on, asks, looks, second_on, first_off}
-use Rattle.table_check.proofs.SmallTables.Enabling.{ends, fails, turned}
+use Rattle.table_check.proofs.SmallTables.Enabling.{turned}
+use Rattle.table_check.proofs.SmallTables.Owed.{reads_one_page, is_unprotected, ends, fails}
+use Rattle.table_check.proofs.SmallTables.Owed.{and_then, past}
 
 -- ---- rows
 
@@ -46,20 +47,6 @@ is_good_row base most =
 
 -- ---- in order
 
-both_hold : (b : Board) (p : List Instr) (t : Table) (xs ys : List Obligation)
-    → AllHold b p t xs → AllHold b p t ys → AllHold b p t (xs ++ ys)
-both_hold b p t [] ys h k = k
-both_hold b p t (x ∷ xs) ys h k = (h.0, both_hold b p t xs ys h.1 k)
-
--- a row's obligations, and those of the places after it
-and_then : (p : List Instr) (t rows : Table) (place : ℕ) (i : Instr) (is' : List Instr) (row : Row)
-    → AllHold two_rails p t (of_row two_rails place i row)
-    → AllHold two_rails p t (of_places two_rails (place + 1) is' rows)
-    → AllHold two_rails p t (of_places two_rails place (i ∷ is') (Some row ∷ rows))
-and_then p t rows place i is' row here rest =
-    both_hold two_rails p t (of_row two_rails place i row)
-    (of_places two_rails (place + 1) is' rows) here rest
-
 -- what the places from one on owe
 abbrev From : List Instr → Table → ℕ → Type 0
 From p t place = AllHold two_rails p t (of_places two_rails place (drop place p) (drop place t))
@@ -68,60 +55,42 @@ ordered_last : From ordered_program ordered_table 5
 ordered_last =
     let p = ordered_program in
     let t = ordered_table in
-    and_then p t (drop 6 t) 5 to.End (drop 6 p) (any_row 1) (ends p t 5 1 (lit≤ tt))
-    (and_then p t [] 6 to.Fail [] (any_row 1) (fails p t 6 1 (lit≤ tt)) tt)
+    and_then p t 5 to.End (drop 6 p) (any_row 1) (drop 6 t)
+    (ends p t 5 empty a_word source.None 1 (lit≤ tt))
+    (and_then p t 6 to.Fail [] (any_row 1) [] (fails p t 6 empty a_word source.None 1 (lit≤ tt)) tt)
 
 ordered_second : From ordered_program ordered_table 3
 ordered_second =
     let p = ordered_program in
     let t = ordered_table in
-    and_then p t (drop 4 t) 3 to.Fail (drop 4 p) (any_row 1) (fails p t 3 1 (lit≤ tt))
-    (and_then p t (drop 5 t) 4 (to.Write 1 operation_code (written.Byte 0x80) 6) (drop 5 p)
-    (reported_row (only 0) 87) (second_on p t 87 1 1 6 refl refl (lit≤ tt) (lit≤ tt)) ordered_last)
+    and_then p t 3 to.Fail (drop 4 p) (any_row 1) (drop 4 t)
+    (fails p t 3 empty a_word source.None 1 (lit≤ tt))
+    (and_then p t 4 (to.Write 1 operation_code (written.Byte 0x80) 6) (drop 5 p)
+    (reported_row (only 0) 87) (drop 5 t) (second_on p t 87 1 1 6 refl refl (lit≤ tt) (lit≤ tt))
+    ordered_last)
 
 ordered_first : From ordered_program ordered_table 0
 ordered_first =
     let p = ordered_program in
     let t = ordered_table in
-    and_then p t (drop 1 t) 0 (to.Write 0 operation_code (written.Byte 0x80) 6) (drop 1 p)
-    (known_row 317) (first_on p t 317 231 1 6 refl refl (lit≤ tt) (lit≤ tt))
-    (and_then p t (drop 2 t) 1 (to.Read 0 status_word_code width.Word 0 6) (drop 2 p)
-    (known_row 231) (asks p t 231 88 1 6 refl refl (lit≤ tt) (lit≤ tt))
-    (and_then p t (drop 3 t) 2 (to.If 0 good_bits 0 4) (drop 3 p) (reported_row empty 88)
+    and_then p t 0 (to.Write 0 operation_code (written.Byte 0x80) 6) (drop 1 p) (known_row 317)
+    (drop 1 t) (first_on p t 317 231 1 6 refl refl (lit≤ tt) (lit≤ tt))
+    (and_then p t 1 (to.Read 0 status_word_code width.Word 0 6) (drop 2 p) (known_row 231)
+    (drop 2 t) (asks p t 231 88 1 6 refl refl (lit≤ tt) (lit≤ tt))
+    (and_then p t 2 (to.If 0 good_bits 0 4) (drop 3 p) (reported_row empty 88) (drop 3 t)
     (looks p t 88 87 1 refl refl (lit≤ tt) (lit≤ tt)) ordered_second))
 
 pub in_order : IsInductive two_rails ordered_program ordered_table
-in_order = (
-  refl,
-  (
-    is_known_row 317 (lit≤ tt),
-    (
-      is_known_row 231 (lit≤ tt),
-      (
-        is_reported_row 88 (lit≤ tt),
-        (
-          is_any_row 1 (lit≤ tt),
-          (
-            is_good_row 87 (lit≤ tt),
-            (
-              is_any_row 1 (lit≤ tt),
-              (is_any_row 1 (lit≤ tt), ((known_row 317, refl, holds_starts 317), ordered_first)),
-            ),
-          ),
-        ),
-      ),
-    ),
-  ),
-)
+in_order =
+    let first = is_known_row 317 (lit≤ tt) in
+    let asking = is_known_row 231 (lit≤ tt) in
+    let looking = is_reported_row 88 (lit≤ tt) in
+    let good = is_good_row 87 (lit≤ tt) in
+    let end = is_any_row 1 (lit≤ tt) in
+    let start : Starts two_rails ordered_table = (known_row 317, refl, holds_starts 317) in
+    (refl, (first, (asking, (looking, (end, (good, (end, (end, (start, ordered_first)))))))))
 
 -- ---- out of order
-
--- a fault further on
-past : (b : Board) (p : List Instr) (t : Table) (xs ys : List Obligation)
-    (found : Option (ℕ × Rule)) → AllHold b p t xs → IsFirstFault b p t ys found
-    → IsFirstFault b p t (xs ++ ys) found
-past b p t [] ys found h k = k
-past b p t (x ∷ xs) ys found h k = inl (h.0, past b p t xs ys found h.1 k)
 
 -- the places from one on have the fault that the second rail is turned on while its need isn't good
 abbrev Told : ℕ → Type 0
@@ -137,19 +106,12 @@ not_good needs =
 
 told_at_five : Told 5
 told_at_five =
-    inl (
-      turned (any_row 300) 1 0x41 0x80 refl (lit≤ tt) refl,
-      inl (
-        (λ paged reads. refl),
-        inl (
-          (λ writes protect stored. rw (is_zero protect stored) refl),
-          inl (
-            tt,
-            inr (not_good, refl),
-          ),
-        ),
-      ),
-    )
+    let sent = turned (any_row 300) 1 0x41 0x80 refl (lit≤ tt) refl in
+    let alone = reads_one_page empty a_word source.None 300 1
+    (Write operation_code (written.Byte 0x80)) in
+    let free = is_unprotected empty a_word source.None 300 1
+    (Write operation_code (written.Byte 0x80)) in
+    inl (sent, inl (alone, inl (free, inl (tt, inr (not_good, refl)))))
 
 further : (place : ℕ) (i : Instr) (is' : List Instr) (row : Row) (rows : Table)
     → AllHold two_rails withdrawn_program withdrawn_table (of_row two_rails place i row)
@@ -158,14 +120,15 @@ further : (place : ℕ) (i : Instr) (is' : List Instr) (row : Row) (rows : Table
     → IsFirstFault two_rails withdrawn_program withdrawn_table
     (of_places two_rails place (i ∷ is') (Some row ∷ rows)) (Some (5, K5))
 further place i is' row rows here rest =
-    past two_rails withdrawn_program withdrawn_table (of_row two_rails place i row)
+    past withdrawn_program withdrawn_table (of_row two_rails place i row)
     (of_places two_rails (place + 1) is' rows) (Some (5, K5)) here rest
 
 told_at_three : Told 3
 told_at_three =
     let p = withdrawn_program in
     let t = withdrawn_table in
-    further 3 to.Fail (drop 4 p) (any_row 1) (drop 4 t) (fails p t 3 1 (lit≤ tt))
+    further 3 to.Fail (drop 4 p) (any_row 1) (drop 4 t)
+    (fails p t 3 empty a_word source.None 1 (lit≤ tt))
     (further 4 (to.Write 0 operation_code (written.Byte 0x00) 7) (drop 5 p)
     (reported_row (only 0) 500) (drop 5 t) (first_off p t 500 300 1 7 refl refl (lit≤ tt) (lit≤ tt))
     told_at_five)
@@ -182,36 +145,21 @@ told =
     (looks p t 600 500 1 refl refl (lit≤ tt) (lit≤ tt)) told_at_three))
 
 rows_are_shaped : AllHold two_rails withdrawn_program withdrawn_table (shapes 0 withdrawn_table)
-rows_are_shaped = (
-  is_known_row 1000 (lit≤ tt),
-  (
-    is_known_row 800 (lit≤ tt),
-    (
-      is_reported_row 600 (lit≤ tt),
-      (
-        is_any_row 1 (lit≤ tt),
-        (
-          is_good_row 500 (lit≤ tt),
-          (
-            is_any_row 300 (lit≤ tt),
-            (is_any_row 1 (lit≤ tt), (is_any_row 1 (lit≤ tt), tt)),
-          ),
-        ),
-      ),
-    ),
-  ),
-)
+rows_are_shaped =
+    let first = is_known_row 1000 (lit≤ tt) in
+    let asking = is_known_row 800 (lit≤ tt) in
+    let looking = is_reported_row 600 (lit≤ tt) in
+    let good = is_good_row 500 (lit≤ tt) in
+    let off = is_any_row 300 (lit≤ tt) in
+    let end = is_any_row 1 (lit≤ tt) in
+    (first, (asking, (looking, (end, (good, (off, (end, (end, tt))))))))
 
 pub need_is_withdrawn : IsVerdict two_rails withdrawn_program withdrawn_table (Refused 5 K5)
 need_is_withdrawn =
     let p = withdrawn_program in
     let t = withdrawn_table in
-    let places = of_places two_rails 0 p t in (
-      Some (5, K5),
-      inl (
-        refl,
-        past two_rails p t (shapes 0 t) (Start ∷ places) (Some (5, K5))
-            rows_are_shaped (inl ((known_row 1000, refl, holds_starts 1000), told)),
-      ),
-      refl,
-    )
+    let os = Start ∷ of_places two_rails 0 p t in
+    let start : Starts two_rails t = (known_row 1000, refl, holds_starts 1000) in
+    let found = past p t (shapes 0 t) os (Some (5, K5)) rows_are_shaped
+    (inl (start, told)) in
+    (Some (5, K5), inl (refl, found), refl)

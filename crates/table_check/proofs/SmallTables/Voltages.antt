@@ -1,6 +1,6 @@
 -- A voltage within its limit, and one over it.
 use Rattle.std.proofs.Common.{◌≡◌, ℕ, Some, []}
-use Rattle.std.proofs.Common.{refl, subst, inl, arith, lit≤, lit<, rules, replicate}
+use Rattle.std.proofs.Common.{drop, refl, subst, inl, arith, lit≤, lit<, rules, replicate}
 use Rattle.std.specs.Prelude.{IsTrue}
 use Rattle.std.proofs.lemmas.Bool.{or_left, false≢true}
 use Rattle.smbus.specs.declared.message.Form.TheVariants.{WriteWord}
@@ -13,21 +13,24 @@ use Rattle.facts.specs.declared.source.Source.TheVariants as source
 use Rattle.facts.specs.Sets.{empty, all_pages}
 use Rattle.facts.specs.Rows.{set_at}
 use Rattle.facts.specs.Requests.{Write}
-use Rattle.facts.specs.Duties.{one, touches, MayBeSent, IsWithinLimits}
+use Rattle.facts.specs.Duties.{one, touches, MayBeSent, CommandsWithinLimits}
 use Rattle.facts.specs.Edges.{edge}
 use Rattle.facts.specs.Ticks.{frame_ticks}
 use Rattle.table_check.specs.Tables.{Table, row_of}
-use Rattle.table_check.specs.Obligations.{IsInductive}
+use Rattle.table_check.specs.Rules.{Starts}
+use Rattle.table_check.specs.Obligations.{AllHold, IsInductive, of_row}
 use Rattle.table_check.specs.SmallTables.{two_rails, small_target, small_rail, voltage_program}
 use Rattle.table_check.specs.SmallTables.{voltage_table, entry, known_row}
 use Rattle.table_check.proofs.Places.{some_same}
 use Rattle.table_check.proofs.ByPlace.{by_place}
-use Rattle.table_check.proofs.SmallTables.KnownRows.{each_rail, is_zero, is_known_row, zeros_inside}
-use Rattle.table_check.proofs.SmallTables.KnownRows.{holds_starts, covers, Leads, leads, pays_end}
+use Rattle.table_check.proofs.SmallTables.KnownRows.{each_rail, is_known_row, zeros_inside}
+use Rattle.table_check.proofs.SmallTables.KnownRows.{holds_starts, Leads, leads}
+use Rattle.table_check.proofs.SmallTables.Owed.{leads_on, ends, fails, and_then}
 
 -- the second rail isn't touched
-limits : (base : ℕ) → IsWithinLimits two_rails (known_row base) 0 (one 4505)
-limits base t d r at rail =
+limits : (base : ℕ) → CommandsWithinLimits two_rails (known_row base) 0
+    (Write vout_command_code (written.Word 4505))
+limits base carries t d r at rail =
     each_rail
     (λ d r. IsTrue (touches (known_row base) 0 r) → IsWithin 4505 t.exponent r.limit_uv)
     (λ touched.
@@ -51,76 +54,31 @@ goes : (to : ℕ) → row_of (voltage_table 114) to ≡ Some (known_row 1)
     → Leads (voltage_table 114) 113 (edge to (known_row 114))
 goes to at =
     leads (voltage_table 114) 113 to empty empty (one 0) (one 0) source.None source.None 1 114 at
-    (covers empty empty (one 0) (one 0) source.None source.None 1 114 (λ d k. k)
-    (lit≤ tt, lit≤ tt) (inl refl)) (lit≤ tt)
+    (λ d k. k) (lit≤ tt, lit≤ tt) (inl refl) (lit≤ tt)
+
+sends : AllHold two_rails (voltage_program 4505) (voltage_table 114)
+    (of_row two_rails 0 (to.Write 0 vout_command_code (written.Word 4505) 2) (known_row 114))
+unfolding frame_ticks
+sends =
+    leads_on (voltage_program 4505) (voltage_table 114) 0 113
+    (to.Write 0 vout_command_code (written.Word 4505) 2) empty (one 0) source.None 114
+    (edge 1 (known_row 114)) (edge 2 (known_row 114)) (sent 114) (limits 114) tt (goes 1 refl)
+    (goes 2 refl)
 
 pub within_the_limit : IsInductive two_rails (voltage_program 4505) (voltage_table 114)
-unfolding frame_ticks
 within_the_limit =
-    let ends = pays_end empty (one 0) source.None 1 (lit≤ tt) in
-    let next = goes 1 refl in
-    let other = goes 2 refl in (
-      refl,
-      (
-        is_known_row 114 (lit≤ tt),
-        (
-          is_known_row 1 (lit≤ tt),
-          (
-            is_known_row 1 (lit≤ tt),
-            (
-              (known_row 114, refl, holds_starts 114),
-              (
-                sent 114,
-                (
-                  (λ paged reads.
-                      refl),
-                  (
-                    (λ writes protect stored. rw (is_zero protect stored) refl),
-                    (
-                      (λ carries. limits 114),
-                      (
-                        tt,
-                        (
-                          next.0,
-                          (
-                            next.1,
-                            (
-                              other.0,
-                              (
-                                other.1,
-                                (
-                                  tt,
-                                  (
-                                    tt,
-                                    (
-                                      tt,
-                                      (
-                                        tt,
-                                        (
-                                          tt,
-                                          (
-                                            ends,
-                                            (tt, (tt, (tt, (tt, (tt, (ends, tt)))))),
-                                          ),
-                                        ),
-                                      ),
-                                    ),
-                                  ),
-                                ),
-                              ),
-                            ),
-                          ),
-                        ),
-                      ),
-                    ),
-                  ),
-                ),
-              ),
-            ),
-          ),
-        ),
-      ),
-    )
+    let p = voltage_program 4505 in
+    let t = voltage_table 114 in
+    let first = is_known_row 114 (lit≤ tt) in
+    let last = is_known_row 1 (lit≤ tt) in
+    let start : Starts two_rails t = (known_row 114, refl, holds_starts 114) in
+    let places = and_then p t 0 (to.Write 0 vout_command_code (written.Word 4505) 2) (drop 1 p)
+    (known_row 114) (drop 1 t) sends
+    (and_then p t 1 to.End (drop 2 p) (known_row 1) (drop 2 t)
+    (ends p t 1 empty (one 0) source.None 1 (lit≤ tt))
+    (and_then p t 2 to.Fail [] (known_row 1) [] (fails p t 2 empty (one 0) source.None 1 (lit≤ tt))
+    tt)) in
+    (refl, (first, (last, (last, (start, places)))))
 
 -- the ticks don't fall where there is one less
 pub without_a_tick : IsInductive two_rails (voltage_program 4505) (voltage_table 113) → ⊥
