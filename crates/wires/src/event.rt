@@ -15,7 +15,7 @@ pub enum Event {
     Rise(bool),
 }
 
-fn event_between(before: Sample, after: Sample) -> Option<Event>
+pub(crate) fn event_between(before: Sample, after: Sample) -> Option<Event>
     ensures { option_to_list result ≡ events_between before after }
 {
     match (before.scl, after.scl) {
