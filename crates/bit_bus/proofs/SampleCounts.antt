@@ -9,8 +9,9 @@ use Rattle.wires.specs.declared.lines.Sample.{Sample}
 use Rattle.bit_bus.specs.declared.plan.Slot.{Slot}
 use Rattle.bit_bus.specs.declared.plan.Slot.TheVariants.{Bit, Again, End}
 use Rattle.bit_bus.specs.Levels.{level, low_run, is_cut, data_of, whole_levels, cut_levels}
-use Rattle.bit_bus.specs.Levels.{slot_levels}
-use Rattle.bit_bus.specs.SampleCounts.{LevelsAreFew}
+use Rattle.bit_bus.specs.Levels.{slot_levels, levels}
+use Rattle.bit_bus.specs.Planned.{IsPlan}
+use Rattle.bit_bus.specs.SampleCounts.{LevelsAreFew, most_driven}
 
 length-low_run : (a x : Bool) (n : ℕ) → length (low_run a x n) ≡ n
 unfolding low_run
@@ -76,3 +77,15 @@ levels_are_few alert longest plan h =
     let s =
     slots_few alert longest plan (recursion_from_All (λ (s : Slot × ℕ). s.1 ≤ longest) plan h) in
     omega arith
+
+pub driven_few : (alert : Bool) (plan : List (Slot × ℕ)) → IsPlan plan
+    → length (levels alert plan) ≤ most_driven
+driven_few alert plan valid =
+    omega (arith, levels_are_few alert 6999 plan valid.holds, valid.few)
+
+-- so are those up to a slot
+pub begun_few : (alert : Bool) (plan : List (Slot × ℕ)) (samples later : List Sample) → IsPlan plan
+    → samples ++ later ≡ levels alert plan → length samples ≤ most_driven
+begun_few alert plan samples later valid parts =
+    let all = ap length parts in
+    omega (arith, all, length-append samples later, driven_few alert plan valid)

@@ -8,3 +8,7 @@ abbrev pub LevelsAreFew : Type 0
 LevelsAreFew = (alert : Bool) (longest : ℕ) (plan : List (Slot × ℕ))
     → All (λ (s : Slot × ℕ). s.1 ≤ longest) plan
     → length (levels alert plan) ≤ 1 + length plan * (3 + longest)
+
+-- what the longest plan with the longest holds takes
+abbrev pub most_driven : ℕ
+most_driven = 1 + 4096 * (3 + 6999)

@@ -1,18 +1,21 @@
-ghost use Rattle.std.specs.Prelude.{◌≡◌, ◌≤◌, ◌<◌, ◌∷◌, ◌++◌, [], Bool, true, IfOk, OnOk};
+ghost use Rattle.std.specs.Prelude.{◌≡◌, ◌≤◌, ◌<◌, ◌+◌, ◌∷◌, ◌++◌, [], Bool, true, IfOk, OnOk};
+ghost use Rattle.std.specs.Prelude.{length};
 ghost use Rattle.wires.specs.Events.{events_of};
+ghost use Rattle.wires.specs.Runs.{most_samples};
 ghost use Rattle.bit_bus.specs.Planned.{IsPlan};
 ghost use Rattle.bit_bus.specs.Levels.{idle, low_run, whole_levels, cut_levels, levels, first_cut};
 ghost use Rattle.bit_bus.specs.Levels.{EndsHigh};
+ghost use Rattle.bit_bus.specs.SampleCounts.{most_driven};
 ghost use Rattle.bit_bus.specs.Word.{event_word};
 
 use crate::plan::{Plan, Slot};
 use std::alloc::{AllocError, Global};
-use wires::Sample;
+use wires::{Runs, Sample};
 
 /// The samples of a frame, one a tick of 5 µs, and the slot in which it was cut, if any.
 #[derive(Debug, Drop)]
 pub struct Driven {
-    pub samples: Vec<Sample>,
+    pub samples: Runs,
     pub cut: Option<usize>,
 }
 
@@ -20,39 +23,37 @@ pub struct Driven {
 /// t_TIMEOUT).
 const LONGEST_LOW: u16 = 5000;
 
-fn push_low(samples: &mut Vec<Sample>, sda: bool, alert: bool, ticks: u16) -> Result<(), AllocError>
-    ensures { OnOk result (samples.new.items ≡ samples.old.items ++ low_run alert sda ticks) }
+fn push_low(samples: &mut Runs, sda: bool, alert: bool, ticks: u16) -> Result<(), AllocError>
+    requires { length samples.old + ticks ≤ most_samples }
+    ensures low { OnOk result (samples.new ≡ samples.old ++ low_run alert sda ticks) }
+    ensures count { OnOk result (length samples.new ≡ length samples.old + ticks) }
 {
-    for _ in 0..ticks {
-        samples.push(Sample {
-            scl: false,
-            sda,
-            alert,
-        })?;
-    }
-    Ok(())
+    let low = Sample {
+        scl: false,
+        sda,
+        alert,
+    };
+    samples.push(low, u64::from(ticks))
 }
 
-fn push_high(samples: &mut Vec<Sample>, sda: bool, alert: bool) -> Result<(), AllocError>
-    ensures { OnOk result (samples.new.items
-        ≡ samples.old.items ++ record { scl = true; sda = sda; alert = alert } ∷ []) }
+fn push_high(samples: &mut Runs, sda: bool, alert: bool) -> Result<(), AllocError>
+    requires { length samples.old < most_samples }
+    ensures high { OnOk result (samples.new
+        ≡ samples.old ++ record { scl = true; sda = sda; alert = alert } ∷ []) }
+    ensures count { OnOk result (length samples.new ≡ length samples.old + 1) }
 {
-    samples.push(Sample {
+    let high = Sample {
         scl: true,
         sda,
         alert,
-    })?;
-    Ok(())
+    };
+    samples.push(high, 1)
 }
 
-fn push_whole(
-    samples: &mut Vec<Sample>,
-    slot: Slot,
-    hold: u16,
-    alert: bool,
-) -> Result<(), AllocError>
-    requires { hold < 5000 }
-    ensures { OnOk result (samples.new.items ≡ samples.old.items ++ whole_levels alert slot hold) }
+fn push_whole(samples: &mut Runs, slot: Slot, hold: u16, alert: bool) -> Result<(), AllocError>
+    requires whole { hold < 5000 }
+    requires room { length samples.old + 3 + hold ≤ most_samples }
+    ensures { OnOk result (samples.new ≡ samples.old ++ whole_levels alert slot hold) }
 {
     match slot {
         Slot::Bit(sda) => {
@@ -73,9 +74,10 @@ fn push_whole(
     Ok(())
 }
 
-fn push_cut(samples: &mut Vec<Sample>, slot: Slot, hold: u16, alert: bool) -> Result<(), AllocError>
-    requires { 5000 ≤ hold }
-    ensures { OnOk result (samples.new.items ≡ samples.old.items ++ cut_levels alert slot hold) }
+fn push_cut(samples: &mut Runs, slot: Slot, hold: u16, alert: bool) -> Result<(), AllocError>
+    requires cut { 5000 ≤ hold }
+    requires room { length samples.old + 3 + hold ≤ most_samples }
+    ensures { OnOk result (samples.new ≡ samples.old ++ cut_levels alert slot hold) }
 {
     let sda = match slot {
         Slot::Bit(sda) => sda,
@@ -90,12 +92,12 @@ fn push_cut(samples: &mut Vec<Sample>, slot: Slot, hold: u16, alert: bool) -> Re
 }
 
 fn drive_slots(alloc: Global, plan: &Plan, alert: bool) -> Result<Driven, AllocError>
-    ensures samples { IfOk result (λ driven. driven.samples.items ≡ levels alert plan.now) }
+    ensures samples { IfOk result (λ driven. driven.samples ≡ levels alert plan.now) }
     ensures cut { IfOk result (λ driven. driven.cut ≡ first_cut plan.now) }
     ensures valid { IsPlan plan.now }
 {
     let count = plan.count();
-    let mut samples = Vec::new(alloc);
+    let mut samples = Runs::new(alloc);
     push_high(&mut samples, false, alert)?;
     for place in 0..count {
         let (slot, hold) = plan.slot(place);
@@ -115,12 +117,13 @@ fn drive_slots(alloc: Global, plan: &Plan, alert: bool) -> Result<Driven, AllocE
 /// then the slots in order. Where a slot's low period is over 5000 ticks it is cut by a STOP, and
 /// nothing follows. Fails only for want of memory.
 pub fn drive(alloc: Global, plan: &Plan, alert: bool) -> Result<Driven, AllocError>
-    ensures samples { IfOk result (λ driven. driven.samples.items ≡ levels alert plan.now) }
+    ensures samples { IfOk result (λ driven. driven.samples ≡ levels alert plan.now) }
     ensures cut { IfOk result (λ driven. driven.cut ≡ first_cut plan.now) }
     // After an idle sample they are read as the event word of the slots.
     ensures word { IfOk result (λ driven. (before : Bool)
-        → events_of (idle before ∷ driven.samples.items) ≡ event_word plan.now) }
-    ensures free { IfOk result (λ driven. EndsHigh driven.samples.items) }
+        → events_of (idle before ∷ driven.samples) ≡ event_word plan.now) }
+    ensures free { IfOk result (λ driven. EndsHigh driven.samples) }
+    ensures few { IfOk result (λ driven. length driven.samples ≤ most_driven) }
 {
     drive_slots(alloc, plan, alert)
 }

@@ -1,7 +1,5 @@
 -- What is read back from the samples of a step.
-use Rattle.std.proofs.Common.{◌≡◌, ℕ, zero, suc, ◌+◌, Bool, Some, None, List, [], ◌∷◌, ◌++◌, refl}
-use Rattle.std.proofs.Common.{ap, ◌∙◌, arith}
-use Rattle.wires.specs.declared.lines.Sample.{Sample}
+use Rattle.std.proofs.Common.{◌≡◌, ℕ, zero, suc, Bool, Some, None, [], ◌∷◌, refl}
 use Rattle.wires.specs.Events.{events_of}
 use Rattle.bit_bus.specs.Levels.{idle, levels}
 use Rattle.bit_bus.specs.Word.{event_word, ReadsBack}
@@ -38,19 +36,3 @@ pub message_seen : (i : Instr) (asked : Asked) (a : Answered) (m : Machine) → 
     → SlotsAreOneFrame → CanBeSent asked a → IsSeen (entry_of i (Some asked) a m)
 message_seen i asked a m reads slots can =
     record { frames = one_frame (alert_level m.bus) asked a reads slots can; ticks = refl }
-
-idle_then : (alert : Bool) (n : ℕ)
-    → idle_samples alert n ++ idle alert ∷ [] ≡ idle_samples alert (suc n)
-unfolding idle_samples
-idle_then alert zero = refl
-idle_then alert (suc n) = ap (λ (later : List Sample). idle alert ∷ later) (idle_then alert n)
-
-pub one_idle_more : (alert : Bool) (n : ℕ) (s : Sample) (before after : List Sample)
-    → s ≡ idle alert → before ≡ idle_samples alert n → after ≡ before ++ s ∷ []
-    → after ≡ idle_samples alert (n + 1)
-one_idle_more alert n s before after is e more =
-    let next : suc n ≡ n + 1 = omega arith in
-    let same : after ≡ before ++ idle alert ∷ [] =
-    more ∙ ap (λ (x : Sample). before ++ x ∷ []) is in
-    same ∙ ap (λ (xs : List Sample). xs ++ idle alert ∷ []) e ∙ idle_then alert n
-    ∙ ap (λ (k : ℕ). idle_samples alert k) next

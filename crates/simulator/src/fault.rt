@@ -16,8 +16,8 @@ pub enum RunFault {
     /// The program had ended before.
     #[error("answer {0} comes after the end")]
     AfterEnd(usize),
-    /// Over 1,000,000 samples.
-    #[error("a run of over 1000000 samples")]
+    /// Over 2^40 ticks.
+    #[error("a run of over 2^40 ticks")]
     TooLong,
     /// The targets can't start so.
     #[error("a start that the board hasn't")]

@@ -13,7 +13,7 @@ use seq_program::Instr;
 use smbus::{Answer, Message, SmbusFault, frame_slots, slots_are_one_frame};
 use std::alloc::{AllocError, Global};
 use targets::BusState;
-use wires::Sample;
+use wires::{Runs, Sample};
 
 /// A free bus, with this level of SMBALERT#.
 fn idle(alert: bool) -> Sample
@@ -27,13 +27,11 @@ fn idle(alert: bool) -> Sample
 }
 
 /// So many idle samples.
-fn idle_samples(alloc: Global, alert: bool, ticks: u32) -> Result<Vec<Sample>, AllocError>
-    ensures { IfOk result (λ samples. samples.items ≡ idle_samples alert ticks) }
+fn idle_samples(alloc: Global, alert: bool, ticks: u32) -> Result<Runs, AllocError>
+    ensures { IfOk result (λ samples. samples ≡ idle_samples alert ticks) }
 {
-    let mut samples = Vec::new(alloc);
-    for _ in 0..ticks {
-        samples.push(idle(alert))?;
-    }
+    let mut samples = Runs::new(alloc);
+    samples.push(idle(alert), u64::from(ticks))?;
     Ok(samples)
 }
 
@@ -43,9 +41,9 @@ fn frame_samples(
     alert: bool,
     message: &Message,
     answer: &Answer,
-) -> Result<Vec<Sample>, AllocError>
+) -> Result<Runs, AllocError>
     requires { CanBeSent message.now answer.now }
-    ensures { IfOk result (λ samples. samples.items ≡ samples_of alert message.now answer.now) }
+    ensures { IfOk result (λ samples. samples ≡ samples_of alert message.now answer.now) }
 {
     slots_are_one_frame();
     let slots = match frame_slots(alloc, message, answer) {
@@ -57,10 +55,9 @@ fn frame_samples(
         unreachable!()
     };
     let driven = drive(alloc, &plan, alert)?;
-    let mut samples = Vec::new(alloc);
-    samples.push(idle(alert))?;
-    samples.extend_from_slice(&driven.samples)?;
-    Ok(samples)
+    let mut before = Runs::new(alloc);
+    before.push(idle(alert), 1)?;
+    Runs::joined(alloc, &before, &driven.samples)
 }
 
 /// For how many ticks more than one an instruction waits.
@@ -82,10 +79,10 @@ pub(crate) fn step_samples(
     instr: &Instr,
     message: Option<&Message>,
     answer: &Answer,
-) -> Result<Vec<Sample>, AllocError>
+) -> Result<Runs, AllocError>
     requires instr { IsInstr instr.now }
     requires sendable { IfSome (option_map (λ m. m.now) message) (λ m. CanBeSent m answer.now) }
-    ensures { IfOk result (λ samples. samples.items
+    ensures { IfOk result (λ samples. samples
         ≡ step_samples state.now instr.now (option_map (λ m. m.now) message.entry) answer.now) }
 {
     let alert = state.alerting == 0;

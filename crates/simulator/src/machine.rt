@@ -3,7 +3,7 @@ ghost use Rattle.std.specs.Prelude.{◌≡◌, ◌<◌, All, IfOk};
 use std::alloc::AllocError;
 use std::marker::Model;
 use targets::{BusState, Outcome};
-use wires::Sample;
+use wires::Runs;
 
 /// Whether a program goes on.
 #[derive(Clone, Copy, Debug, PartialEq, Eq)]
@@ -50,7 +50,7 @@ pub struct Entry {
     /// What the targets kept before the step.
     pub before: BusState,
     /// The lines, one sample a tick of 5 µs: an idle one first.
-    pub samples: Vec<Sample>,
+    pub samples: Runs,
     /// How the message ended; None for an instruction that sends nothing.
     pub outcome: Option<Outcome>,
     /// The number of samples.
@@ -65,7 +65,7 @@ impl Model for Entry {
     ghost view = { λ e. record {
       place = e.place;
       before = e.before;
-      samples = e.samples.items;
+      samples = e.samples;
       outcome = e.outcome;
       ticks = e.ticks;
     } };

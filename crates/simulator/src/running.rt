@@ -17,8 +17,8 @@ use std::alloc::Global;
 use std::marker::Model;
 
 /// The steps of a run, and the machine after them. The samples of a step that sent a message are
-/// those of one frame, those of any other step of none, and all steps together have at most
-/// 1,000,000.
+/// those of one frame, those of any other step of none, and all steps together take at most
+/// 2^40 ticks.
 #[derive(Debug, Drop)]
 pub struct Trace {
     pub entries: Vec<Entry>,
@@ -40,7 +40,7 @@ impl Model for Trace {
 ///
 /// The first answer that has no step is told: AfterEnd where the program has ended, then
 /// AnswerDoesNotFit, both with the answer's index, then TooLong where the run would have over
-/// 1,000,000 samples. Memory is answered where a growth was refused.
+/// 2^40 ticks. Memory is answered where a growth was refused.
 pub fn run(
     alloc: Global,
     board: &Board,

@@ -24,8 +24,8 @@ use smbus::{Answer, Message, slots_are_one_frame};
 use std::alloc::{AllocError, Global};
 use targets::{BusState, Outcome, after, fits, states_belong};
 
-/// The most samples of a run.
-pub(crate) const MOST_TICKS: u64 = 1_000_000;
+/// The most ticks of a run.
+pub(crate) const MOST_TICKS: u64 = 1 << 40;
 
 fn is_running(machine: &Machine) -> bool
     ensures { IsTrue result ↔ (machine.now.ended ≡ Running) }
@@ -108,7 +108,7 @@ fn step_by(
     let entry = Entry {
         place: machine.place,
         before,
-        ticks: samples.as_slice().len() as u64,
+        ticks: samples.total(),
         samples,
         outcome: sent_outcome(message, outcome),
     };
@@ -149,7 +149,7 @@ fn step_if_fits(
 /// program and the machine are those of the board.
 ///
 /// AfterEnd is answered where the program has ended, then AnswerDoesNotFit where the targets can't
-/// answer so, both with the index, then TooLong where the run would have over 1,000,000 samples.
+/// answer so, both with the index, then TooLong where the run would have over 2^40 ticks.
 /// Memory is answered where a growth was refused.
 pub fn step_at(
     alloc: Global,
@@ -194,7 +194,7 @@ pub fn step_at(
 /// machine are those of the board.
 ///
 /// AfterEnd is answered where the program has ended, then AnswerDoesNotFit where the targets can't
-/// answer so, then TooLong for over 1,000,000 samples; both indices are 0. Memory is answered where
+/// answer so, then TooLong for over 2^40 ticks; both indices are 0. Memory is answered where
 /// a growth was refused.
 pub fn step(
     alloc: Global,

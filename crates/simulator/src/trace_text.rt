@@ -16,7 +16,7 @@ use smbus::{Frame, ObserveFault, frame_text, observe};
 use std::alloc::{AllocError, Global};
 use targets::Outcome;
 use texts::push_word;
-use wires::{Sample, events};
+use wires::{Runs, events_of};
 
 fn outcome_text(alloc: Global, outcome: Outcome) -> Result<String, AllocError>
     ensures { IfOk result (λ text. string_bytes text ≡ outcome_text outcome) }
@@ -33,11 +33,11 @@ fn outcome_text(alloc: Global, outcome: Outcome) -> Result<String, AllocError>
 }
 
 /// The one frame of these samples.
-fn only_frame(alloc: Global, samples: &[Sample]) -> Result<Frame, AllocError>
+fn only_frame(alloc: Global, samples: &Runs) -> Result<Frame, AllocError>
     requires { (frame : Shown) × IsOnlyFrame (events_of samples.now) frame }
     ensures { IfOk result (IsOnlyFrame (events_of samples.now)) }
 {
-    let events = events(alloc, samples)?;
+    let events = events_of(alloc, samples)?;
     match observe(alloc, &events) {
         Ok(mut frames) => match frames.pop() {
             Some(frame) => Ok(frame),

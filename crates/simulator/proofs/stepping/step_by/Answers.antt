@@ -1,4 +1,4 @@
-use Rattle.std.proofs.Common.{length, option_map, sym, ap, subst, ◌∙◌}
+use Rattle.std.proofs.Common.{option_map, sym, ap, subst, ◌∙◌}
 use Rattle.targets.specs.States.{BusState, Belongs}
 use Rattle.targets.specs.Effects.{IsAfter}
 use Rattle.simulator.specs.Machines.{Machine}
@@ -22,13 +22,13 @@ returns-clause-step c =
     c.args.answer.now c.in_ok-bus.bus) bus c.in_ok-bus.ensures.state in
     let entry =
     same_entry c.args.instr.now (option_map (λ m. m.now) c.args.message) c.args.answer.now
-    c.args.machine.now c.machine.inside.place c.in_ok-before.before c.in_ok-samples.samples.items
-    c.sent_outcome.result (length c.as_slice.result.now)
+    c.args.machine.now c.machine.inside.place c.in_ok-before.before c.in_ok-samples.samples
+    c.sent_outcome.result c.total.result
     (ap (λ (m : Machine). m.place) c.machine.view_is) (c.in_ok-before.ensures ∙ bus)
     (c.in_ok-samples.ensures ∙ ap (λ (s : BusState).
     step_samples s c.args.instr.now (option_map (λ m. m.now) c.args.message) c.args.answer.now) bus)
     (c.sent_outcome.ensures ∙ outcome_if (λ m. m.now) c.args.message c.in_ok-bus.outcome
-    c.args.answer.now c.in_ok-bus.ensures.outcome) (ap length c.as_slice.ensures.value) in
+    c.args.answer.now c.in_ok-bus.ensures.outcome) c.total.ensures.total in
     made_step c.args.board.now c.args.instr.now (option_map (λ m. m.now) c.args.message)
     c.args.machine.now c.args.answer.now c.in_ok-bus.bus c.in_ok-bus.outcome c.moved.result _
     c.requires.fits after c.in_ok-bus.ensures.outcome c.moved.ensures entry
@@ -38,13 +38,13 @@ returns-clause-seen c =
     let bus = ap (λ (m : Machine). m.bus) c.machine.view_is in
     let entry =
     same_entry c.args.instr.now (option_map (λ m. m.now) c.args.message) c.args.answer.now
-    c.args.machine.now c.machine.inside.place c.in_ok-before.before c.in_ok-samples.samples.items
-    c.sent_outcome.result (length c.as_slice.result.now)
+    c.args.machine.now c.machine.inside.place c.in_ok-before.before c.in_ok-samples.samples
+    c.sent_outcome.result c.total.result
     (ap (λ (m : Machine). m.place) c.machine.view_is) (c.in_ok-before.ensures ∙ bus)
     (c.in_ok-samples.ensures ∙ ap (λ (s : BusState).
     step_samples s c.args.instr.now (option_map (λ m. m.now) c.args.message) c.args.answer.now) bus)
     (c.sent_outcome.ensures ∙ outcome_if (λ m. m.now) c.args.message c.in_ok-bus.outcome
-    c.args.answer.now c.in_ok-bus.ensures.outcome) (ap length c.as_slice.ensures.value) in
+    c.args.answer.now c.in_ok-bus.ensures.outcome) c.total.ensures.total in
     let can =
     sendable c.args.board.now c.args.machine.now.bus c.args.instr.now c.args.machine.now.regs
     (option_map (λ m. m.now) c.args.message) c.args.answer.now c.targets-targets.ensures.board
