@@ -9,7 +9,8 @@ use Rattle.std.specs.Str.Lines.{lines}
 use Rattle.texts.specs.Reading.{◌>>=◌, some_or}
 use Rattle.bundles.specs.declared.fault.BundleFault.{BundleFault}
 use Rattle.bundles.specs.declared.command.Command.{Command}
-use Rattle.bundles.specs.declared.command.Command.TheVariants.{Frame, Run, Check, Find, Verify}
+use Rattle.bundles.specs.declared.command.Command.TheVariants.{Frame, Run, Wave, Check, Find}
+use Rattle.bundles.specs.declared.command.Command.TheVariants.{Verify}
 use Rattle.bundles.specs.declared.command.Header.{Header}
 use Rattle.bundles.specs.declared.command.Header.TheVariants.{Message, Board, Program, Answers}
 use Rattle.bundles.specs.declared.command.Header.TheVariants.{Table}
@@ -24,6 +25,7 @@ abbrev pub command_of : Line → Option Command
 command_of line =
     if bytes_eq line (codes "%frame") then Some Frame
     else if bytes_eq line (codes "%run") then Some Run
+    else if bytes_eq line (codes "%wave") then Some Wave
     else if bytes_eq line (codes "%check") then Some Check
     else if bytes_eq line (codes "%find") then Some Find
     else if bytes_eq line (codes "%verify") then Some Verify
@@ -40,6 +42,7 @@ header_text Table = codes "%table"
 abbrev pub headers_of : Command → List Header
 headers_of Frame = Message ∷ []
 headers_of Run = Board ∷ Program ∷ Answers ∷ []
+headers_of Wave = Board ∷ Program ∷ Answers ∷ []
 headers_of Check = Board ∷ Program ∷ Table ∷ []
 headers_of Find = Board ∷ Program ∷ []
 headers_of Verify = Board ∷ Program ∷ []

@@ -6,6 +6,7 @@ ghost use Rattle.bundles.specs.Bundles.{header_text, headers_of, command_of};
 pub enum Command {
     Frame,
     Run,
+    Wave,
     Check,
     Find,
     Verify,
@@ -52,6 +53,7 @@ impl Command {
         match self {
             Command::Frame => &FRAME_HEADERS,
             Command::Run => &RUN_HEADERS,
+            Command::Wave => &RUN_HEADERS,
             Command::Check => &CHECK_HEADERS,
             Command::Find => &SEARCH_HEADERS,
             Command::Verify => &SEARCH_HEADERS,
@@ -65,6 +67,7 @@ impl Command {
         match line {
             "%frame" => Some(Command::Frame),
             "%run" => Some(Command::Run),
+            "%wave" => Some(Command::Wave),
             "%check" => Some(Command::Check),
             "%find" => Some(Command::Find),
             "%verify" => Some(Command::Verify),

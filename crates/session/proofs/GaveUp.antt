@@ -12,7 +12,7 @@ use Rattle.fact_search.specs.Forward.{IsForward}
 use Rattle.session.specs.declared.fault.InputFault.{InputFault}
 use Rattle.session.specs.declared.sequence.Sequence.{Sequence}
 use Rattle.session.specs.CheckReplies.{verdict_text}
-use Rattle.session.specs.Commands.{Task, Frame, Run, Check, Find, Verify, IsReplyOf}
+use Rattle.session.specs.Commands.{Task, Frame, Run, Wave, Check, Find, Verify, IsReplyOf}
 use Rattle.session.specs.Promises.{GivesUpOnLoopsAlone, searched_in}
 use Rattle.session.specs.Replies.{Reply}
 use Rattle.session.specs.SearchReplies.{gave_up_text, IsFindReply, IsVerifyReply}
@@ -60,6 +60,7 @@ searched : (task : Task) (old new : Option (List ℕ)) (reply : Reply) → Appen
     → (text : List ℕ) × Appends old new text × IsApart text)
 searched (Frame exchange) old new reply written replies = tt
 searched (Run scenario) old new reply written replies = tt
+searched (Wave scenario) old new reply written replies = tt
 searched (Check trial) old new reply written replies = tt
 searched (Find s) old new reply written replies = λ forward.
     (reply.text, written, found_apart s reply forward replies)

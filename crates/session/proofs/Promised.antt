@@ -10,7 +10,7 @@ use Rattle.session.specs.declared.reply.Status.{Status}
 use Rattle.session.specs.declared.reply.Status.TheVariants as statuses
 use Rattle.session.specs.declared.sequence.Sequence.{Sequence}
 use Rattle.session.specs.CheckReplies.{IsCheckReply, verdict_reply}
-use Rattle.session.specs.Commands.{Task, Frame, Run, Check, Find, Verify, IsReplyOf}
+use Rattle.session.specs.Commands.{Task, Frame, Run, Wave, Check, Find, Verify, IsReplyOf}
 use Rattle.session.specs.Promises.{IsKeptPromise, IsPromised, judged_in}
 use Rattle.session.specs.Replies.{Reply}
 use Rattle.session.specs.SearchReplies.{IsVerifyReply}
@@ -52,6 +52,7 @@ promised : (task : Task) (old new : Option (List ℕ)) (reply : Reply) → Appen
     → IfSome (judged_in task) (λ s. IsPromised old new s)
 promised (Frame exchange) old new reply written ok replies = tt
 promised (Run scenario) old new reply written ok replies = tt
+promised (Wave scenario) old new reply written ok replies = tt
 promised (Check trial) old new reply written ok replies =
     checked trial old new reply written ok replies
 promised (Find sequence) old new reply written ok replies = tt

@@ -14,41 +14,44 @@ use Rattle.simulator.specs.declared.fault.RunFault.TheVariants as faults
 use Rattle.simulator.specs.Faults.{most_ticks, IsStepFault, FailsAt}
 use Rattle.simulator.specs.Machines.{Machine, Entry, start_at, IsMachine}
 use Rattle.simulator.specs.Steps.{IsStep, IsRun, total_ticks}
-use Rattle.simulator.specs.Traces.{IsSeen}
-use Rattle.simulator.specs.TraceTexts.{IsLine, AreLines, last_line}
+use Rattle.simulator.specs.Traces.{Trace, IsSeen}
 use Rattle.simulator.proofs.Runs.{next_run, seen_more, sum_more, fails_here}
-use Rattle.simulator.proofs.StepLines.{line_more}
 use Rattle.session.specs.declared.scenario.Scenario.{Scenario}
+use Rattle.session.specs.declared.report.Report.{Report}
+use Rattle.session.specs.declared.report.Telling.{Telling}
+use Rattle.session.specs.Reports.{IsReport, HasRoom, IsWhole}
 use Rattle.session.specs.RunReplies.{IsRunText}
 use Rattle.session.specs.Scenarios.{start_of, IsFaultOf}
 
 -- the steps of the answers before an index, and what is told of them
-pub record IsTold (s : Scenario) (index ticks : ℕ) (m : Machine) (text : List ℕ) : Type 0 where
+pub record IsTold (telling : Telling) (s : Scenario) (index ticks : ℕ) (m : Machine)
+    (report : Report) : Type 0 where
   pub entries : List Entry
   pub run : IsRun s.board s.program (start_at (start_of s)) (take index s.answers.answers) entries m
   pub machine : IsMachine s.board s.program m
   pub seen : All IsSeen entries
   pub sum : ticks ≡ total_ticks entries
   pub few : ticks ≤ most_ticks
-  pub lines : AreLines entries text
+  pub told : IsReport telling entries report
 
 -- and the answers that are left
-pub record IsToldTo (s : Scenario) (left : List Answered) (index ticks : ℕ) (m : Machine)
-    (text : List ℕ) : Type 0 where
-  pub told : IsTold s index ticks m text
+pub record IsToldTo (telling : Telling) (s : Scenario) (left : List Answered) (index ticks : ℕ)
+    (m : Machine) (report : Report) : Type 0 where
+  pub told : IsTold telling s index ticks m report
   pub rest : drop index s.answers.answers ≡ left
   pub few : length s.answers.answers < 2 ^ 64
 
-pub told_none : (s : Scenario) (m : Machine) → m ≡ start_at (start_of s)
-    → IsMachine s.board s.program m → IsTold s 0 0 m []
-told_none s m is machine = record {
+pub told_none : (telling : Telling) (s : Scenario) (m : Machine) (report : Report)
+    → m ≡ start_at (start_of s) → IsMachine s.board s.program m → IsReport telling [] report
+    → IsTold telling s 0 0 m report
+told_none telling s m report is machine none = record {
   entries = [];
   run = is;
   machine = machine;
   seen = All-from_recursion IsSeen [] tt;
   sum = refl;
   few = omega arith;
-  lines = refl;
+  told = none;
 }
 
 -- the step of the next answer
@@ -78,11 +81,16 @@ next_is (x ∷ answers) (suc i) a later e =
     let n = next_is answers i a later e in
     record { here = n.here; rest = simp unary_clauses (simp unary_clauses at n.rest) }
 
-pub told_more : (s : Scenario) (index ticks : ℕ) (m next : Machine) (text line : List ℕ)
-    (a : Answered) (e : Entry) → IsTold s index ticks m text
-    → slice_get s.answers.answers index ≡ Some a → IsNextStep s ticks m a e next → IsLine e line
-    → IsTold s (index + 1) (ticks + e.ticks) next (text ++ line)
-told_more s index ticks m next text line a e h here n is =
+-- what a report of one step more says
+abbrev pub IsOneMore : Report → Entry → Report → Type 0
+IsOneMore old e new = (telling : Telling) (entries : List Entry) → IsReport telling entries old
+    → IsReport telling (entries ++ e ∷ []) new
+
+pub told_more : (telling : Telling) (s : Scenario) (index ticks : ℕ) (m next : Machine)
+    (old new : Report) (a : Answered) (e : Entry) → IsTold telling s index ticks m old
+    → slice_get s.answers.answers index ≡ Some a → IsNextStep s ticks m a e next
+    → IsOneMore old e new → IsTold telling s (index + 1) (ticks + e.ticks) next new
+told_more telling s index ticks m next old new a e h here n more =
     let answers = s.answers.answers in
     record {
       entries = h.entries ++ e ∷ [];
@@ -93,13 +101,20 @@ told_more s index ticks m next text line a e h here n is =
       seen = seen_more h.entries e h.seen n.seen;
       sum = sum_more h.entries e ticks e.ticks h.sum refl;
       few = n.within;
-      lines = line_more h.entries text e line h.lines is;
+      told = more telling h.entries h.told;
     }
 
-pub told_whole : (s : Scenario) (index ticks : ℕ) (m : Machine) (text : List ℕ)
-    → IsTold s index ticks m text → length s.answers.answers ≤ index
-    → IsStart s.board (start_of s) → IsRunText s (text ++ last_line m.ended ticks)
-told_whole s index ticks m text h le start = record {
+-- what the text of a report says
+abbrev pub IsAll : Report → Machine → ℕ → List ℕ → Type 0
+IsAll report m ticks text = (telling : Telling) (trace : Trace)
+    → IsReport telling trace.entries report → m.ended ≡ trace.last.ended
+    → ticks ≡ total_ticks trace.entries → IsWhole telling trace text
+
+pub told_whole : (telling : Telling) (s : Scenario) (index ticks : ℕ) (m : Machine)
+    (report : Report) (text : List ℕ) → IsTold telling s index ticks m report
+    → length s.answers.answers ≤ index → IsStart s.board (start_of s) → IsAll report m ticks text
+    → IsRunText telling s text
+told_whole telling s index ticks m report text h le start all = record {
   trace = record { entries = h.entries; last = m };
   is_run = record {
     may_start = start;
@@ -111,11 +126,7 @@ told_whole s index ticks m text h le start = record {
       within = subst (λ (n : ℕ). n ≤ most_ticks) h.sum h.few;
     };
   };
-  prints = record {
-    steps = text;
-    lines = h.lines;
-    parts = ap (λ (n : ℕ). text ++ last_line m.ended n) h.sum;
-  };
+  prints = all telling (record { entries = h.entries; last = m }) h.told refl h.sum;
 }
 
 is_fault : (s : Scenario) (fault : RunFault) → IsStart s.board (start_of s)
@@ -126,41 +137,54 @@ is_fault s (faults.AfterEnd index) start fails = (start, fails)
 is_fault s faults.TooLong start fails = (start, fails)
 is_fault s faults.BadStart start fails = absurd fails.why
 
-pub told_fault : (s : Scenario) (index ticks : ℕ) (m : Machine) (text : List ℕ) (a : Answered)
-    (fault : RunFault) → IsTold s index ticks m text → slice_get s.answers.answers index ≡ Some a
-    → IsStart s.board (start_of s) → IsStepFault s.board s.program m a ticks index fault
-    → IsFaultOf s fault
-told_fault s index ticks m text a fault h here start why =
+pub told_fault : (telling : Telling) (s : Scenario) (index ticks : ℕ) (m : Machine)
+    (report : Report) (a : Answered) (fault : RunFault) → IsTold telling s index ticks m report
+    → slice_get s.answers.answers index ≡ Some a → IsStart s.board (start_of s)
+    → IsStepFault s.board s.program m a ticks index fault → IsFaultOf s fault
+told_fault telling s index ticks m report a fault h here start why =
     let answers = s.answers.answers in
     is_fault s fault start (fails_here s.board s.program (start_at (start_of s)) m answers h.entries
     index ticks a fault h.run h.sum h.few (slice_get_within answers index a here)
     (at_place answers index a here) why)
 
-pub told_to_more : (s : Scenario) (left later : List Answered) (index ticks : ℕ) (m next : Machine)
-    (text line : List ℕ) (a : Answered) (e : Entry) → IsToldTo s left index ticks m text
-    → left ≡ a ∷ later → IsNextStep s ticks m a e next → IsLine e line
-    → IsToldTo s later (index + 1) (ticks + e.ticks) next (text ++ line)
-told_to_more s left later index ticks m next text line a e h first n is =
+pub told_to_more : (telling : Telling) (s : Scenario) (left later : List Answered)
+    (index ticks : ℕ) (m next : Machine) (old new : Report) (a : Answered) (e : Entry)
+    → IsToldTo telling s left index ticks m old → left ≡ a ∷ later → IsNextStep s ticks m a e next
+    → IsOneMore old e new → IsToldTo telling s later (index + 1) (ticks + e.ticks) next new
+told_to_more telling s left later index ticks m next old new a e h first n more =
     let at = next_is s.answers.answers index a later (h.rest ∙ first) in
     record {
-      told = told_more s index ticks m next text line a e h.told at.here n is;
+      told = told_more telling s index ticks m next old new a e h.told at.here n more;
       rest = at.rest;
       few = h.few;
     }
 
-pub told_to_fault : (s : Scenario) (left later : List Answered) (index ticks : ℕ) (m : Machine)
-    (text : List ℕ) (a : Answered) (fault : RunFault) → IsToldTo s left index ticks m text
-    → left ≡ a ∷ later → IsStart s.board (start_of s)
-    → IsStepFault s.board s.program m a ticks index fault → IsFaultOf s fault
-told_to_fault s left later index ticks m text a fault h first start why =
-    let at = next_is s.answers.answers index a later (h.rest ∙ first) in
-    told_fault s index ticks m text a fault h.told at.here start why
+-- there is room for the step
+pub room_to_tell : (telling : Telling) (s : Scenario) (left : List Answered) (index ticks : ℕ)
+    (m : Machine) (report : Report) (e : Entry) → IsToldTo telling s left index ticks m report
+    → ticks + e.ticks ≤ most_ticks → HasRoom report e
+room_to_tell telling s left index ticks m report e h within = (
+  telling,
+  h.told.entries,
+  h.told.told,
+  subst (λ (n : ℕ). n + e.ticks ≤ most_ticks) h.told.sum within,
+)
 
-pub told_to_end : (s : Scenario) (left : List Answered) (index ticks : ℕ) (m : Machine)
-    (text : List ℕ) → IsToldTo s left index ticks m text → left ≡ []
-    → IsStart s.board (start_of s) → IsRunText s (text ++ last_line m.ended ticks)
-told_to_end s left index ticks m text h none start =
+pub told_to_fault : (telling : Telling) (s : Scenario) (left later : List Answered)
+    (index ticks : ℕ) (m : Machine) (report : Report) (a : Answered) (fault : RunFault)
+    → IsToldTo telling s left index ticks m report → left ≡ a ∷ later
+    → IsStart s.board (start_of s) → IsStepFault s.board s.program m a ticks index fault
+    → IsFaultOf s fault
+told_to_fault telling s left later index ticks m report a fault h first start why =
+    let at = next_is s.answers.answers index a later (h.rest ∙ first) in
+    told_fault telling s index ticks m report a fault h.told at.here start why
+
+pub told_to_end : (telling : Telling) (s : Scenario) (left : List Answered) (index ticks : ℕ)
+    (m : Machine) (report : Report) (text : List ℕ) → IsToldTo telling s left index ticks m report
+    → left ≡ [] → IsStart s.board (start_of s) → IsAll report m ticks text
+    → IsRunText telling s text
+told_to_end telling s left index ticks m report text h none start all =
     let answers = s.answers.answers in
     let gone : length (drop index answers) ≡ 0 = ap length (h.rest ∙ none) in
     let count = length-drop index answers in
-    told_whole s index ticks m text h.told (omega (arith, gone, count)) start
+    told_whole telling s index ticks m report text h.told (omega (arith, gone, count)) start all

@@ -6,6 +6,7 @@ use Rattle.bundles.specs.declared.command.Command.{Command}
 use Rattle.bundles.specs.declared.command.Command.TheVariants as commands
 use Rattle.session.specs.declared.commands.Task.{Task as TaskCode}
 use Rattle.session.specs.declared.commands.Task.TheVariants as tasks
+use Rattle.session.specs.declared.report.Telling.TheVariants.{Lines, Levels}
 use Rattle.session.specs.declared.scenario.Scenario.{Scenario}
 use Rattle.session.specs.declared.sequence.Sequence.{Sequence}
 use Rattle.session.specs.declared.fault.InputFault.{InputFault}
@@ -23,10 +24,12 @@ use Rattle.session.specs.Scenarios.{scenario_in, IsOnItsBoard}
 use Rattle.session.specs.Sequences.{sequence_in}
 use Rattle.session.specs.Trials.{Trial, trial_in, trial_view}
 
--- a message with its answer, a program with answers, a program with a table, or a program alone
+-- a message with its answer, a program with answers, whose run or whose levels are told, a program
+-- with a table, or a program alone
 pub data Task : Type 0 where
   Frame : (exchange : Exchange) → Task
   Run : (scenario : Scenario) → Task
+  Wave : (scenario : Scenario) → Task
   Check : (trial : Trial) → Task
   Find : (sequence : Sequence) → Task
   Verify : (sequence : Sequence) → Task
@@ -34,6 +37,7 @@ pub data Task : Type 0 where
 abbrev pub task_view : TaskCode → Task
 task_view (tasks.Frame exchange) = Frame exchange
 task_view (tasks.Run scenario) = Run scenario
+task_view (tasks.Wave scenario) = Wave scenario
 task_view (tasks.Check trial) = Check (trial_view trial)
 task_view (tasks.Find sequence) = Find sequence
 task_view (tasks.Verify sequence) = Verify sequence
@@ -50,6 +54,10 @@ asked_by commands.Run sections =
     scenario_in (section_at sections 0) (section_at sections 1) (section_at sections 2)
     >>= λ scenario.
     Ok (Run scenario)
+asked_by commands.Wave sections =
+    scenario_in (section_at sections 0) (section_at sections 1) (section_at sections 2)
+    >>= λ scenario.
+    Ok (Wave scenario)
 asked_by commands.Check sections =
     trial_in (section_at sections 0) (section_at sections 1) (section_at sections 2) >>= λ trial.
     Ok (Check trial)
@@ -75,6 +83,7 @@ task_in text = task_in_lines (lines text)
 abbrev pub IsReady : Task → Type 0
 IsReady (Frame exchange) = All (λ hold. hold ≤ 6999) exchange.answer.holds
 IsReady (Run scenario) = IsOnItsBoard scenario
+IsReady (Wave scenario) = IsOnItsBoard scenario
 IsReady (Check trial) = Unit {0}
 IsReady (Find sequence) = Unit {0}
 IsReady (Verify sequence) = Unit {0}
@@ -82,7 +91,8 @@ IsReady (Verify sequence) = Unit {0}
 -- the reply to each task
 abbrev pub IsReplyOf : Task → Reply → Type 0
 IsReplyOf (Frame exchange) reply = IsFrameReply exchange.message exchange.answer reply
-IsReplyOf (Run scenario) reply = IsRunReply scenario reply
+IsReplyOf (Run scenario) reply = IsRunReply Lines scenario reply
+IsReplyOf (Wave scenario) reply = IsRunReply Levels scenario reply
 IsReplyOf (Check trial) reply = IsCheckReply trial reply
 IsReplyOf (Find sequence) reply = IsFindReply sequence reply
 IsReplyOf (Verify sequence) reply = IsVerifyReply sequence reply

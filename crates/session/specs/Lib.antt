@@ -5,6 +5,7 @@ pub mod Replies
 pub mod FrameReplies
 pub mod SectionTexts
 pub mod Scenarios
+pub mod Reports
 pub mod RunReplies
 pub mod Trials
 pub mod CheckReplies

@@ -1,30 +1,31 @@
--- The reply to a scenario: the text of its trace, or why there is none.
+-- The reply to a scenario: what is told of its run, or why there is none.
 use Rattle.std.specs.Prelude.{◌≡◌, ◌⊎◌, ℕ, List}
 use Rattle.simulator.specs.declared.fault.RunFault.{RunFault}
 use Rattle.simulator.specs.Traces.{Trace}
-use Rattle.simulator.specs.TraceTexts.{IsTraceText}
 use Rattle.session.specs.declared.fault.InputFault.TheVariants.{Run}
 use Rattle.session.specs.declared.reply.Status.TheVariants.{Accepted}
 use Rattle.session.specs.declared.scenario.Scenario.{Scenario}
+use Rattle.session.specs.declared.report.Telling.{Telling}
 use Rattle.session.specs.Replies.{Reply, refusal}
+use Rattle.session.specs.Reports.{IsWhole}
 use Rattle.session.specs.Scenarios.{IsRunOf, IsFaultOf}
 
--- the text of the trace of the run
-pub record IsRunText (s : Scenario) (text : List ℕ) : Type 0 where
+-- all that is told of the run
+pub record IsRunText (telling : Telling) (s : Scenario) (text : List ℕ) : Type 0 where
   pub trace : Trace
   pub is_run : IsRunOf s trace
-  pub prints : IsTraceText trace text
+  pub prints : IsWhole telling trace text
 
-pub record IsTraced (s : Scenario) (reply : Reply) : Type 0 where
+pub record IsTraced (telling : Telling) (s : Scenario) (reply : Reply) : Type 0 where
   pub trace : Trace
   pub is_run : IsRunOf s trace
   pub status : reply.status ≡ Accepted
-  pub text : IsTraceText trace reply.text
+  pub text : IsWhole telling trace reply.text
 
 pub record IsRefused (s : Scenario) (reply : Reply) : Type 0 where
   pub fault : RunFault
   pub is_fault : IsFaultOf s fault
   pub refused : reply ≡ refusal (Run fault)
 
-abbrev pub IsRunReply : Scenario → Reply → Type 0
-IsRunReply s reply = IsTraced s reply ⊎ IsRefused s reply
+abbrev pub IsRunReply : Telling → Scenario → Reply → Type 0
+IsRunReply telling s reply = IsTraced telling s reply ⊎ IsRefused s reply

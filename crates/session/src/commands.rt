@@ -10,6 +10,7 @@ use crate::checking::check_reply;
 use crate::fault::{InputFault, of_bundle};
 use crate::frame::frame_reply;
 use crate::reply::{Reply, Status};
+use crate::report::Telling;
 use crate::scenario::{Scenario, scenario_in};
 use crate::searching::{find_reply, verify_reply};
 use crate::sequence::{Sequence, sequence_in};
@@ -24,6 +25,7 @@ use texts::ReadError;
 pub enum Task<'a> {
     Frame(Exchange),
     Run(Scenario<'a>),
+    Wave(Scenario<'a>),
     Check(Trial),
     Find(Sequence),
     Verify(Sequence),
@@ -44,6 +46,11 @@ fn task_of<'a>(alloc: Global, bundle: &Bundle<'a>) -> Result<Task<'a>, ReadError
             let sections = &bundle.sections;
             let scenario = scenario_in(alloc, &sections[0], &sections[1], &sections[2])?;
             Ok(Task::Run(scenario))
+        }
+        Command::Wave => {
+            let sections = &bundle.sections;
+            let scenario = scenario_in(alloc, &sections[0], &sections[1], &sections[2])?;
+            Ok(Task::Wave(scenario))
         }
         Command::Check => {
             let sections = &bundle.sections;
@@ -78,7 +85,8 @@ pub fn reply_of(alloc: Global, task: &Task<'_>) -> Result<Reply, AllocError>
 {
     match task {
         Task::Frame(exchange) => frame_reply(alloc, &exchange.message, &exchange.answer),
-        Task::Run(scenario) => run_reply(alloc, scenario),
+        Task::Run(scenario) => run_reply(alloc, scenario, Telling::Lines),
+        Task::Wave(scenario) => run_reply(alloc, scenario, Telling::Levels),
         Task::Check(trial) => check_reply(alloc, trial),
         Task::Find(sequence) => find_reply(alloc, sequence),
         Task::Verify(sequence) => verify_reply(alloc, sequence),

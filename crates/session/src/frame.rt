@@ -1,5 +1,7 @@
-ghost use Rattle.std.specs.Prelude.{◌≡◌, ◌≢◌, ◌≤◌, ◌∷◌, [], true, All, IfOk, string_bytes};
+ghost use Rattle.std.specs.Prelude.{◌≡◌, ◌≢◌, ◌≤◌, ◌<◌, ◌∷◌, [], true, All, IfOk};
+ghost use Rattle.std.specs.Prelude.{length, string_bytes};
 ghost use Rattle.wires.specs.Events.{events_of};
+ghost use Rattle.wires.specs.Runs.{most_samples};
 ghost use Rattle.bit_bus.specs.Levels.{idle};
 ghost use Rattle.smbus.specs.Shown.{Shown};
 ghost use Rattle.smbus.specs.Slots.{slots_of};
@@ -16,7 +18,7 @@ use smbus::{
     slots_are_one_frame,
 };
 use std::alloc::{AllocError, Global};
-use wires::{Event, Sample, events};
+use wires::{Event, Runs, Sample, events_of};
 
 /// The lines of a free bus.
 const IDLE: Sample = Sample {
@@ -26,13 +28,13 @@ const IDLE: Sample = Sample {
 };
 
 /// The events of these samples behind an idle one.
-fn events_behind_idle(alloc: Global, samples: &[Sample]) -> Result<Vec<Event>, AllocError>
+fn events_behind_idle(alloc: Global, samples: &Runs) -> Result<Vec<Event>, AllocError>
+    requires { length samples.now < most_samples }
     ensures { IfOk result (λ events. events.items ≡ events_of (idle true ∷ samples.now)) }
 {
-    let mut seen = Vec::new(alloc);
-    seen.push(IDLE)?;
-    seen.extend_from_slice(samples)?;
-    events(alloc, &seen)
+    let mut before = Runs::new(alloc);
+    before.push(IDLE, 1)?;
+    events_of(alloc, &Runs::joined(alloc, &before, samples)?)
 }
 
 /// The one frame of these events.
@@ -69,7 +71,7 @@ fn shown(
     let events = events_behind_idle(alloc, &driven.samples)?;
     let frame = only_frame(alloc, &events)?;
     let frame = frame_text(alloc, &frame)?;
-    let count = driven.samples.len();
+    let count = driven.samples.total();
     let outcome = outcome_line(alloc, message, answer, driven.cut)?;
     format!(in alloc; "{frame}\nsamples {count}\n{outcome}\n")
 }

@@ -9,6 +9,7 @@ mod frame;
 mod intake;
 mod outcome;
 mod reply;
+mod report;
 mod scenario;
 mod searching;
 mod sequence;

@@ -6,15 +6,16 @@ ghost use Rattle.session.specs.Scenarios.{IsOnItsBoard, IsFaultOf};
 
 use crate::fault::InputFault;
 use crate::reply::{Reply, Status, refused};
+use crate::report::{Report, Telling};
 use crate::scenario::Scenario;
-use simulator::{RunFault, last_line, line_of, start, step_at};
+use simulator::{RunFault, start, step_at};
 use std::alloc::{AllocError, Global};
 
-/// The text of the run of a scenario. An answer is read, done and told before the next is read, and
-/// of what it did only the line is kept.
-fn run_text(alloc: Global, scenario: &Scenario<'_>) -> Result<String, RunFault>
+/// What is told of the run of a scenario. An answer is read, done and told before the next is read,
+/// and of what it did only that is kept.
+fn run_text(alloc: Global, scenario: &Scenario<'_>, telling: Telling) -> Result<String, RunFault>
     requires { IsOnItsBoard scenario.now }
-    ensures text { IfOk result (λ text. IsRunText scenario.now (string_bytes text)) }
+    ensures text { IfOk result (λ text. IsRunText telling scenario.now (string_bytes text)) }
     ensures fault { IfErr result (λ e. e ≢ Memory → IsFaultOf scenario.now e) }
 {
     let (board, program) = (&scenario.board, &scenario.program);
@@ -22,29 +23,30 @@ fn run_text(alloc: Global, scenario: &Scenario<'_>) -> Result<String, RunFault>
     let answered = &scenario.answers;
     let mut machine = start(alloc, board, &answered.pages, &answered.protects)?;
     let mut answers = answered.answers();
-    let mut text = String::new(alloc);
+    let mut report = Report::new(alloc, telling)?;
     let mut index = 0;
     let mut ticks = 0;
     while let Some(answer) = answers.next(alloc)? {
         let (after, entry) = step_at(alloc, board, program, &machine, &answer, index, ticks)?;
-        let line = line_of(alloc, &entry)?;
-        text.push_str(&line)?;
+        report = report.and(alloc, &entry)?;
         index += 1;
         ticks += entry.ticks;
         machine = after;
     }
-    let last = last_line(alloc, machine.ended, ticks)?;
-    text.push_str(&last)?;
-    Ok(text)
+    Ok(report.whole(alloc, machine.ended, ticks)?)
 }
 
-/// The reply to a scenario: the text of its run, which is whole before anything is sent.
-pub fn run_reply(alloc: Global, scenario: &Scenario<'_>) -> Result<Reply, AllocError>
+/// The reply to a scenario: what is told of its run, which is whole before anything is sent.
+pub fn run_reply(
+    alloc: Global,
+    scenario: &Scenario<'_>,
+    telling: Telling,
+) -> Result<Reply, AllocError>
     requires { IsOnItsBoard scenario.now }
     ensures whole { IfOk result (λ reply. reply.status ≢ Status.DeviceFault) }
-    ensures replies { IfOk result (λ reply. IsRunReply scenario.now (reply_view reply)) }
+    ensures replies { IfOk result (λ reply. IsRunReply telling scenario.now (reply_view reply)) }
 {
-    match run_text(alloc, scenario) {
+    match run_text(alloc, scenario, telling) {
         Ok(text) => Ok(Reply {
             status: Status::Accepted,
             text: text.into_bytes(),

@@ -1,7 +1,8 @@
 use bit_bus::{Plan, Slot, drive};
 use std::alloc::Global;
-use std::test::Fail;
-use wires::{Event, Sample, events};
+use std::process::Abort;
+use std::test::*;
+use wires::{Event, Runs, Sample, events_of};
 
 fn plan_of(alloc: Global, bits: usize, holds: &[u16]) -> Result<Option<Plan>, Fail> {
     let mut slots = Vec::new(alloc);
@@ -30,38 +31,47 @@ fn limits_of_a_plan(rt: HostRuntime) -> Result<(), Fail> {
 }
 
 /// The samples of a frame without bytes whose STOP is held so long, after an idle one.
-fn stop_held(alloc: Global, hold: u16) -> Result<(Vec<Sample>, Option<usize>), Fail> {
+fn stop_held(alloc: Global, hold: u16) -> Result<(Runs, Option<usize>), Fail> {
     let plan = plan_of(alloc, 0, &[hold])?.ok_or("no plan")?;
     let driven = drive(alloc, &plan, false)?;
-    let mut samples = vec![in alloc;
-        Sample {
-            scl: true,
-            sda: true,
-            alert: false
-        },
-    ]?;
-    samples.extend_from_slice(&driven.samples)?;
-    Ok((samples, driven.cut))
+    let mut before = Runs::new(alloc);
+    let idle = Sample {
+        scl: true,
+        sda: true,
+        alert: false,
+    };
+    before.push(idle, 1)?;
+    Ok((Runs::joined(alloc, &before, &driven.samples)?, driven.cut))
+}
+
+/// The hold of a STOP, the number of samples, and the slot that is cut.
+const HOLDS: [(u16, u64, Option<usize>); 4] = [
+    (0, 4, None),
+    (4999, 5003, None),
+    (5000, 5004, Some(0)),
+    (6999, 7003, Some(0)),
+];
+
+fn all_end_high(
+    rt: &impl Abort,
+    alloc: Global,
+    rows: &[(u16, u64, Option<usize>)],
+) -> Result<(), Fail> {
+    for (hold, count, cut_slot) in rows {
+        let (samples, cut) = stop_held(alloc, *hold)?;
+        assert_eq!(rt; samples.total(), *count + 1, "{hold}");
+        assert_eq!(rt; cut, *cut_slot, "{hold}");
+        assert!(rt; samples.runs().iter().all(|run| !run.sample.alert));
+        let seen = events_of(alloc, &samples)?;
+        let wanted = [Event::Start, Event::Rise(false), Event::Stop];
+        assert_eq!(rt; seen.as_slice(), wanted.as_slice(), "{hold}");
+        let last = samples.sample_at(*count).ok_or("no sample")?;
+        assert!(rt; last.scl && last.sda);
+    }
+    Ok(())
 }
 
 #[test]
 fn at_the_timeout(rt: HostRuntime) -> Result<(), Fail> {
-    let alloc = rt.alloc();
-    for (hold, count, cut_slot) in [
-        (0, 4, None),
-        (4999, 5003, None),
-        (5000, 5004, Some(0)),
-        (6999, 7003, Some(0)),
-    ] {
-        let (samples, cut) = stop_held(alloc, hold)?;
-        assert_eq!(rt; samples.len(), count + 1, "{hold}");
-        assert_eq!(rt; cut, cut_slot, "{hold}");
-        assert!(rt; samples.iter().all(|sample| !sample.alert));
-        let seen = events(alloc, &samples)?;
-        let wanted = [Event::Start, Event::Rise(false), Event::Stop];
-        assert_eq!(rt; seen.as_slice(), wanted.as_slice(), "{hold}");
-        let last = samples.last().copied().ok_or("no sample")?;
-        assert!(rt; last.scl && last.sda);
-    }
-    Ok(())
+    all_end_high(&rt, rt.alloc(), &HOLDS)
 }

@@ -78,7 +78,7 @@ const COUNTED_TABLE: &str = "\
     row 3\nSETS\ngood\nreg r0 0 0 none\nREGISTERS\ncounter c0 0 3\nCOUNTERS\nticks 1 0 0 0 0\n";
 
 /// One change to the table of the counted loop, and what is printed then.
-const CHANGES: [(&str, &str, &str); 16] = [
+const CHANGES: [(&str, &str, &str); 20] = [
     ("ticks 2 12", "ticks 2 12", "accepted bound 50\n"),
     ("ticks 2 12", "ticks 2 11", "refused place 2 rule K7\n"),
     ("row 3", "row 3 none\nrow 3", "fault table 2 BadLine 59\n"),
@@ -115,6 +115,26 @@ const CHANGES: [(&str, &str, &str); 16] = [
         "refused place 0 rule K9\n",
     ),
     ("ticks 50 ", "ticks 050 ", "fault table 2 BadLine 19\n"),
+    (
+        "ticks 50 0 ",
+        "ticks 50 1099511627777 ",
+        "refused place 0 rule K9\n",
+    ),
+    (
+        "counter c0 0 0",
+        "counter c0 0 1001",
+        "refused place 0 rule K9\n",
+    ),
+    (
+        "reg r0 0 0 none",
+        "reg r0 70000 70000 none",
+        "fault table 2 BadLine 7\n",
+    ),
+    (
+        "reg r0 0 0 none",
+        "reg r0 0 0 status vz",
+        "fault table 2 BadLine 7\n",
+    ),
 ];
 
 fn all_change(
@@ -135,6 +155,47 @@ fn all_change(
 fn changed_tables(rt: HostRuntime) -> Result<(), Fail> {
     let table = table_of(rt.alloc(), COUNTED_TABLE)?;
     all_change(&rt, rt.alloc(), &table, &CHANGES)
+}
+
+/// As many ticks as a table may say, everywhere.
+#[test]
+fn the_most_ticks(rt: HostRuntime) -> Result<(), Fail> {
+    let alloc = rt.alloc();
+    let most = "ticks MOST MOST MOST MOST MOST";
+    let mut rows = COUNTED_TABLE.replace(alloc, "ticks 50 0 0 0 0", most)?;
+    for ticks in ["ticks 13 12 0 0 0", "ticks 2 12 0 0 0", "ticks 1 0 0 0 0"] {
+        rows = rows.replace(alloc, ticks, most)?;
+    }
+    let table = table_of(alloc, &rows.replace(alloc, "MOST", "1099511627776")?)?;
+    let refused = "refused place 0 rule K7\n";
+    assert!(rt; gives(alloc, COUNTED, &table, Status::Refused, refused)?);
+    Ok(())
+}
+
+/// Tries a bundle cut after each byte but its last. Where `%table` ends it has a table without rows.
+fn all_cut(rt: &impl Abort, alloc: Global, bundle: &[u8], head: usize) {
+    for (count, _) in bundle.iter().enumerate() {
+        let mut cut = bundle.get(..count).unwrap_or_default();
+        let mut output = Vec::new(alloc);
+        let status = session(alloc, &mut cut, &mut output);
+        if count == head || count == head + 1 {
+            assert_eq!(rt; output.as_slice(), b"refused place 0 rule K9\n".as_slice());
+        } else if count + 1 == bundle.len() {
+            assert_eq!(rt; output.as_slice(), b"accepted bound 1\n".as_slice());
+        } else {
+            assert_eq!(rt; status, Status::InputFault, "{count}");
+        }
+    }
+}
+
+#[test]
+fn a_bundle_that_is_cut(rt: HostRuntime) -> Result<(), Fail> {
+    let alloc = rt.alloc();
+    let head = format!(in alloc; "%check\n%board\n{TWO}%program\nend\n%table")?;
+    let table = table_of(alloc, END)?;
+    let bundle = format!(in alloc; "{head}\n{table}")?;
+    all_cut(&rt, alloc, bundle.as_bytes(), head.len());
+    Ok(())
 }
 
 const VOLTAGE: &str = "write a VOUT_COMMAND 4505 else bad\nend\nbad:\nfail";

@@ -1,6 +1,7 @@
 //! Whole sessions: what is printed for a bundle, and what is left where a device fails.
 
 mod devices;
+mod waves;
 
 use session::{Status, outcome_line, session};
 use smbus::{Answer, Form, Message};
@@ -296,9 +297,9 @@ fail ticks 108
         "running ticks 0\n",
     ),
     (
-        "wait 999999\nend\n",
-        "start 00,00 00,00\n-\n",
-        "0 1000000 - -\nrunning ticks 1000000\n",
+        "wait 1000000\nend\n",
+        "start 00,00 00,00\n-\n-\n",
+        "0 1000001 - -\n1 1 - -\nend ticks 1000002\n",
     ),
     (
         "read a STATUS_WORD r0 else no\nif r0 0x0840 0x0000 good\nfail\ngood:\nend\nno:\nfail\n",
@@ -327,7 +328,7 @@ fn traces(rt: HostRuntime) -> Result<(), Fail> {
 }
 
 /// A program, its answers, and the fault. The program stands below line 35 of the bundle.
-const RUN_FAULTS: [(&str, &str, &str); 10] = [
+const RUN_FAULTS: [(&str, &str, &str); 9] = [
     // One CR before the LF is the bundle's to drop, and no second one.
     (
         "end\r\r\n",
@@ -343,11 +344,6 @@ const RUN_FAULTS: [(&str, &str, &str); 10] = [
         ASKING,
         "start 00,00 00,00\nalerts=3\nvalue=42\nvalue=80\nrefuse=0\n-\n-\n",
         "fault run 3 AfterEnd 5\n",
-    ),
-    (
-        "wait 1000000\nend\n",
-        "start 00,00 00,00\n-\n",
-        "fault run 4 TooLong\n",
     ),
     (
         ASKING,

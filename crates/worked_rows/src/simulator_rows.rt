@@ -4,7 +4,7 @@ ghost use Rattle.seq_program.specs.Valid.{IsOnBoard};
 use crate::boards::alert_board;
 use board::Board;
 use seq_program::{Program, read_program};
-use simulator::{RunFault, Trace, WriteFault, run, start, step, write_trace};
+use simulator::{Entry, RunFault, Trace, WriteFault, run, start, step, write_trace};
 use smbus::Answer;
 use std::alloc::{AllocError, Global};
 use std::io;
@@ -158,17 +158,65 @@ fn first_answer_without_a_step_is_told(rt: HostRuntime) -> Result<(), Fail> {
 
 const LONG: [Case; 2] = [
     (
-        "wait 999999\nend\n",
+        "wait 1000000\nend\n",
+        0,
+        &[NOTHING, NOTHING],
+        "0 1000001 - -\n1 1 - -\nend ticks 1000002\n",
+    ),
+    (
+        "wait 10000000\nend\n",
         0,
         &[NOTHING],
-        "0 1000000 - -\nrunning ticks 1000000\n",
+        "0 10000001 - -\nrunning ticks 10000001\n",
     ),
-    ("wait 1000000\nend\n", 0, &[NOTHING], "4 TooLong"),
 ];
 
 #[test]
-fn runs_have_a_million_samples_at_most(rt: HostRuntime) -> Result<(), Fail> {
+fn waits_are_long(rt: HostRuntime) -> Result<(), Fail> {
     assert_runs(&rt, rt.alloc(), &LONG)
+}
+
+fn long_wait_on(alloc: Global, board: &Board) -> Result<Entry, Fail> {
+    let program = read_program(alloc, board, "wait 10000000\nend\n")?;
+    let _places = program.places();
+    let machine = start(alloc, board, &[0, 0], &[0, 0])?;
+    let (_, entry) = step(alloc, board, &program, &machine, &answer_of(alloc, NOTHING))?;
+    Ok(entry)
+}
+
+/// The step of the longest wait.
+fn long_wait(alloc: Global) -> Result<Entry, Fail> {
+    let board = alert_board(alloc)?;
+    long_wait_on(alloc, &board)
+}
+
+#[test]
+fn a_wait_is_one_run(rt: HostRuntime) -> Result<(), Fail> {
+    let entry = long_wait(rt.alloc())?;
+    assert_eq!(rt; (entry.ticks, entry.samples.runs().len()), (10_000_001, 1));
+    let last = entry.samples.sample_at(10_000_000).ok_or("no sample")?;
+    assert!(rt; last.scl && last.sda);
+    assert!(rt; entry.samples.sample_at(10_000_001).is_none());
+    Ok(())
+}
+
+/// The text of a run that waits again and again, with so many answers.
+fn spin(alloc: Global, answers: usize) -> Result<String, Fail> {
+    let mut said = Vec::new(alloc);
+    for _ in 0..answers {
+        said.push(NOTHING)?;
+    }
+    run_text(alloc, "spin:\nwait 10000000\ngoto spin\nend\n", 0, &said)
+}
+
+#[test]
+fn runs_take_two_to_the_fortieth_ticks_at_most(rt: HostRuntime) -> Result<(), Fail> {
+    let alloc = rt.alloc();
+    let text = spin(alloc, 219_902)?;
+    assert!(rt; text.ends_with("\n1 1 - -\nrunning ticks 1099510219902\n"));
+    let fault = spin(alloc, 219_903)?;
+    assert_eq!(rt; fault.as_str(), "4 TooLong");
+    Ok(())
 }
 
 /// Every instruction that sends nothing: the places of its steps tell which way each went.

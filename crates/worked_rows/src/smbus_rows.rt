@@ -3,10 +3,10 @@ use smbus::{
     Answer, Form, Message, ObserveFault, Segment, SmbusFault, carries_code, form_named,
     frame_slots, frame_text, most_slots, observe, sent_count, slot_count,
 };
-use std::alloc::{AllocError, Global};
+use std::alloc::Global;
 use std::process::Abort;
 use std::test::Fail;
-use wires::{Event, Sample, events};
+use wires::{Event, Sample, events, events_of};
 
 /// The form, the code and the bytes of a message.
 type Asked = (Form, u8, &'static [u8]);
@@ -48,15 +48,18 @@ fn driven(alloc: Global, message: &Message, answer: &Answer) -> Result<Driven, F
     Ok(drive(alloc, &plan, true)?)
 }
 
-fn events_of(alloc: Global, samples: &[Sample]) -> Result<Vec<Event>, AllocError> {
+/// The samples of a frame, one a tick, behind an idle one.
+fn samples_of(alloc: Global, driven: &Driven) -> Result<Vec<Sample>, Fail> {
     let idle = Sample {
         scl: true,
         sda: true,
         alert: true,
     };
-    let mut levels = vec![in alloc; idle]?;
-    levels.extend_from_slice(samples)?;
-    events(alloc, &levels)
+    let mut samples = vec![in alloc; idle]?;
+    for place in 0..driven.samples.total() {
+        samples.push(driven.samples.sample_at(place).ok_or("no sample")?)?;
+    }
+    Ok(samples)
 }
 
 /// The text of the first frame of which these are the events.
@@ -74,12 +77,15 @@ fn reads(rt: &impl Abort, alloc: Global, events: &[Event], want: &str) -> Result
 }
 
 /// The text of a frame that is read back, its number of samples, and the slot in which it is cut.
-type Shown<'a> = (&'a str, usize, Option<usize>);
+type Shown<'a> = (&'a str, u64, Option<usize>);
 
 fn compare(rt: &impl Abort, alloc: Global, driven: &Driven, want: Shown<'_>) -> Result<(), Fail> {
     let (text, samples, cut) = want;
-    assert_eq!(rt; (driven.samples.len(), driven.cut), (samples, cut));
-    let events = events_of(alloc, &driven.samples)?;
+    assert_eq!(rt; (driven.samples.total(), driven.cut), (samples, cut));
+    let events = events(alloc, &samples_of(alloc, driven)?)?;
+    // The first is the START, which the idle sample before it makes one.
+    let later = events_of(alloc, &driven.samples)?;
+    assert_eq!(rt; events.get(1..), Some(later.as_slice()));
     reads(rt, alloc, &events, text)
 }
 
@@ -102,14 +108,14 @@ fn shows_done(
     alloc: Global,
     asked: Asked,
     returned: (u16, &[u8]),
-    want: (&'static str, usize),
+    want: (&'static str, u64),
 ) -> Result<(), Fail> {
     let answer = answer_of(alloc, None, returned.0, returned.1)?;
     shows(rt, alloc, asked, &answer, (want.0, want.1, None))
 }
 
 /// What is asked, the number that is read, and the text and the number of samples of the frame.
-const PLAIN: [(Asked, u16, &str, usize); 8] = [
+const PLAIN: [(Asked, u16, &str, u64); 8] = [
     ((Form::Quick(false), 0, &[]), 0, "S 80A P", 22),
     ((Form::SendByte, 0x03, &[]), 0, "S 80A 03A P", 40),
     ((Form::ReceiveByte, 0, &[]), 0x5A, "S 81A 5AN P", 40),
@@ -138,7 +144,7 @@ const PLAIN: [(Asked, u16, &str, usize); 8] = [
 fn all_show_done(
     rt: &impl Abort,
     alloc: Global,
-    rows: &[(Asked, u16, &'static str, usize)],
+    rows: &[(Asked, u16, &'static str, u64)],
 ) -> Result<(), Fail> {
     for (asked, value, text, samples) in rows {
         shows_done(rt, alloc, *asked, (*value, &[]), (text, *samples))?;

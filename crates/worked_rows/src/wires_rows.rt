@@ -1,5 +1,10 @@
-use std::test::Fail;
-use wires::{Event, Sample, arbitrate, events, wired};
+//! Levels and runs of levels, events, arbitration, waveforms.
+
+mod waves;
+
+use std::alloc::{AllocError, Global};
+use std::test::*;
+use wires::{Event, Runs, Sample, arbitrate, events, events_of, wired};
 
 const IDLE: Sample = Sample {
     scl: true,
@@ -45,6 +50,57 @@ fn start_and_stop(rt: HostRuntime) -> Result<(), Fail> {
     let seen = events(rt.alloc(), &samples)?;
     let wanted = [Event::Start, Event::Rise(false), Event::Stop];
     assert_eq!(rt; seen.as_slice(), wanted.as_slice());
+    Ok(())
+}
+
+/// SCL low for ten ticks between idle ones.
+fn held_low(alloc: Global) -> Result<Runs, AllocError> {
+    let mut samples = Runs::new(alloc);
+    samples.push(IDLE, 3)?;
+    samples.push(lines(false, false), 10)?;
+    samples.push(IDLE, 0)?;
+    samples.push(IDLE, 1)?;
+    samples.push(IDLE, 2)?;
+    Ok(samples)
+}
+
+#[test]
+fn equal_samples_are_one_run(rt: HostRuntime) -> Result<(), Fail> {
+    let samples = held_low(rt.alloc())?;
+    assert_eq!(rt; (samples.total(), samples.runs().len()), (16, 3));
+    for (place, want) in [
+        (0, true),
+        (2, true),
+        (3, false),
+        (12, false),
+        (13, true),
+        (15, true),
+    ] {
+        assert_eq!(rt;
+            samples.sample_at(place).map(|sample| sample.scl),
+            Some(want),
+            "{place}"
+        );
+    }
+    assert_eq!(rt; samples.sample_at(16), None);
+    let seen = events_of(rt.alloc(), &samples)?;
+    assert_eq!(rt; seen.as_slice(), [Event::Rise(true)].as_slice());
+    Ok(())
+}
+
+#[test]
+fn runs_are_joined(rt: HostRuntime) -> Result<(), Fail> {
+    let alloc = rt.alloc();
+    let mut later = Runs::new(alloc);
+    later.push(IDLE, 4)?;
+    let mut first = Runs::new(alloc);
+    assert_eq!(rt; (first.total(), first.sample_at(0)), (0, None));
+    first.push(lines(true, false), 1)?;
+    first.push(IDLE, 1)?;
+    let both = Runs::joined(alloc, &first, &later)?;
+    assert_eq!(rt; (both.total(), both.runs().len()), (6, 2));
+    let seen = events_of(alloc, &both)?;
+    assert_eq!(rt; seen.as_slice(), [Event::Stop].as_slice());
     Ok(())
 }
 

@@ -1,0 +1,74 @@
+ghost use Rattle.std.specs.Prelude.{◌≡◌, ◌∷◌, ◌++◌, [], List, IfOk, string_bytes};
+ghost use Rattle.simulator.specs.Machines.{Entry as Step};
+ghost use Rattle.simulator.specs.Steps.{total_ticks};
+ghost use Rattle.simulator.specs.Traces.{Trace, IsSeen};
+ghost use Rattle.session.specs.Reports.{IsReport, HasRoom, IsWhole};
+
+use simulator::{Ending, Entry, last_line, line_of};
+use std::alloc::{AllocError, Global};
+use wires::Wave;
+
+/// How a run is told.
+#[derive(Clone, Copy, Debug, PartialEq, Eq)]
+pub enum Telling {
+    /// By the lines of its trace.
+    Lines,
+    /// By the levels of the bus.
+    Levels,
+}
+
+/// What is told of a run, step by step.
+#[derive(Drop)]
+pub enum Report {
+    Lines(String),
+    Wave(Wave),
+}
+
+impl Report {
+    /// The report of no steps.
+    pub fn new(alloc: Global, telling: Telling) -> Result<Report, AllocError>
+        ensures { IfOk result (IsReport telling []) }
+    {
+        match telling {
+            Telling::Lines => Ok(Report::Lines(String::new(alloc))),
+            Telling::Levels => Ok(Report::Wave(Wave::new(alloc)?)),
+        }
+    }
+
+    /// The report with one step more. Fails only for want of memory.
+    pub fn and(self, alloc: Global, entry: &Entry) -> Result<Report, AllocError>
+        requires seen { IsSeen entry.now }
+        requires room { HasRoom self entry.now }
+        ensures { IfOk result (λ report. (telling : Telling) → (entries : List Step)
+            → IsReport telling entries self
+            → IsReport telling (entries ++ entry.now ∷ []) report) }
+    {
+        match self {
+            Report::Lines(mut text) => {
+                let line = line_of(alloc, entry)?;
+                text.push_str(&line)?;
+                Ok(Report::Lines(text))
+            }
+            Report::Wave(mut wave) => {
+                wave.push(entry.place, &entry.samples)?;
+                Ok(Report::Wave(wave))
+            }
+        }
+    }
+
+    /// The text of a run that ended so, after so many ticks.
+    pub fn whole(self, alloc: Global, ended: Ending, ticks: u64) -> Result<String, AllocError>
+        ensures { IfOk result (λ text. (telling : Telling) → (trace : Trace)
+            → IsReport telling trace.entries self → ended ≡ trace.last.ended
+            → ticks ≡ total_ticks trace.entries → IsWhole telling trace (string_bytes text)) }
+    {
+        match self {
+            Report::Lines(mut text) => {
+                let last = last_line(alloc, ended, ticks)?;
+                text.push_str(&last)?;
+                Ok(text)
+            }
+            Report::Wave(wave) => Ok(wave.into_text()),
+        }
+    }
+}
