@@ -11,3 +11,4 @@ pub mod WellFormedBundles
 pub mod ReadBundles
 pub mod NumberedSections
 pub mod CheckedLines
+pub mod Silence

@@ -34,6 +34,17 @@ answer_in number words = do
   value_if (bad_answer number) (length (past_alerts words) == 0)
       (record answer { took = took; alerts = alerts })
 
+-- the answer of no words
+abbrev pub silence : Answered
+silence = record {
+  holds = [];
+  refuse = None;
+  value = 0;
+  bytes = [];
+  took = false;
+  alerts = 0;
+}
+
 -- `-` alone stands for no words
 abbrev pub said : List Line → List Line
 said (word ∷ []) = if bytes_eq word (codes "-") then [] else word ∷ []

@@ -1,6 +1,6 @@
 ghost use Rattle.std.specs.Prelude.{◌≡◌, ◌≤◌, option_copied, codes, All, IfOk};
 ghost use Rattle.texts.specs.Reading.{Gives};
-ghost use Rattle.bundles.specs.AnswerLines.{took_of, said, answer_in, answer_line_of};
+ghost use Rattle.bundles.specs.AnswerLines.{took_of, said, silence, answer_in, answer_line_of};
 ghost use Rattle.bundles.specs.AnswerWords.{answer_of, past_bytes};
 ghost use Rattle.bundles.specs.Fields.{value_of, rest_of};
 ghost use Rattle.bundles.specs.Texts.{texts_of};
@@ -61,6 +61,20 @@ fn answer_in(
     })
 }
 
+/// The answer in which nothing is said.
+fn silence(alloc: Global) -> Answer
+    ensures { result ≡ silence }
+{
+    Answer {
+        holds: Vec::new(alloc),
+        refuse: None,
+        value: 0,
+        bytes: Vec::new(alloc),
+        took: false,
+        alerts: 0,
+    }
+}
+
 /// The answer of a line.
 pub fn answer_line_of(
     alloc: Global,
@@ -70,6 +84,10 @@ pub fn answer_line_of(
     ensures held { IfOk result (λ answer. All (λ hold. hold ≤ 6999) answer.holds) }
     ensures value { Gives (λ a. a) result (answer_line_of number line.now) }
 {
+    // Most steps are answered so; the words needn't be looked at.
+    if line == "-" {
+        return Ok(silence(alloc));
+    }
     let list = words_of(alloc, line)?;
     let mut words = Fields { words: said(&list) };
     answer_in(alloc, number, &mut words)

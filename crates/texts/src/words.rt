@@ -22,7 +22,11 @@ fn parts_between_feeds<'a>(alloc: Global, text: &'a str) -> Result<Vec<&'a str>,
     ensures { IfOk result
         (λ v. map (λ l. l.now) v.items ≡ slice_split (λ b. b == 10) text.now) }
 {
-    text.split('\n').collect(alloc)
+    let mut parts = Vec::new(alloc);
+    for part in text.split('\n') {
+        parts.push(part)?;
+    }
+    Ok(parts)
 }
 
 /// The parts that are lines: all but an empty last one.
