@@ -13,6 +13,7 @@ use Rattle.smbus.specs.Shown.{Shown}
 use Rattle.smbus.specs.Frames.{byte_bits, segment_bits, rises, segment_words, frame_word, IsFrame}
 use Rattle.smbus.specs.Frames.{AreFrames, Begins, FailsAt}
 use Rattle.smbus.specs.Machine.{byte_of, State, risen, is_again, ends_low, all_but_last, step}
+pub use Rattle.smbus.specs.Machine.{start, then_run, run}
 use Rattle.smbus.proofs.Bytes.{length-byte_bits, byte_of-byte_bits, byte_bits-byte_of, byte_of-lt}
 
 abbrev pub Segments : Type 0
@@ -21,17 +22,6 @@ Segments = List (List (ℕ × Bool))
 abbrev pub state : List Shown → Bool → Segments → List (ℕ × Bool) → List Bool → State
 state frames is_open segments bytes bits =
     record { frames = frames; is_open = is_open; segments = segments; bytes = bytes; bits = bits }
-
-abbrev pub start : State
-start = state [] false [] [] []
-
-abbrev pub then_run : (State → Option State) → Option State → Option State
-then_run f None = None
-then_run f (Some s) = f s
-
-abbrev pub run : List Event → State → Option State
-run [] s = Some s
-run (e ∷ es) s = then_run (run es) (step s e)
 
 then_run-append : (a b : List Event) → ((s : State) → run (a ++ b) s ≡ then_run (run b) (run a s))
     → (o : Option State) → then_run (run (a ++ b)) o ≡ then_run (run b) (then_run (run a) o)
@@ -180,11 +170,11 @@ few_keeps frames segments bytes bits b h few =
           (Rise b ∷ []))),
     )
 
-risen-nine : (b : Bool) (s : State) → length s.bits ≡ 9
+pub risen-nine : (b : Bool) (s : State) → length s.bits ≡ 9
     → risen b s ≡ state s.frames s.is_open s.segments (s.bytes ++ byte_of s.bits ∷ []) (b ∷ [])
 risen-nine b s e = let t : (length s.bits == 9) ≡ true = eq-eqb _ _ e in rw t refl
 
-risen-few : (b : Bool) (s : State) → length s.bits < 9
+pub risen-few : (b : Bool) (s : State) → length s.bits < 9
     → risen b s ≡ state s.frames s.is_open s.segments s.bytes (s.bits ++ b ∷ [])
 risen-few b s lt =
     let ne : length s.bits ≡ 9 → ⊥ = λ e. omega arith in
@@ -502,7 +492,7 @@ begins_open frames true segments bytes bits h =
     run_keeps (Rise false ∷ Stop ∷ []) (state frames true segments bytes bits) (closed l.0) h l.1 in
     (l.0, Rise false ∷ Stop ∷ [], record { each = k.0.each; words = sym k.1 ∙ append-nil (flat_map frame_word l.0) })
 
-sound_start : Sound start
+pub sound_start : Sound start
 sound_start = record {
   each = All-nil IsFrame;
   segments = All-nil AreBytes;
@@ -564,7 +554,7 @@ begins_front n es (fs, more, are) = (
       (sym (take-append-drop n es)) ∙ append_assoc (take n es) (drop n es) more) are,
 )
 
-begins_less : (es : List Event) (m n : ℕ) → m ≤ n → Begins (take n es) → Begins (take m es)
+pub begins_less : (es : List Event) (m n : ℕ) → m ≤ n → Begins (take n es) → Begins (take m es)
 begins_less es m n le b = subst Begins (take-take m n es le) (begins_front m (take n es) b)
 
 pub fails_here : (es : List Event) (place : ℕ) (s : State) (d : Event) → place < length es

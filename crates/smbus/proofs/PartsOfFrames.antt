@@ -1,10 +1,9 @@
 -- A whole frame is the controller's first bytes, a repeated START with the address, if it has one,
 -- and what is returned.
-use Rattle.std.proofs.Common.{◌≡◌, ℕ, zero, suc, ◌+◌, ◌*◌, ◌<◌, ◌≤◌, nat_lt, IsTrue, Bool, true}
+use Rattle.std.proofs.Common.{◌≡◌, ℕ, zero, suc, ◌+◌, ◌*◌, ◌<◌, ◌≤◌, Bool, true}
 use Rattle.std.proofs.Common.{false, Option, Some, None, is_none, List, [], ◌∷◌, ◌++◌, length, take}
 use Rattle.std.proofs.Common.{get_or, refl, sym, ap, subst, ◌∙◌, append_assoc, arith}
 use Rattle.std.proofs.lemmas.Grind.{flat_map-append}
-use Rattle.std.proofs.lemmas.Bool.{ltb-true, lt-ltb}
 use Rattle.std.proofs.lemmas.List.{append-nil}
 use Rattle.bit_bus.specs.declared.plan.Slot.{Slot}
 use Rattle.smbus.specs.declared.message.Form.{Form}
@@ -16,11 +15,10 @@ use Rattle.smbus.specs.Asked.{Asked}
 use Rattle.smbus.specs.Answered.{Answered}
 use Rattle.smbus.specs.Protocol.{Piece, sent, got, whole_of, whole, refused_at, up_to_refused}
 use Rattle.smbus.specs.Protocol.{sent_count, byte_marks, piece_marks, marks_of, IsNumbered}
-use Rattle.smbus.specs.Protocol.{HasLength}
 use Rattle.smbus.specs.Protocol.Piece.{Sent, Refused, Repeat}
 use Rattle.smbus.specs.Parts.{first_bytes_of, first_bytes, has_repeat, returned_bytes, rest_of}
 use Rattle.smbus.specs.Parts.{IsAfter}
-use Rattle.smbus.specs.Slots.{marks_sent, IsGoodData}
+use Rattle.smbus.specs.Slots.{marks_sent}
 
 -- the repeated START and the address after it
 abbrev pub repeat_of : Bool → ℕ → List Piece

@@ -14,4 +14,7 @@ pub mod Faults
 pub mod FormWords
 pub mod Parts
 pub mod Machine
+pub mod Control
+pub mod Observers
+pub mod Kept
 pub mod Counts

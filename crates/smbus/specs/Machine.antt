@@ -96,3 +96,15 @@ step s Stop = if s.is_open
     })
     else None)
     else None
+
+abbrev pub then_run : (State → Option State) → Option State → Option State
+then_run f None = None
+then_run f (Some s) = f s
+
+-- the state after events, and None where one of them doesn't go on
+abbrev pub run : List Event → State → Option State
+run [] s = Some s
+run (e ∷ es) s = then_run (run es) (step s e)
+
+abbrev pub start : State
+start = record { frames = []; is_open = false; segments = []; bytes = []; bits = [] }

@@ -1,11 +1,13 @@
 //! SMBus messages as slots of the bus, and events of the bus as frames.
 #![tactic(auto)]
 
+mod control;
 mod counting;
 mod fault;
 mod frame;
 mod law;
 mod message;
+mod observer;
 mod observing;
 mod slots;
 mod text;
@@ -16,6 +18,7 @@ pub use fault::{ObserveFault, SmbusFault};
 pub use frame::{Frame, Segment};
 pub use law::{messages_have_one_frame, slots_are_one_frame};
 pub use message::{Answer, Form, Message};
+pub use observer::Observer;
 pub use observing::observe;
 pub use slots::frame_slots;
 pub use text::frame_text;

@@ -3,7 +3,9 @@ ghost use Rattle.std.specs.Prelude.{IfOk};
 ghost use Rattle.std.specs.Prelude.{IfErr, IsTrue, OnOk, MatchOption, MatchResult, MatchBool};
 ghost use Rattle.smbus.specs.Shown.{Shown};
 ghost use Rattle.smbus.specs.Frames.{AreFrames, FaultIs};
-ghost use Rattle.smbus.specs.Machine.{byte_of, reading_of, risen, step};
+ghost use Rattle.smbus.specs.Machine.{byte_of, reading_of, risen, run, start, step};
+ghost use Rattle.smbus.specs.Control.{control_after};
+ghost use Rattle.smbus.specs.declared.control.Control.TheVariants.{Free};
 ghost use Rattle.smbus.specs.declared.fault.ObserveFault.TheVariants.{Memory};
 
 use crate::fault::ObserveFault;
@@ -43,6 +45,18 @@ fn byte_from(bits: &[bool]) -> (u8, bool)
 }
 
 impl Reading {
+    fn new(alloc: Global) -> Reading
+        ensures { reading_of result ≡ start }
+    {
+        Reading {
+            frames: Vec::new(alloc),
+            is_open: false,
+            segments: Vec::new(alloc),
+            bytes: Vec::new(alloc),
+            bits: Vec::new(alloc),
+        }
+    }
+
     fn rise(&mut self, bit: bool) -> Result<(), AllocError>
         ensures { OnOk result (reading_of self.new ≡ risen bit (reading_of self.old)) }
     {
@@ -113,6 +127,34 @@ impl Reading {
             }
         }
     }
+
+    /// Takes events in order, and answers whether all of them go on.
+    fn read(&mut self, alloc: Global, events: &[Event]) -> Result<bool, AllocError>
+        ensures { IfOk result (λ all. MatchBool all (run events.now (reading_of self.old)
+            ≡ Some (reading_of self.new)) (run events.now (reading_of self.old) ≡ None)) }
+    {
+        for event in events {
+            if !self.take(alloc, *event)? {
+                return Ok(false);
+            }
+        }
+        Ok(true)
+    }
+}
+
+/// The frames of which two parts together are the events.
+pub(crate) fn frames_of(
+    alloc: Global,
+    first: &[Event],
+    later: &[Event],
+) -> Result<Vec<Frame>, AllocError>
+    requires whole { control_after (first.now ++ later.now) Free ≡ Some Free }
+    ensures { IfOk result (λ frames. AreFrames (first.now ++ later.now) frames.items) }
+{
+    let mut reading = Reading::new(alloc);
+    reading.read(alloc, first)?;
+    reading.read(alloc, later)?;
+    Ok(reading.frames)
 }
 
 /// The frames of which these are the events (UM10204, 3.1.4 to 3.1.6), if there are such.
@@ -129,13 +171,7 @@ pub fn observe(alloc: Global, events: &[Event]) -> Result<Vec<Frame>, ObserveFau
         (λ e. e ≢ Memory → (frames : List Shown) → AreFrames events.now frames → ⊥) }
     ensures fault { IfErr result (FaultIs events.now) }
 {
-    let mut reading = Reading {
-        frames: Vec::new(alloc),
-        is_open: false,
-        segments: Vec::new(alloc),
-        bytes: Vec::new(alloc),
-        bits: Vec::new(alloc),
-    };
+    let mut reading = Reading::new(alloc);
     for (place, event) in events.iter().enumerate() {
         if !reading.take(alloc, *event)? {
             return Err(ObserveFault::NotFrames(place));
