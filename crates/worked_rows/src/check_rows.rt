@@ -178,7 +178,7 @@ fn all_cut(rt: &impl Abort, alloc: Global, bundle: &[u8], head: usize) {
         let mut cut = bundle.get(..count).unwrap_or_default();
         let mut output = Vec::new(alloc);
         let status = session(alloc, &mut cut, &mut output);
-        if count == head || count == head + 1 {
+        if count == head || count.checked_sub(1) == Some(head) {
             assert_eq!(rt; output.as_slice(), b"refused place 0 rule K9\n".as_slice());
         } else if count + 1 == bundle.len() {
             assert_eq!(rt; output.as_slice(), b"accepted bound 1\n".as_slice());

@@ -1,3 +1,5 @@
+mod pieces;
+
 use bit_bus::{Driven, Plan, Slot, drive};
 use smbus::{
     Answer, Form, Message, ObserveFault, Segment, SmbusFault, carries_code, form_named,
@@ -60,6 +62,14 @@ fn samples_of(alloc: Global, driven: &Driven) -> Result<Vec<Sample>, Fail> {
         samples.push(driven.samples.sample_at(place).ok_or("no sample")?)?;
     }
     Ok(samples)
+}
+
+/// The events of a Read Word of STATUS_WORD that returns 0840h.
+fn status_events(alloc: Global) -> Result<Vec<Event>, Fail> {
+    let message = message_of(alloc, (Form::ReadWord, 0x79, b""))?;
+    let answer = answer_of(alloc, None, 0x0840, b"")?;
+    let driven = driven(alloc, &message, &answer)?;
+    Ok(events(alloc, &samples_of(alloc, &driven)?)?)
 }
 
 /// The text of the first frame of which these are the events.

@@ -59,11 +59,13 @@ fn changes_and_stamps(rt: HostRuntime) -> Result<(), Fail> {
 #[test]
 fn levels_are_kept_between_steps(rt: HostRuntime) -> Result<(), Fail> {
     let alloc = rt.alloc();
-    let mut wave = two_steps(alloc)?;
-    let mut still = Runs::new(alloc);
-    still.push(lines(false, false, false), 1)?;
-    wave.push(8, &still)?;
-    let text = wave.into_text();
-    assert!(rt; text.as_str().ends_with("#11\n$comment place 8 $end\n#12\n"));
+    let mut low = Runs::new(alloc);
+    low.push(lines(false, true, true), 2)?;
+    let mut wave = Wave::new(alloc)?;
+    wave.push(7, &low)?;
+    wave.push(8, &low)?;
+    let steps = "$comment place 7 $end\n0!\n#2\n$comment place 8 $end\n#4\n";
+    let want = format!(in alloc; "{HEADER}{steps}")?;
+    assert_eq!(rt; wave.into_text().as_bytes(), want.as_bytes());
     Ok(())
 }
