@@ -172,7 +172,8 @@ fn the_most_ticks(rt: HostRuntime) -> Result<(), Fail> {
     Ok(())
 }
 
-/// Tries a bundle cut after each byte but its last. Where `%table` ends it has a table without rows.
+/// Tries a bundle cut after each byte but its last. Where `%table` ends it has a table without
+/// rows.
 fn all_cut(rt: &impl Abort, alloc: Global, bundle: &[u8], head: usize) {
     for (count, _) in bundle.iter().enumerate() {
         let mut cut = bundle.get(..count).unwrap_or_default();
