@@ -2,6 +2,7 @@ pub mod Bytes
 pub mod EventByEvent
 pub mod Controlled
 pub mod PiecesRead
+pub mod CutPieces
 pub mod PartsOfFrames
 pub mod FrameMarks
 pub mod SmallPieces

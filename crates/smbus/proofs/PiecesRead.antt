@@ -15,7 +15,9 @@ use Rattle.smbus.specs.Shown.{Shown}
 use Rattle.smbus.specs.Frames.{AreFrames, Begins, IsFrame, frame_word}
 use Rattle.smbus.specs.Machine.{State}
 use Rattle.smbus.specs.Control.{control_step, control_after, then_control, IsBehindStop}
-use Rattle.smbus.specs.Observers.{Observing, IsObserving, IsStopped, IsTaken, most_events}
+use Rattle.smbus.specs.Observers.{FeedFault, IsObserving, IsStopped, IsTaken, Observing}
+use Rattle.smbus.specs.Observers.{most_events}
+use Rattle.smbus.specs.declared.fault.ObserveFault.TheVariants.{Memory}
 use Rattle.smbus.specs.Kept.{IsKept}
 use Rattle.smbus.specs.declared.control.Control.{Control}
 use Rattle.smbus.specs.declared.control.Control.TheVariants.{Free, Begun, Bits}
@@ -31,7 +33,7 @@ closed_free false bits e = refl
 closed_free true [] e = cc
 closed_free true (b ∷ bits) e = cc
 
-same_state : (s t : State) (o : Option State) → o ≡ Some s → o ≡ Some t → s ≡ t
+pub same_state : (s t : State) (o : Option State) → o ≡ Some s → o ≡ Some t → s ≡ t
 same_state s t o e f = cc
 
 no_state : (s : State) (o : Option State) → o ≡ Some s → o ≡ None → ⊥
@@ -151,7 +153,7 @@ ends_free : (front : List Event) (c d : Control) → control_after (front ++ Sto
 ends_free front c d e =
     ends_free-then (control_after front c) d (sym (control-append front (Stop ∷ []) c) ∙ e)
 
-then_some : (f : Control → Option Control) (o : Option Control) (d : Control)
+pub then_some : (f : Control → Option Control) (o : Option Control) (d : Control)
     → then_control f o ≡ Some d → (c : Control) × (o ≡ Some c) × (f c ≡ Some d)
 then_some f None d e = cc
 then_some f (Some c) d e = (c, refl, e)
@@ -276,3 +278,14 @@ took_up_to o c d piece n frames kept none few over behind are =
     ∙ sym (append_assoc o.rest (take n piece) (drop n piece))
     ∙ ap (λ (l : List Event). l ++ drop n piece) are.words)
     behind.no_stop (omega arith) (cut_controls piece n c d behind over).1
+
+-- where memory is refused
+
+pub refused : (o : Observing) (c d : Control) (piece : List Event) → IsKept o c
+    → o.failed ≡ None → control_after piece c ≡ Some d → FeedFault o piece o Memory
+refused o c d piece kept none over = (
+  refl,
+  none,
+  begins_controlled (o.rest ++ piece) d
+      (control_on o.rest piece c (Some d) kept.control over),
+)

@@ -17,4 +17,5 @@ pub mod Machine
 pub mod Control
 pub mod Observers
 pub mod Kept
+pub mod JoinedPieces
 pub mod Counts

@@ -52,9 +52,11 @@ pub record IsStopped (old : Observing) (piece : List Event) (place : ℕ) : Type
   pub stops : StopsAt (old.rest ++ piece) at
   pub counted : place ≡ old.fed - length old.rest + at
 
--- for want of memory nothing changes; the place of the first NotFrames is kept, and told again
+-- for want of memory, where the piece goes on, nothing changes; the place of the first NotFrames is
+-- kept, and told again
 abbrev pub FeedFault : Observing → List Event → Observing → ObserveFault → Type 0
-FeedFault old piece new Memory = (new ≡ old) × (old.failed ≡ None)
+FeedFault old piece new Memory =
+    (new ≡ old) × (old.failed ≡ None) × Begins (old.rest ++ piece)
 FeedFault old piece new (NotFrames place) =
     (new ≡ record { fed = old.fed; failed = Some place; rest = old.rest })
     × ((old.failed ≡ Some place) ⊎ IsStopped old piece place)

@@ -1,3 +1,4 @@
+ghost use Rattle.smbus.specs.JoinedPieces.{PiecesAreUnique, PiecesJoin, SomeAreTaken, StopsJoin};
 ghost use Rattle.smbus.specs.MessageFrame.{MessagesHaveOneFrame, SomeAreAsked};
 ghost use Rattle.smbus.specs.OneFrame.{FramesAreUnique, SlotsAreOneFrame};
 
@@ -23,3 +24,14 @@ pub fn messages_have_one_frame()
 {
     slots_are_one_frame();
 }
+
+/// How a stream is cut doesn't matter: where an `Observer` takes two pieces one after the other, it
+/// would take them as one and give the same frames, and no others, with the same rest left. Where
+/// the second doesn't go on, they don't as one, and the place is the same.
+pub fn pieces_join()
+    ensures join { PiecesJoin }
+    ensures stops { StopsJoin }
+    ensures unique { PiecesAreUnique }
+    // There are such pieces, in which a frame begins and ends.
+    ensures case { SomeAreTaken }
+{}

@@ -16,7 +16,7 @@ mod word;
 pub use counting::{most_slots, sent_count, slot_count};
 pub use fault::{ObserveFault, SmbusFault};
 pub use frame::{Frame, Segment};
-pub use law::{messages_have_one_frame, slots_are_one_frame};
+pub use law::{messages_have_one_frame, pieces_join, slots_are_one_frame};
 pub use message::{Answer, Form, Message};
 pub use observer::Observer;
 pub use observing::observe;

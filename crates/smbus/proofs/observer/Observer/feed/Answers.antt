@@ -1,7 +1,9 @@
+use Rattle.std.proofs.lemmas.Result.{err_from_is_err_and}
 use Rattle.std.proofs.Common.{◌+◌, ◌≤◌, Some, refl, sym, subst, inr, length}
 use Rattle.smbus.specs.Observers.{Observing, most_events}
 use Rattle.smbus.specs.declared.control.Control.TheVariants.{Free}
-use Rattle.smbus.proofs.PiecesRead.{control_on, cut_controls, stopped, took_all, took_up_to}
+use Rattle.smbus.proofs.PiecesRead.{control_on, cut_controls, refused, stopped, took_all}
+use Rattle.smbus.proofs.PiecesRead.{took_up_to}
 use Rattle.smbus.proofs.observer.Observer.feed.Goals.{in-Some-behind_last_stop+in_ok-frames-in-Some-behind_last_stop}
 use Rattle.smbus.proofs.observer.Observer.feed.Goals.{in-None+in_ok-extend_from_slice-in-None}
 use Rattle.smbus.proofs.observer.Observer.feed.Goals as goal
@@ -71,3 +73,24 @@ returns-clause-taken c =
           (took_all o s.control c.in-Ok.control piece c.self.invariant c.in_default.is few
           c.in-Ok.ensures.after w.in-None.ensures).taken
     ]
+
+pub returns-in_err-frames-in-Some-behind_last_stop-clause-fault :
+    goal.returns-in_err-frames-in-Some-behind_last_stop-clause-fault
+returns-in_err-frames-in-Some-behind_last_stop-clause-fault c =
+    let s = c.self.inside in
+    let o : Observing = record { fed = s.fed; failed = s.failed; rest = s.rest.items } in
+    let e = err_from_is_err_and c.from_residual.result c.from_residual.ensures.1 in
+    rw (e.1, e.2, ← c.self.view_is)
+    (refused o s.control c.in-Ok.control c.args.piece.now c.self.invariant c.in_default.is
+    c.in-Ok.ensures.after)
+
+pub returns-in_err-extend_from_slice-in-None-clause-fault :
+    goal.returns-in_err-extend_from_slice-in-None-clause-fault
+returns-in_err-extend_from_slice-in-None-clause-fault c =
+    let s = c.self.inside in
+    let o : Observing = record { fed = s.fed; failed = s.failed; rest = s.rest.items } in
+    let r = c.from_residual-in_err-extend_from_slice-in-None in
+    let e = err_from_is_err_and r.result r.ensures.1 in
+    rw (e.1, e.2, ← c.self.view_is, c.in_err-extend_from_slice-in-None.ensures.items)
+    (refused o s.control c.in-Ok.control c.args.piece.now c.self.invariant c.in_default.is
+    c.in-Ok.ensures.after)
