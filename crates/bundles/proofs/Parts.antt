@@ -1,86 +1,34 @@
 -- The parts of a bundle between its header lines.
-use Rattle.std.proofs.Common.{◌≡◌, ℕ, suc, ◌+◌, ◌<◌, Bool, true, false, List, [], ◌∷◌, length, take}
-use Rattle.std.proofs.Common.{drop, map, count_by, length-drop, Option, Some, None, refl, ap, ◌∙◌}
-use Rattle.std.proofs.Common.{arith}
-use Rattle.std.specs.List.{slice_split, onto_first, position_from}
-use Rattle.std.proofs.lemmas.List.Splits.{slice_split-cons_yes, slice_split-cons_no}
-use Rattle.std.proofs.lemmas.List.Splits.{length-slice_split}
+use Rattle.std.proofs.Common.{◌≡◌, ℕ, suc, ◌+◌, ◌-◌, ◌++◌, true, false, List, [], ◌∷◌}
+use Rattle.std.proofs.Common.{length, take, drop, count_by, length-drop, refl, sym, ap, ◌∙◌, arith}
+use Rattle.std.specs.Prelude.{All}
+use Rattle.std.specs.List.{slice_split}
+use Rattle.std.proofs.lemmas.List.{take-append-drop, append-nil}
+use Rattle.std.proofs.lemmas.List.Splits.{slice_split_at, slice_split_none, length-slice_split}
 use Rattle.bundles.specs.Bundles.{Line, starts_section, numbered, sections_of}
 
-abbrev pub parts_of : {X : Type 0} → (X → Line) → List X → List (List Line)
-parts_of f xs = slice_split starts_section (map f xs)
+-- a header ends the part above it
+pub part_ends : (all : List Line) (count : ℕ) (header : Line) (below : List Line)
+    → header ∷ below ≡ drop count all → All (λ l. starts_section l ≡ false) (take count all)
+    → starts_section header ≡ true
+    → slice_split starts_section all ≡ take count all ∷ slice_split starts_section below
+part_ends all count header below left none starts =
+    ap (slice_split starts_section)
+    (sym (take-append-drop count all) ∙ ap (λ (l : List Line). take count all ++ l) (sym left))
+    ∙ slice_split_at starts_section (take count all) header below none starts
 
-abbrev pub first_from : {X : Type 0} → (X → Line) → ℕ → List X → Option ℕ
-first_from f i xs = position_from (λ x. starts_section (f x)) i xs
+pub all_taken : (all : List Line) (count : ℕ) → [] ≡ drop count all → take count all ≡ all
+all_taken all count left =
+    sym (append-nil (take count all)) ∙ ap (λ (l : List Line). take count all ++ l) left
+    ∙ take-append-drop count all
 
-nowhere_cons : {X : Type 0} (f : X → Line) (x : X) (xs : List X) (i : ℕ) (b : Bool)
-    → starts_section (f x) ≡ b
-    → (first_from f (i + 1) xs ≡ None → parts_of f xs ≡ map f xs ∷ [])
-    → first_from f i (x ∷ xs) ≡ None → parts_of f (x ∷ xs) ≡ map f (x ∷ xs) ∷ []
-nowhere_cons f x xs i true t below e = let z : Some i ≡ None = rw t at e in absurd (cc)
-nowhere_cons f x xs i false t below e =
-    slice_split-cons_no starts_section (f x) (map f xs) t
-    ∙ ap (onto_first (f x)) (below (rw t at e))
-
-pub split_nowhere : {X : Type 0} (f : X → Line) (xs : List X) (i : ℕ) → first_from f i xs ≡ None
-    → parts_of f xs ≡ map f xs ∷ []
-split_nowhere f [] i e = refl
-split_nowhere f (x ∷ xs) i e =
-    nowhere_cons f x xs i (starts_section (f x)) refl (split_nowhere f xs (i + 1)) e
-
--- the first header stands so many places further on
-pub record FoundAt {X : Type 0} (f : X → Line) (xs : List X) (i place : ℕ) : Type 0 where
-  pub count : ℕ
-  pub at : place ≡ i + count
-  pub within : count < length xs
-  pub parts : parts_of f xs ≡ map f (take count xs) ∷ parts_of f (drop (suc count) xs)
-
-found_cons : {X : Type 0} (f : X → Line) (x : X) (xs : List X) (i place : ℕ) (b : Bool)
-    → starts_section (f x) ≡ b
-    → (first_from f (i + 1) xs ≡ Some place → FoundAt f xs (i + 1) place)
-    → first_from f i (x ∷ xs) ≡ Some place → FoundAt f (x ∷ xs) i place
-found_cons f x xs i place true t below e =
-    let z : Some i ≡ Some place = rw t at e in
-    let same : i ≡ place = cc in
-    record {
-      count = 0;
-      at = omega arith;
-      within = omega arith;
-      parts = slice_split-cons_yes starts_section (f x) (map f xs) t;
-    }
-found_cons f x xs i place false t below e =
-    let h = below (rw t at e) in
-    record {
-      count = suc h.count;
-      at = omega (arith, h.at);
-      within = omega (arith, h.within);
-      parts = slice_split-cons_no starts_section (f x) (map f xs) t ∙ ap (onto_first (f x)) h.parts;
-    }
-
-pub found_at : {X : Type 0} (f : X → Line) (xs : List X) (i place : ℕ)
-    → first_from f i xs ≡ Some place → FoundAt f xs i place
-found_at f [] i place e = absurd (cc)
-found_at f (x ∷ xs) i place e =
-    found_cons f x xs i place (starts_section (f x)) refl (found_at f xs (i + 1) place) e
-
--- ---- as the code splits a slice
-
-pub record SplitsAt {X : Type 0} (f : X → Line) (xs : List X) (place : ℕ) : Type 0 where
-  pub within : place < length xs
-  pub parts : parts_of f xs ≡ map f (take place xs) ∷ parts_of f (drop (place + 1) xs)
-
-pub splits_at : {X : Type 0} (f : X → Line) (xs : List X) (place : ℕ)
-    → first_from f 0 xs ≡ Some place → SplitsAt f xs place
-splits_at f xs place e =
-    let h = found_at f xs 0 place e in
-    let same : h.count ≡ place = omega (arith, h.at) in
-    let next : suc h.count ≡ place + 1 = omega (arith, h.at) in
-    record {
-      within = omega (arith, h.at, h.within);
-      parts =
-          h.parts ∙ ap (λ (n : ℕ). map f (take n xs) ∷ parts_of f (drop (suc h.count) xs)) same
-          ∙ ap (λ (n : ℕ). map f (take place xs) ∷ parts_of f (drop n xs)) next;
-    }
+-- and the end of the text ends the last
+pub last_part : (all : List Line) (count : ℕ)
+    → [] ≡ drop count all → All (λ l. starts_section l ≡ false) (take count all)
+    → slice_split starts_section all ≡ take count all ∷ []
+last_part all count left none =
+    ap (slice_split starts_section) (sym (all_taken all count left))
+    ∙ slice_split_none starts_section (take count all) none
 
 -- ---- how many there are
 

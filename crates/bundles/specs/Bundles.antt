@@ -89,6 +89,11 @@ numbered number (part ∷ later) =
 abbrev pub sections_of : List Line → List Section
 sections_of lines = drop 1 (numbered 2 (slice_split starts_section lines))
 
+-- the parts of the lines below a header, if there is one
+abbrev pub parts_below : Option (List ℕ) → List (List Line)
+parts_below None = []
+parts_below (Some text) = slice_split starts_section (lines text)
+
 pub record Bundle : Type 0 where
   pub command : Command
   pub sections : List Section

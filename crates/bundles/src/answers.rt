@@ -100,7 +100,7 @@ pub fn answers_in<'a>(
     ensures value { Gives (λ a. a) result (answers_in (section_view section.now)) }
 {
     let Some(first) = first_counted(section) else {
-        return Err(BundleFault::BadAnswer(section.first_line + section.lines.len()).error());
+        return Err(BundleFault::BadAnswer(section.first_line + section.count).error());
     };
     let words = words_of(alloc, first.line)?;
     let Some((pages, protects)) = start_of(alloc, &words)? else {

@@ -1,19 +1,20 @@
-ghost use Rattle.std.specs.Prelude.{◌≡◌, ◌≤◌, ◌<◌, ◌+◌, ◌^◌, ◌==◌, length, map, option_map};
-ghost use Rattle.std.specs.Prelude.{slice_get, MatchOption, IfSome, [], ◌∷◌, vec_len, MatchResult};
+ghost use Rattle.std.specs.Prelude.{◌≡◌, ◌≤◌, ◌<◌, ◌+◌, ◌^◌, ◌==◌, length, map, option_map, take};
+ghost use Rattle.std.specs.Prelude.{option_copied};
+ghost use Rattle.std.specs.Prelude.{slice_get, IfSome, ◌∷◌, vec_len, MatchResult};
 ghost use Rattle.std.specs.Prelude.{IfOk, IfErr, count_by, Some, None};
 ghost use Rattle.std.specs.List.{list_all, slice_split, position_from};
 ghost use Rattle.texts.specs.Reading.{Gives};
-ghost use Rattle.bundles.specs.Bundles.{is_blank, starts_section, is_header, belongs};
+ghost use Rattle.bundles.specs.Bundles.{is_blank, starts_section, is_header, belongs, parts_below};
 ghost use Rattle.bundles.specs.Bundles.{first_unexpected, sections_of, headers_of, bundle_below};
 ghost use Rattle.bundles.specs.Bundles.{bundle_of};
-ghost use Rattle.bundles.specs.Texts.{texts_of};
+ghost use Rattle.std.specs.Str.Lines.{lines};
 ghost use Rattle.bundles.specs.Views.{section_view, bundle_view};
 
 use crate::command::{Command, Header};
 use crate::fault::BundleFault;
 use crate::section::Section;
 use std::alloc::{AllocError, Global};
-use texts::ReadError;
+use texts::{ReadError, first_line};
 
 /// A command and its sections.
 #[derive(Debug, Drop)]
@@ -64,72 +65,81 @@ fn belongs(headers: &[Header], above: usize, line: &str) -> bool
 }
 
 /// The number of headers among the lines, or the place of the first line that doesn't belong there.
-fn headers_among(headers: &[Header], lines: &[&str]) -> Result<usize, usize>
+fn headers_among(headers: &[Header], text: &str) -> Result<usize, usize>
     ensures placed { MatchResult result
-        (λ above. first_unexpected headers.now (texts_of lines.now) ≡ None)
+        (λ above. first_unexpected headers.now (lines text.now) ≡ None)
         (λ place.
-        option_map (λ p. p.0) (first_unexpected headers.now (texts_of lines.now)) ≡ Some place) }
-    ensures count { IfOk result (λ above. above ≡ count_by starts_section (texts_of lines.now)) }
+        option_map (λ p. p.0) (first_unexpected headers.now (lines text.now)) ≡ Some place) }
+    ensures count { IfOk result (λ above. above ≡ count_by starts_section (lines text.now)) }
     ensures most { IfOk result (λ above. above ≤ length headers.now) }
-    ensures within { IfErr result (λ place. place < length lines.now) }
+    ensures within { IfErr result (λ place. place < length text.now) }
 {
     let mut above = 0;
-    for (place, line) in lines.iter().enumerate() {
+    let mut place = 0;
+    let mut rest = text;
+    while let Some((line, below)) = first_line(rest) {
         if !belongs(headers, above, line) {
             return Err(place);
         }
         if starts_section(line) {
             above += 1;
         }
+        place += 1;
+        rest = below;
     }
     Ok(above)
 }
 
-/// The place of the first header.
-fn first_header(lines: &[&str]) -> Option<usize>
-    ensures place { result ≡ position_from (λ l. starts_section l.now) 0 lines.now }
-    ensures within { IfSome result (λ place. place < length lines.now) }
-{
-    lines.iter().position(|line| starts_section(line))
+/// The lines above the next header: how many they are, and the text below the header.
+#[derive(Drop)]
+struct Part<'a> {
+    count: usize,
+    below: Option<&'a str>,
 }
 
-/// The lines above the first header, and those below it.
-fn split_at_header<'a>(lines: &'a [&'a str]) -> Option<(&'a [&'a str], &'a [&'a str])>
-    ensures { MatchOption result
-        (slice_split starts_section (texts_of lines.now) ≡ texts_of lines.now ∷ [])
-        (λ parts. (slice_split starts_section (texts_of lines.now)
-        ≡ texts_of parts.0.now ∷ slice_split starts_section (texts_of parts.1.now))
-        × (length lines.now ≡ length parts.0.now + 1 + length parts.1.now)) }
+/// The lines of a text up to its first header.
+fn first_part(text: &str) -> Part<'_>
+    ensures parts { slice_split starts_section (lines text.now)
+        ≡ take result.count (lines text.now) ∷ parts_below (option_copied result.below) }
+    ensures within { result.count ≤ length (lines text.now) }
+    ensures few { result.count ≤ length text.now }
+    ensures shorter { IfSome result.below
+        (λ below. result.count + length below.now < length text.now) }
 {
-    match first_header(lines) {
-        Some(place) => Some((&lines[..place], &lines[place + 1..])),
-        None => None,
+    let mut count = 0;
+    let mut rest = text;
+    while let Some((line, below)) = first_line(rest) {
+        if starts_section(line) {
+            return Part {
+                count,
+                below: Some(below),
+            };
+        }
+        count += 1;
+        rest = below;
     }
+    Part { count, below: None }
 }
 
 /// The sections below the lines that stand above the first header.
-fn sections_of<'a>(alloc: Global, lines: &'a [&'a str]) -> Result<Vec<Section<'a>>, AllocError>
+fn sections_of<'a>(alloc: Global, text: &'a str) -> Result<Vec<Section<'a>>, AllocError>
     ensures { IfOk result
-        (λ sections. map section_view sections.items ≡ sections_of (texts_of lines.now)) }
+        (λ sections. map section_view sections.items ≡ sections_of (lines text.now)) }
 {
     let mut sections = Vec::new(alloc);
-    let Some((above, below)) = split_at_header(lines) else {
-        return Ok(sections);
-    };
-    let mut first_line = above.len() + 3;
-    let mut rest = below;
-    while let Some((part, more)) = split_at_header(rest) {
+    let top = first_part(text);
+    let mut first_line = top.count + 3;
+    let mut next = top.below;
+    while let Some(text) = next {
+        let part = first_part(text);
         sections.push(Section {
             first_line,
-            lines: part,
+            count: part.count,
+            text,
         })?;
-        first_line += part.len() + 1;
-        rest = more;
+        first_line += part.count + 1;
+        next = part.below;
     }
-    sections.push(Section {
-        first_line,
-        lines: rest,
-    })?;
     Ok(sections)
 }
 
@@ -138,35 +148,32 @@ fn sections_of<'a>(alloc: Global, lines: &'a [&'a str]) -> Result<Vec<Section<'a
 pub fn bundle_below<'a>(
     alloc: Global,
     command: Command,
-    lines: &'a [&'a str],
+    text: &'a str,
 ) -> Result<Bundle<'a>, ReadError<BundleFault>>
-    ensures value { Gives bundle_view result (bundle_below command (texts_of lines.now)) }
+    ensures value { Gives bundle_view result (bundle_below command (lines text.now)) }
     ensures whole { IfOk result
         (λ bundle. vec_len bundle.sections ≡ length (headers_of bundle.command)) }
 {
     let headers = command.headers();
-    let above = match headers_among(headers, lines) {
+    let above = match headers_among(headers, text) {
         Ok(above) => above,
         Err(place) => return Err(BundleFault::Unexpected(place + 2).error()),
     };
     if let Some(header) = headers.get(above) {
         return Err(BundleFault::MissingSection(*header).error());
     }
-    let sections = sections_of(alloc, lines)?;
+    let sections = sections_of(alloc, text)?;
     Ok(Bundle { command, sections })
 }
 
 /// The command of a bundle and its sections, one for each of the command's headers.
 #[tactic(auto, unfolding(crate::specs::Bundles::bundle_of))]
-pub fn read_bundle<'a>(
-    alloc: Global,
-    lines: &'a [&'a str],
-) -> Result<Bundle<'a>, ReadError<BundleFault>>
-    ensures value { Gives bundle_view result (bundle_of (texts_of lines.now)) }
+pub fn read_bundle<'a>(alloc: Global, text: &'a str) -> Result<Bundle<'a>, ReadError<BundleFault>>
+    ensures value { Gives bundle_view result (bundle_of (lines text.now)) }
     ensures whole { IfOk result
         (λ bundle. vec_len bundle.sections ≡ length (headers_of bundle.command)) }
 {
-    let [first, below @ ..] = lines else {
+    let Some((first, below)) = first_line(text) else {
         return Err(BundleFault::NoCommand.error());
     };
     let Some(command) = Command::of_line(first) else {

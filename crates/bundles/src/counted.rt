@@ -1,6 +1,6 @@
 //! The lines of a section that say something.
 
-ghost use Rattle.std.specs.Prelude.{◌≡◌, ◌<◌, ◌+◌, [], ◌∷◌, length, MatchOption, IfSome};
+ghost use Rattle.std.specs.Prelude.{◌≡◌, ◌<◌, [], ◌∷◌, MatchOption, IfSome};
 ghost use Rattle.bundles.specs.CountedLines.{is_counted, counted_lines};
 ghost use Rattle.bundles.specs.Views.{section_view};
 
@@ -30,20 +30,18 @@ pub(crate) fn first_counted<'a>(section: &Section<'a>) -> Option<Counted<'a>>
         (λ first. counted_lines (section_view section.now)
         ≡ (first.number, first.line.now) ∷ counted_lines (section_view first.below)) }
     ensures shorter { IfSome result
-        (λ first. length first.below.lines.now < length section.now.lines.now) }
+        (λ first. first.below.count < section.now.count) }
 {
-    for (place, line) in section.lines.iter().enumerate() {
+    let mut rest = *section;
+    while let Some((line, below)) = rest.split_first() {
         if counts(line) {
-            let below = Section {
-                first_line: section.first_line + place + 1,
-                lines: &section.lines[place + 1..],
-            };
             return Some(Counted {
-                number: section.first_line + place,
+                number: rest.first_line,
                 line,
                 below,
             });
         }
+        rest = below;
     }
     None
 }

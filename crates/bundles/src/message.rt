@@ -151,7 +151,7 @@ pub fn exchange_in(alloc: Global, section: &Section<'_>) -> Result<Exchange, Rea
     ensures value { Gives (λ e. e) result (exchange_in (section_view section.now)) }
 {
     let Some(first) = first_counted(section) else {
-        return Err(bad_message(section.first_line + section.lines.len()));
+        return Err(bad_message(section.first_line + section.count));
     };
     let exchange = exchange_of(alloc, first.number, first.line)?;
     match first_counted(&first.below) {

@@ -36,6 +36,7 @@ mod ticks;
 mod ways;
 mod withdrawing;
 
+pub use byte_set::ByteSet;
 pub use edging::edges;
 pub use good_set::GoodSet;
 pub use judging::duty;

@@ -13,7 +13,7 @@ use smbus::Form;
 use texts::pair_of;
 
 /// The command of a word, if it takes the form.
-pub(crate) fn command_in(form: Form, word: &str) -> Option<Command>
+pub fn command_in(form: Form, word: &str) -> Option<Command>
     ensures value { result ≡ command_in form word.now }
     ensures taken { IfSome result (λ c. IsTrue (takes_form c form)) }
 {
@@ -96,7 +96,7 @@ fn manufacturer_sized(text: &str) -> Option<(Command, Width)>
 
 /// A command of a byte form or a word form, and which of them it is: a name, or the two digits of a
 /// manufacturer command with `b` or `w`.
-pub(crate) fn sized_in(byte: Form, word: Form, text: &str) -> Option<(Command, Width)>
+pub fn sized_in(byte: Form, word: Form, text: &str) -> Option<(Command, Width)>
     requires byte { is_manufacturer_form byte ≡ true }
     requires word { is_manufacturer_form word ≡ true }
     ensures value { result ≡ sized_in byte word text.now }

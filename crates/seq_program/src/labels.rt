@@ -10,12 +10,13 @@ ghost use Rattle.seq_program.specs.Labels.{with_label, with_labels, labels_on, p
 ghost use Rattle.seq_program.specs.Labels.{labels_of};
 ghost use Rattle.seq_program.specs.Labels.{place_of, line_of, is_first};
 ghost use Rattle.seq_program.specs.PassViews.{labels_view};
+ghost use Rattle.texts.specs.Words.{lines_by_feed};
 
 use crate::fault::ProgramFault;
 use crate::operand::label_of;
 use indexmap::IndexMap;
 use std::alloc::Global;
-use texts::words_of;
+use texts::{first_by_feed, words_of};
 
 /// The place that a label names, and its line.
 #[derive(Clone, Copy, Debug)]
@@ -28,7 +29,7 @@ pub(crate) struct LabelAt {
 pub(crate) type Labels = IndexMap<String, LabelAt>;
 
 /// What stands before a comment.
-pub(crate) fn without_comment(line: &str) -> &str
+pub fn without_comment(line: &str) -> &str
     ensures { result.now ≡ without_comment line.now }
 {
     match line.split_once('#') {
@@ -45,7 +46,7 @@ fn label_name(word: &str) -> Option<&str>
 }
 
 /// The label that a line's words are.
-pub(crate) fn label_in<'w>(words: &'w [&str]) -> Option<&'w str>
+pub fn label_in<'a>(words: &[&'a str]) -> Option<&'a str>
     ensures { option_copied result ≡ label_in (map (λ w. w.now) words.now) }
 {
     match words {
@@ -115,20 +116,24 @@ fn place_after(
 
 /// The labels of a text's lines.
 #[tactic(auto, using(crate::proofs::LabelEntries::with_labels_append))]
-pub(crate) fn labels_of(alloc: Global, lines: &[&str]) -> Result<Labels, ProgramFault>
+pub(crate) fn labels_of(alloc: Global, text: &str) -> Result<Labels, ProgramFault>
     ensures value { IfOk result
-        (λ labels. labels_view labels ≡ labels_of (map (λ l. l.now) lines.now)) }
+        (λ labels. labels_view labels ≡ labels_of (lines_by_feed text.now)) }
     ensures err { IfErr result (λ e. e ≡ Memory) }
 {
     let mut labels = IndexMap::new(alloc);
     let mut place = 0;
-    for (index, line) in lines.iter().enumerate() {
+    let mut number = 1;
+    let mut rest = text;
+    while let Some((line, below)) = first_by_feed(rest) {
         let words = words_of(alloc, without_comment(line))?;
         let at = LabelAt {
             place,
-            line: index + 1,
+            line: number,
         };
         place = place_after(alloc, &mut labels, at, &words)?;
+        number += 1;
+        rest = below;
     }
     Ok(labels)
 }

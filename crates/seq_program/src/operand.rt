@@ -25,7 +25,7 @@ fn numbered(letter: u8, limit: u8, word: &str) -> Option<u8>
 }
 
 /// r0 to r7.
-pub(crate) fn register_of(word: &str) -> Option<Register>
+pub fn register_of(word: &str) -> Option<Register>
     ensures value { result ≡ register_of word.now }
     ensures small { IfSome result (λ r. r < 8) }
 {
@@ -34,7 +34,7 @@ pub(crate) fn register_of(word: &str) -> Option<Register>
 }
 
 /// c0 to c3.
-pub(crate) fn counter_of(word: &str) -> Option<Counter>
+pub fn counter_of(word: &str) -> Option<Counter>
     ensures value { result ≡ counter_of word.now }
     ensures small { IfSome result (λ c. c < 4) }
 {
@@ -50,7 +50,7 @@ pub(crate) fn label_of(word: &str) -> Option<&str>
 }
 
 /// Whether a quick command reads.
-pub(crate) fn direction_of(word: &str) -> Option<bool>
+pub fn direction_of(word: &str) -> Option<bool>
     ensures { result ≡ direction_of word.now }
 {
     match word {
@@ -96,7 +96,7 @@ fn number_of(word: &str) -> Option<u32>
 }
 
 /// A number of a range.
-pub(crate) fn number_within(low: u32, high: u32, word: &str) -> Option<u32>
+pub fn number_within(low: u32, high: u32, word: &str) -> Option<u32>
     ensures value { result ≡ number_within low high word.now }
     ensures within { IfSome result (λ n. (low ≤ n) × (n ≤ high)) }
 {
@@ -109,7 +109,7 @@ pub(crate) fn number_within(low: u32, high: u32, word: &str) -> Option<u32>
 }
 
 /// As many bytes as pairs of digits spell, one at least.
-pub(crate) fn block_of(alloc: Global, most: usize, word: &str) -> Result<Option<Block>, AllocError>
+pub fn block_of(alloc: Global, most: usize, word: &str) -> Result<Option<Block>, AllocError>
     requires { most ≤ 255 }
     ensures value { IfOk result (λ block. block ≡ block_of most word.now) }
     ensures sized { IfOk result

@@ -1,13 +1,13 @@
 //! Programs, and their texts.
 
-ghost use Rattle.std.specs.Prelude.{◌≡◌, length, slice_get, map, option_map, option_copied, All};
+ghost use Rattle.std.specs.Prelude.{◌≡◌, length, slice_get, option_map, option_copied, All};
 ghost use Rattle.std.specs.Prelude.{IfOk};
 ghost use Rattle.seq_program.specs.Reading.{Gives};
 ghost use Rattle.seq_program.specs.Passes.{after_lines};
 ghost use Rattle.seq_program.specs.PassViews.{labels_view, pass_view, IsPass};
 ghost use Rattle.seq_program.specs.Valid.{IsOnBoard};
-ghost use Rattle.seq_program.specs.Programs.{is_end, is_some_end, ends, no_pass, program_in};
-ghost use Rattle.seq_program.specs.Programs.{program_of};
+ghost use Rattle.seq_program.specs.Programs.{is_end, is_some_end, ends, no_pass, program_of};
+ghost use Rattle.texts.specs.Words.{lines_by_feed};
 
 use crate::fault::ProgramFault;
 use crate::instr::Instr;
@@ -16,7 +16,7 @@ use crate::pass::Pass;
 use board::Board;
 use std::alloc::Global;
 use std::marker::Model;
-use texts::lines_by_feed;
+use texts::{first_by_feed, line_count};
 
 /// The instructions of a program, by their places: 1 to 1024, whose jumps land, and of which the
 /// last ends.
@@ -56,24 +56,23 @@ impl Program {
     }
 }
 
-/// What the lines say.
-fn pass_of(
-    alloc: Global,
-    board: &Board,
-    labels: &Labels,
-    lines: &[&str],
-) -> Result<Pass, ProgramFault>
+/// What the lines of a text say.
+fn pass_of(alloc: Global, board: &Board, labels: &Labels, text: &str) -> Result<Pass, ProgramFault>
     ensures said { IfOk result
         (λ p. IsPass (length board.now.targets) (labels_view labels.now) p) }
     ensures value { Gives pass_view result
-        (after_lines board.now (labels_view labels.now) 1 no_pass (map (λ l. l.now) lines.now)) }
+        (after_lines board.now (labels_view labels.now) 1 no_pass (lines_by_feed text.now)) }
 {
     let mut pass = Pass {
         instrs: Vec::new(alloc),
         unknown: None,
     };
-    for (index, line) in lines.iter().enumerate() {
-        pass.add_line(alloc, board, labels, index + 1, line)?;
+    let mut number = 1;
+    let mut rest = text;
+    while let Some((line, below)) = first_by_feed(rest) {
+        pass.add_line(alloc, board, labels, number, line)?;
+        number += 1;
+        rest = below;
     }
     Ok(pass)
 }
@@ -100,35 +99,26 @@ fn ends(labels: &Labels, instrs: &[Instr]) -> bool
     is_some_end(instrs.last()) && are_below(labels, instrs.len())
 }
 
-/// The program of a text's lines.
-#[tactic(auto, unfolding(crate::specs::Programs::program_in))]
-fn program_in(alloc: Global, board: &Board, lines: &[&str]) -> Result<Program, ProgramFault>
-    ensures value { Gives (λ p. p) result (program_in board.now (map (λ l. l.now) lines.now)) }
-    ensures on_board { IfOk result (λ p. All (λ i. IsOnBoard (length board.now.targets) i) p) }
-{
-    let labels = labels_of(alloc, lines)?;
-    let pass = pass_of(alloc, board, &labels, lines)?;
-    if let Some(line) = pass.unknown {
-        return Err(ProgramFault::UnknownLabel(line));
-    }
-    if !ends(&labels, &pass.instrs) {
-        return Err(ProgramFault::NoEnd(lines.len()));
-    }
-    Ok(Program {
-        instrs: pass.instrs,
-    })
-}
-
 /// The program of a text for a board, or the text's first fault.
 ///
 /// The faults are those of the lines, the first line first: UnknownWord; BadOperand; then from the
 /// left UnknownTarget, UnknownCommand and BadNumber; SameLabel; TooLong. After all lines come
 /// UnknownLabel, and then NoEnd with the number of lines. Memory is answered where a growth was
 /// refused.
+#[tactic(auto, unfolding(crate::specs::Programs::program_in))]
 pub fn read_program(alloc: Global, board: &Board, text: &str) -> Result<Program, ProgramFault>
     ensures value { Gives (λ p. p) result (program_of board.now text.now) }
     ensures on_board { IfOk result (λ p. All (λ i. IsOnBoard (length board.now.targets) i) p) }
 {
-    let lines = lines_by_feed(alloc, text)?;
-    program_in(alloc, board, &lines)
+    let labels = labels_of(alloc, text)?;
+    let pass = pass_of(alloc, board, &labels, text)?;
+    if let Some(line) = pass.unknown {
+        return Err(ProgramFault::UnknownLabel(line));
+    }
+    if !ends(&labels, &pass.instrs) {
+        return Err(ProgramFault::NoEnd(line_count(text)));
+    }
+    Ok(Program {
+        instrs: pass.instrs,
+    })
 }

@@ -1,11 +1,10 @@
 -- A report of one step more.
 use Rattle.std.proofs.Common.{◌≡◌, ℕ, ◌+◌, List, [], ◌∷◌, ◌++◌, String, Global, string_bytes}
-use Rattle.std.proofs.Common.{length, map, refl, sym, ap, subst, ◌∙◌}
+use Rattle.std.proofs.Common.{length, refl, sym, ap, subst, ◌∙◌}
 use Rattle.std.proofs.lemmas.List.{map-append}
 use Rattle.simulator.specs.Machines.{Entry}
-use Rattle.simulator.specs.Steps.{total_ticks}
 use Rattle.simulator.specs.Traces.{IsSeen}
-use Rattle.simulator.specs.TraceTexts.{IsLine, AreLines}
+use Rattle.simulator.specs.TraceTexts.{IsLine}
 use Rattle.simulator.proofs.Runs.{sum_more}
 use Rattle.simulator.proofs.StepLines.{line_more}
 use Rattle.wires.specs.Waves.{Step, Drawn, IsWave}

@@ -1,8 +1,7 @@
 ghost use Rattle.std.specs.Prelude.{◌≡◌, ◌≢◌, ◌⊎◌, List, ℕ, IfOk, IfErr, IfSome, option_copied};
 ghost use Rattle.std.specs.Str.{is_utf8};
 ghost use Rattle.texts.specs.Reading.{Gives};
-ghost use Rattle.bundles.specs.Texts.{texts_of};
-ghost use Rattle.session.specs.Commands.{task_in_lines};
+ghost use Rattle.session.specs.Commands.{task_in};
 ghost use Rattle.session.specs.Replies.{reply_view};
 ghost use Rattle.session.specs.Sessions.{text_if, kept_text, kept_task, IsReplyAfter, IsReplyTo};
 ghost use Rattle.session.specs.Sessions.{IsAnswered, IsBegun};
@@ -17,7 +16,7 @@ use crate::reply::{Reply, Status, refused};
 use bundles::BundleFault;
 use std::alloc::{AllocError, Global};
 use std::io::{Read, Write};
-use texts::{CutShort, ReadError, lines_of, send};
+use texts::{CutShort, ReadError, send};
 
 /// Why an input got no whole reply.
 #[derive(Clone, Copy, Debug, PartialEq, Eq)]
@@ -74,13 +73,13 @@ fn text_of(input: &Input) -> Result<&str, ReadError<BundleFault>>
     }
 }
 
-/// The reply to the lines of a bundle.
-fn reply_to(alloc: Global, lines: &[&str]) -> Result<Reply, AllocError>
+/// The reply to the text of a bundle.
+fn reply_to(alloc: Global, text: &str) -> Result<Reply, AllocError>
     ensures whole { IfOk result (λ reply. reply.status ≢ Status.DeviceFault) }
     ensures replies { IfOk result (λ reply.
-        IsReplyAfter (task_in_lines (texts_of lines.now)) (reply_view reply)) }
+        IsReplyAfter (task_in text.now) (reply_view reply)) }
 {
-    match read_task(alloc, lines) {
+    match read_task(alloc, text) {
         Ok(task) => reply_of(alloc, &task),
         Err(ReadError::Memory) => Err(AllocError),
         Err(ReadError::Fault(fault)) => refused(alloc, fault),
@@ -94,10 +93,7 @@ fn make_reply(alloc: Global, input: &Input) -> Result<Reply, AllocError>
         IsReplyAfter (kept_task input.now.bytes.items input.now.too_large) (reply_view reply)) }
 {
     match text_of(input).map_err(of_bundle) {
-        Ok(text) => {
-            let lines = lines_of(alloc, text)?;
-            reply_to(alloc, &lines)
-        }
+        Ok(text) => reply_to(alloc, text),
         Err(ReadError::Memory) => Err(AllocError),
         Err(ReadError::Fault(fault)) => refused(alloc, fault),
     }

@@ -1,10 +1,9 @@
 ghost use Rattle.std.specs.Prelude.{◌≡◌, ◌≢◌, IfOk, vec_len, length};
 ghost use Rattle.texts.specs.Reading.{Gives};
 ghost use Rattle.bundles.specs.Bundles.{headers_of};
-ghost use Rattle.bundles.specs.Texts.{texts_of};
 ghost use Rattle.bundles.specs.Views.{bundle_view};
 ghost use Rattle.session.specs.Replies.{reply_view};
-ghost use Rattle.session.specs.Commands.{task_of, task_in_lines, task_view, IsReady, IsReplyOf};
+ghost use Rattle.session.specs.Commands.{task_of, task_in, task_view, IsReady, IsReplyOf};
 
 use crate::checking::check_reply;
 use crate::fault::{InputFault, of_bundle};
@@ -68,12 +67,12 @@ fn task_of<'a>(alloc: Global, bundle: &Bundle<'a>) -> Result<Task<'a>, ReadError
     }
 }
 
-/// What the lines of a bundle ask for.
-pub fn read_task<'a>(alloc: Global, lines: &'a [&'a str]) -> Result<Task<'a>, ReadError<InputFault>>
-    ensures value { Gives task_view result (task_in_lines (texts_of lines.now)) }
+/// What the text of a bundle asks for.
+pub fn read_task<'a>(alloc: Global, text: &'a str) -> Result<Task<'a>, ReadError<InputFault>>
+    ensures value { Gives task_view result (task_in text.now) }
     ensures ready { IfOk result (λ task. IsReady (task_view task)) }
 {
-    let bundle = read_bundle(alloc, lines).map_err(of_bundle)?;
+    let bundle = read_bundle(alloc, text).map_err(of_bundle)?;
     task_of(alloc, &bundle)
 }
 

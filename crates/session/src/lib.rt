@@ -17,5 +17,10 @@ mod tracing;
 mod trial;
 
 pub use answering::{DeviceFault, answer, session};
+pub use commands::{Task, read_task};
+pub use fault::InputFault;
 pub use outcome::outcome_line;
 pub use reply::Status;
+pub use scenario::{Scenario, section_text};
+pub use sequence::Sequence;
+pub use trial::Trial;

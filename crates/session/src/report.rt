@@ -4,7 +4,7 @@ ghost use Rattle.simulator.specs.Steps.{total_ticks};
 ghost use Rattle.simulator.specs.Traces.{Trace, IsSeen};
 ghost use Rattle.session.specs.Reports.{IsReport, HasRoom, IsWhole};
 
-use simulator::{Ending, Entry, last_line, line_of};
+use simulator::{Ending, Entry, last_line, push_line};
 use std::alloc::{AllocError, Global};
 use wires::Wave;
 
@@ -45,8 +45,7 @@ impl Report {
     {
         match self {
             Report::Lines(mut text) => {
-                let line = line_of(alloc, entry)?;
-                text.push_str(&line)?;
+                push_line(alloc, &mut text, entry)?;
                 Ok(Report::Lines(text))
             }
             Report::Wave(mut wave) => {

@@ -21,13 +21,15 @@ pub struct Scenario<'a> {
 }
 
 /// The text of a section: its lines, each of them ended by a line feed.
-pub(crate) fn section_text(alloc: Global, section: &Section<'_>) -> Result<String, AllocError>
+pub fn section_text(alloc: Global, section: &Section<'_>) -> Result<String, AllocError>
     ensures { IfOk result (λ text. string_bytes text ≡ section_text (section_view section.now)) }
 {
     let mut text = String::new(alloc);
-    for line in section.lines {
+    let mut rest = *section;
+    while let Some((line, below)) = rest.split_first() {
         text.push_str(line)?;
         text.push('\n')?;
+        rest = below;
     }
     Ok(text)
 }

@@ -8,7 +8,7 @@ use crate::fault::InputFault;
 use crate::reply::{Reply, Status, refused};
 use crate::report::{Report, Telling};
 use crate::scenario::Scenario;
-use simulator::{RunFault, start, step_at};
+use simulator::{Entry, RunFault, start, step_at};
 use std::alloc::{AllocError, Global};
 
 /// What is told of the run of a scenario. An answer is read, done and told before the next is read,
@@ -22,16 +22,19 @@ fn run_text(alloc: Global, scenario: &Scenario<'_>, telling: Telling) -> Result<
     let _places = program.places();
     let answered = &scenario.answers;
     let mut machine = start(alloc, board, &answered.pages, &answered.protects)?;
+    let mut spare = Entry::empty(alloc);
     let mut answers = answered.answers();
     let mut report = Report::new(alloc, telling)?;
     let mut index = 0;
     let mut ticks = 0;
     while let Some(answer) = answers.next(alloc)? {
-        let (after, entry) = step_at(alloc, board, program, &machine, &answer, index, ticks)?;
+        let before = (machine, spare);
+        let (after, entry) = step_at(alloc, board, program, before, &answer, index, ticks)?;
         report = report.and(alloc, &entry)?;
         index += 1;
         ticks += entry.ticks;
         machine = after;
+        spare = entry;
     }
     Ok(report.whole(alloc, machine.ended, ticks)?)
 }

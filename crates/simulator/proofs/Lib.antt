@@ -18,6 +18,7 @@ pub mod SeenSteps
 pub mod SeenRuns
 pub mod NextPlaces
 pub mod OneEntry
+pub mod OneRun
 pub mod Runs
 pub mod Seen
 pub mod Sendable

@@ -73,3 +73,18 @@ RunsAreSeen =
     (entries : List Entry)
     → IsBoard b → IsProgram p → IsReady b p m → IsRun b p m answers entries last
     → RunIsSeen b p m answers entries last
+
+-- a machine has one step under an answer
+abbrev pub StepsAreOne : Type 0
+StepsAreOne =
+    (b : Board) (p : List Instr) (m : Machine) (a : Answered) (e other : Entry)
+    (next end : Machine) → IsStep b p m a e next → IsStep b p m a other end
+    → (e ≡ other) × (next ≡ end)
+
+-- and one run under answers
+abbrev pub RunsAreOne : Type 0
+RunsAreOne =
+    (b : Board) (p : List Instr) (m : Machine) (answers : List Answered)
+    (entries others : List Entry) (last end : Machine)
+    → IsRun b p m answers entries last → IsRun b p m answers others end
+    → (entries ≡ others) × (last ≡ end)

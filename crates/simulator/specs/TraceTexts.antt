@@ -42,6 +42,10 @@ IsEndingLine e (Some outcome) line =
 abbrev pub IsLine : Entry → List ℕ → Type 0
 IsLine e line = IsEndingLine e e.outcome line
 
+-- the text with the line of a step appended
+abbrev pub IsLineMore : Entry → List ℕ → List ℕ → Type 0
+IsLineMore e old new = (line : List ℕ) × IsLine e line × (new ≡ old ++ line)
+
 -- the lines of steps in order
 abbrev pub AreLines : List Entry → List ℕ → Type 0
 AreLines [] text = text ≡ []

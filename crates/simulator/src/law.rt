@@ -1,6 +1,6 @@
 ghost use Rattle.simulator.specs.Does.{EntriesDoAsAsked};
 ghost use Rattle.simulator.specs.EntryLaws.{EntriesReadBack, IdleReadsBack, JoinedReadBack};
-ghost use Rattle.simulator.specs.RunLaws.{RunsAreSeen};
+ghost use Rattle.simulator.specs.RunLaws.{RunsAreOne, RunsAreSeen, StepsAreOne};
 ghost use Rattle.simulator.specs.SafeLaws.{AllowedFramesAreSeen, SafeStepsAreSafeRuns};
 ghost use Rattle.simulator.specs.SmallPrograms.{EndingIsSafe, ListedSendIsSafe, ClearingIsSafe};
 ghost use Rattle.simulator.specs.SmallPrograms.{VoltageWithinLimitIsSafe};
@@ -58,6 +58,13 @@ pub fn runs_are_seen()
     entries_read_back();
     steps_are_seen();
 }
+
+/// The targets' answers settle a run: from a machine there is no other step under an answer, and
+/// no other run under answers.
+pub fn runs_are_one()
+    ensures steps { StepsAreOne }
+    ensures runs { RunsAreOne }
+{}
 
 /// What makes steps and runs safe, without a look at the samples: the frame of a step is allowed
 /// where its message is, and a run of safe steps is safe as a whole, where the targets can answer

@@ -14,12 +14,12 @@ mod trace_text;
 
 pub use fault::RunFault;
 pub use law::{
-    entries_read_back, runs_are_seen, safe_steps_are_safe_runs, small_programs_are_judged,
-    steps_are_seen,
+    entries_read_back, runs_are_one, runs_are_seen, safe_steps_are_safe_runs,
+    small_programs_are_judged, steps_are_seen,
 };
 pub use machine::{Ending, Entry, Machine};
 pub use running::{Trace, run};
 pub use starting::start;
 pub use stepping::{step, step_at};
 pub use trace::{WriteFault, write_trace};
-pub use trace_text::{last_line, line_of};
+pub use trace_text::{last_line, push_line};

@@ -26,11 +26,12 @@ fn idle(alert: bool) -> Sample
     }
 }
 
-/// So many idle samples.
-fn idle_samples(alloc: Global, alert: bool, ticks: u32) -> Result<Runs, AllocError>
+/// So many idle samples. Spare ones give them their memory.
+fn idle_samples(spare: Runs, alert: bool, ticks: u32) -> Result<Runs, AllocError>
     ensures { IfOk result (λ samples. samples ≡ idle_samples alert ticks) }
 {
-    let mut samples = Runs::new(alloc);
+    let mut samples = spare;
+    samples.clear();
     samples.push(idle(alert), u64::from(ticks))?;
     Ok(samples)
 }
@@ -72,9 +73,11 @@ fn idle_ticks(instr: &Instr) -> u32
     }
 }
 
-/// The lines in a step of an instruction that sends this message, or none.
+/// The lines in a step of an instruction that sends this message, or none. Spare samples may give
+/// them their memory.
 pub(crate) fn step_samples(
     alloc: Global,
+    spare: Runs,
     state: &BusState,
     instr: &Instr,
     message: Option<&Message>,
@@ -88,6 +91,6 @@ pub(crate) fn step_samples(
     let alert = state.alerting == 0;
     match message {
         Some(message) => frame_samples(alloc, alert, message, answer),
-        None => idle_samples(alloc, alert, idle_ticks(instr) + 1),
+        None => idle_samples(spare, alert, idle_ticks(instr) + 1),
     }
 }

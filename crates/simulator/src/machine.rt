@@ -1,6 +1,6 @@
 ghost use Rattle.std.specs.Prelude.{◌≡◌, ◌<◌, All, IfOk};
 
-use std::alloc::AllocError;
+use std::alloc::{AllocError, Global};
 use std::marker::Model;
 use targets::{BusState, Outcome};
 use wires::Runs;
@@ -71,6 +71,29 @@ impl Model for Entry {
     } };
 }
 
+impl Entry {
+    ghost use Rattle.std.specs.Prelude.{◌≡◌, [], None};
+
+    /// What no step leaves, which takes no memory.
+    pub fn empty(alloc: Global) -> Entry
+        ensures { result ≡ record {
+          place = 0;
+          before = record { page = []; protect = []; alerting = 0 };
+          samples = [];
+          outcome = None;
+          ticks = 0;
+        } }
+    {
+        Entry {
+            place: 0,
+            before: BusState::empty(alloc),
+            samples: Runs::new(alloc),
+            outcome: None,
+            ticks: 0,
+        }
+    }
+}
+
 impl Machine {
     ghost use Rattle.std.specs.Prelude.{◌≡◌, IfOk};
 
@@ -96,7 +119,7 @@ impl Machine {
 }
 
 /// The same state once more.
-pub(crate) fn copied(state: &BusState) -> Result<BusState, AllocError>
+fn copied(state: &BusState) -> Result<BusState, AllocError>
     ensures { IfOk result (λ copy. copy ≡ state.now) }
 {
     Ok(BusState {

@@ -67,7 +67,8 @@ pub fn run(
     let mut entries = Vec::new(alloc);
     let mut ticks = 0;
     for (index, answer) in answers.iter().enumerate() {
-        let (next, entry) = step_at(alloc, board, program, &last, answer, index, ticks)?;
+        let before = (last, Entry::empty(alloc));
+        let (next, entry) = step_at(alloc, board, program, before, answer, index, ticks)?;
         ticks += entry.ticks;
         entries.push(entry)?;
         last = next;

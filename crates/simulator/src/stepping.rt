@@ -15,14 +15,14 @@ ghost use Rattle.simulator.specs.declared.machine.Ending.TheVariants.{Running};
 
 use crate::fault::RunFault;
 use crate::lines::step_samples;
-use crate::machine::{Ending, Entry, Machine, copied};
+use crate::machine::{Ending, Entry, Machine};
 use crate::moves::{after_message, silently};
 use bit_bus::reads_back;
 use board::Board;
 use seq_program::{Instr, Program, message_of};
 use smbus::{Answer, Message, slots_are_one_frame};
 use std::alloc::{AllocError, Global};
-use targets::{BusState, Outcome, after, fits, states_belong};
+use targets::{BusState, Outcome, after_in, fits, states_belong};
 
 /// The most ticks of a run.
 pub(crate) const MOST_TICKS: u64 = 1 << 40;
@@ -82,37 +82,37 @@ fn step_by(
     board: &Board,
     instr: &Instr,
     message: Option<&Message>,
-    machine: &Machine,
+    last: (Machine, Entry),
     answer: &Answer,
 ) -> Result<(Machine, Entry), AllocError>
     requires instr { IsInstr instr.now }
     requires asked { option_map (λ m. m.now) message
-        ≡ message_of board.now instr.now machine.now.regs }
-    requires few { machine.now.place < 1024 }
-    requires fits { FitsStep board.now machine.now.bus
-        (option_map (λ m. m.now) message) answer.now }
+        ≡ message_of board.now instr.now last.0.regs }
+    requires few { last.0.place < 1024 }
+    requires fits { FitsStep board.now last.0.bus (option_map (λ m. m.now) message) answer.now }
     ensures step { IfOk result (λ r.
         IsStepOf board.now instr.now
-        (option_map (λ m. m.now) message.entry) machine.now answer.now r.1 r.0) }
+        (option_map (λ m. m.now) message.entry) last.0 answer.now r.1 r.0) }
     ensures seen { IfOk result (λ r. IsSeen r.1) }
     ensures belongs { IfOk result
-        (λ r. Belongs board.now machine.now.bus → Belongs board.now r.0.bus) }
+        (λ r. Belongs board.now last.0.bus → Belongs board.now r.0.bus) }
 {
     let _targets = board.targets();
     slots_are_one_frame();
     reads_back();
     states_belong();
-    let before = copied(&machine.bus)?;
-    let samples = step_samples(alloc, &machine.bus, instr, message, answer)?;
-    let (bus, outcome) = after(alloc, board, &machine.bus, message, answer)?;
+    let (machine, spare) = last;
+    let samples = step_samples(alloc, spare.samples, &machine.bus, instr, message, answer)?;
+    let (bus, outcome) = after_in(spare.before, board, &machine.bus, message, answer)?;
+    let next = moved(instr, message, outcome, &machine, bus);
     let entry = Entry {
         place: machine.place,
-        before,
+        before: machine.bus,
         ticks: samples.total(),
         samples,
         outcome: sent_outcome(message, outcome),
     };
-    Ok((moved(instr, message, outcome, machine, bus), entry))
+    Ok((next, entry))
 }
 
 /// The step of an instruction that sends this message, or none, if the answer of this index fits.
@@ -121,32 +121,33 @@ fn step_if_fits(
     board: &Board,
     instr: &Instr,
     message: Option<&Message>,
-    machine: &Machine,
+    last: (Machine, Entry),
     answer: &Answer,
     index: usize,
 ) -> Result<(Machine, Entry), RunFault>
     requires instr { IsInstr instr.now }
     requires asked { option_map (λ m. m.now) message
-        ≡ message_of board.now instr.now machine.now.regs }
-    requires few { machine.now.place < 1024 }
+        ≡ message_of board.now instr.now last.0.regs }
+    requires few { last.0.place < 1024 }
     ensures step { IfOk result (λ r.
         IsStepOf board.now instr.now
-        (option_map (λ m. m.now) message.entry) machine.now answer.now r.1 r.0) }
+        (option_map (λ m. m.now) message.entry) last.0 answer.now r.1 r.0) }
     ensures seen { IfOk result (λ r. IsSeen r.1) }
     ensures belongs { IfOk result
-        (λ r. Belongs board.now machine.now.bus → Belongs board.now r.0.bus) }
+        (λ r. Belongs board.now last.0.bus → Belongs board.now r.0.bus) }
     ensures fault { IfErr result (λ e. e ≢ Memory → (e ≡ RunFault.AnswerDoesNotFit index)
-        × (FitsStep board.now machine.now.bus (option_map (λ m. m.now) message.entry) answer.now
+        × (FitsStep board.now last.0.bus (option_map (λ m. m.now) message.entry) answer.now
         → ⊥)) }
 {
-    if !fits(board, &machine.bus, message, answer) {
+    if !fits(board, &last.0.bus, message, answer) {
         return Err(RunFault::AnswerDoesNotFit(index));
     }
-    Ok(step_by(alloc, board, instr, message, machine, answer)?)
+    Ok(step_by(alloc, board, instr, message, last, answer)?)
 }
 
 /// The step of a machine under the answer of an index, where so many samples stand before it. The
-/// program and the machine are those of the board.
+/// program and the machine are those of the board. The entry that comes with the machine is not
+/// looked at: it gives its memory to the new one.
 ///
 /// AfterEnd is answered where the program has ended, then AnswerDoesNotFit where the targets can't
 /// answer so, both with the index, then TooLong where the run would have over 2^40 ticks.
@@ -155,35 +156,28 @@ pub fn step_at(
     alloc: Global,
     board: &Board,
     program: &Program,
-    machine: &Machine,
+    last: (Machine, Entry),
     answer: &Answer,
     index: usize,
     before: u64,
 ) -> Result<(Machine, Entry), RunFault>
     requires on_board { All (λ i. IsOnBoard (length board.now.targets) i) program.now }
-    requires machine { IsMachine board.now program.now machine.now }
+    requires machine { IsMachine board.now program.now last.0 }
     requires before { before ≤ most_ticks }
-    ensures step { IfOk result (λ r. IsStep board.now program.now machine.now answer.now r.1 r.0) }
+    ensures step { IfOk result (λ r. IsStep board.now program.now last.0 answer.now r.1 r.0) }
     ensures within { IfOk result (λ r. before + r.1.ticks ≤ most_ticks) }
     ensures machine { IfOk result (λ r. IsMachine board.now program.now r.0) }
     ensures seen { IfOk result (λ r. IsSeen r.1) }
     ensures fault { IfErr result (λ e. e ≢ Memory
-        → IsStepFault board.now program.now machine.now answer.now before index e) }
+        → IsStepFault board.now program.now last.0 answer.now before index e) }
 {
+    let machine = &last.0;
     if !is_running(machine) {
         return Err(RunFault::AfterEnd(index));
     }
     let instr = instr_of(program, machine);
     let message = message_of(alloc, board, instr, &machine.regs)?;
-    let (next, entry) = step_if_fits(
-        alloc,
-        board,
-        instr,
-        message.as_ref(),
-        machine,
-        answer,
-        index,
-    )?;
+    let (next, entry) = step_if_fits(alloc, board, instr, message.as_ref(), last, answer, index)?;
     if entry.ticks > MOST_TICKS - before {
         return Err(RunFault::TooLong);
     }
@@ -212,5 +206,6 @@ pub fn step(
     ensures fault { IfErr result
         (λ e. e ≢ Memory → IsStepFault board.now program.now machine.now answer.now 0 0 e) }
 {
-    step_at(alloc, board, program, machine, answer, 0, 0)
+    let last = (machine.copied()?, Entry::empty(alloc));
+    step_at(alloc, board, program, last, answer, 0, 0)
 }

@@ -8,7 +8,7 @@ ghost use Rattle.simulator.specs.declared.trace.WriteFault.TheVariants.{Write as
 
 use crate::machine::Entry;
 use crate::running::Trace;
-use crate::trace_text::{last_line, line_of};
+use crate::trace_text::{last_line, push_line};
 use std::alloc::{AllocError, Global};
 use std::io::Write;
 use texts::{CutShort, send};
@@ -39,8 +39,7 @@ fn lines_of(alloc: Global, entries: &[Entry]) -> Result<String, AllocError>
 {
     let mut text = String::new(alloc);
     for entry in entries {
-        let line = line_of(alloc, entry)?;
-        text.push_str(&line)?;
+        push_line(alloc, &mut text, entry)?;
     }
     Ok(text)
 }

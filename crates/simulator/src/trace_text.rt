@@ -7,7 +7,7 @@ ghost use Rattle.smbus.specs.OneFrame.{IsOnlyFrame};
 ghost use Rattle.smbus.specs.Shown.{Shown};
 ghost use Rattle.simulator.specs.Steps.{total_ticks};
 ghost use Rattle.simulator.specs.Traces.{IsSeen};
-ghost use Rattle.simulator.specs.TraceTexts.{outcome_text, ending_text, last_line, IsLine};
+ghost use Rattle.simulator.specs.TraceTexts.{outcome_text, ending_text, last_line, IsLineMore};
 ghost use Rattle.simulator.specs.TraceTexts.{AreLines, IsTraceText};
 
 use crate::machine::{Ending, Entry};
@@ -48,21 +48,21 @@ fn only_frame(alloc: Global, samples: &Runs) -> Result<Frame, AllocError>
     }
 }
 
-/// The line of a step: its place, its ticks, the frame that is read from its samples and how the
-/// message ended, `-` and `-` without one.
-pub fn line_of(alloc: Global, entry: &Entry) -> Result<String, AllocError>
+/// Appends the line of a step: its place, its ticks, the frame that is read from its samples and
+/// how the message ended, `-` and `-` without one.
+pub fn push_line(alloc: Global, text: &mut String, entry: &Entry) -> Result<(), AllocError>
     requires { IsSeen entry.now }
-    ensures { IfOk result (λ text. IsLine entry.now (string_bytes text)) }
+    ensures { OnOk result (IsLineMore entry.now (string_bytes text.old) (string_bytes text.new)) }
 {
     let place = entry.place;
     let ticks = entry.ticks;
     let Some(outcome) = entry.outcome else {
-        return format!(in alloc; "{place} {ticks} - -\n");
+        return write!(text, "{place} {ticks} - -\n");
     };
     let frame = only_frame(alloc, &entry.samples)?;
     let frame = frame_text(alloc, &frame)?;
     let outcome = outcome_text(alloc, outcome)?;
-    format!(in alloc; "{place} {ticks} {frame} {outcome}\n")
+    write!(text, "{place} {ticks} {frame} {outcome}\n")
 }
 
 fn ending_text(ended: Ending) -> &'static str

@@ -1,6 +1,7 @@
 pub mod Places
 pub mod Obligations
 pub mod Whole
+pub mod AdmittedRuns
 pub mod ByPlace
 pub mod Firsts
 pub mod Parts

@@ -9,6 +9,7 @@ pub mod SpelledRows
 pub mod PartLines
 pub mod PartSteps
 pub mod Stands
+pub mod FewLines
 pub mod Fills
 pub mod TableRuns
 pub mod LineWords

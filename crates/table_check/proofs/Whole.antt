@@ -47,13 +47,13 @@ pub record Laws : Type 0 where
   pub runs : SafeStepsAreSafeRuns
 
 -- a machine that has ended, or that its place's row admits with so many ticks left
-record Lasts (b : Board) (t : Table) (m : Machine) (h : List Entry) (n : ℕ) : Type 0 where
+pub record Lasts (b : Board) (t : Table) (m : Machine) (h : List Entry) (n : ℕ) : Type 0 where
   pub row : Row
   pub there : row_of t m.place ≡ Some row
   pub admits : Admits b row m h
   pub left : rank row m.counters ≤ n
 
-record Kept (b : Board) (p : List Instr) (t : Table) (m : Machine) (h : List Entry)
+pub record Kept (b : Board) (p : List Instr) (t : Table) (m : Machine) (h : List Entry)
     (n : ℕ) : Type 0 where
   pub ready : IsReady b p m
   pub stands : (m.ended ≡ Running → ⊥) ⊎ Lasts b t m h n
@@ -75,14 +75,14 @@ held b p t place i row table here there = record {
 }
 
 -- one step: the ticks are taken off
-record Stepped (b : Board) (p : List Instr) (t : Table) (h : List Entry) (n : ℕ) (e : Entry)
+pub record Stepped (b : Board) (p : List Instr) (t : Table) (h : List Entry) (n : ℕ) (e : Entry)
     (next : Machine) : Type 0 where
   pub safe : IsSafeEntry b h e
   pub rest : ℕ
   pub pays : e.ticks + rest ≤ n
   pub kept : Kept b p t next (e ∷ h) rest
 
-stepped : Laws → (b : Board) (p : List Instr) (t : Table) → IsBoard b → IsProgram p
+pub stepped : Laws → (b : Board) (p : List Instr) (t : Table) → IsBoard b → IsProgram p
     → IsInductive b p t
     → (m : Machine) (h : List Entry) (n : ℕ) (a : Answered) (e : Entry) (next : Machine)
     → Kept b p t m h n → IsStep b p m a e next → Stepped b p t h n e next
@@ -230,7 +230,7 @@ admits_start b row s first start = record {
 }
 
 -- where a run may start
-started : Laws → (b : Board) (p : List Instr) (t : Table) (s : BusState) → IsBoard b
+pub started : Laws → (b : Board) (p : List Instr) (t : Table) (s : BusState) → IsBoard b
     → IsProgram p → IsInductive b p t → IsStart b s → Kept b p t (start_at s) [] (bound_of t)
 started laws b p t s is program table start =
     let at' : (row : Row) × (row_of t 0 ≡ Some row) × HoldsStarts b row =

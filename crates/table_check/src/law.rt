@@ -1,6 +1,7 @@
 //! What holds of all tables: of their texts, and of the runs of a program with one.
 
 ghost use Rattle.facts.specs.declared.rule.Rule.TheVariants.{K5};
+ghost use Rattle.table_check.specs.Admitted.{StartsAreAdmitted, StepsStayAdmitted};
 ghost use Rattle.table_check.specs.ByPlace.{FollowingTablesTellDuties, InductiveByPlace};
 ghost use Rattle.table_check.specs.ByPlace.{ClosedTablesTellDutiesOrTicks};
 ghost use Rattle.table_check.specs.Obligations.{IsInductive, IsVerdict};
@@ -20,6 +21,18 @@ use simulator::{safe_steps_are_safe_runs, steps_are_seen};
 pub fn inductive_runs_are_safe()
     ensures runs { InductiveRunsAreSafe }
     ensures verdicts { VerdictsAreSafe }
+{
+    steps_are_sound();
+    covered_rows_follow();
+    steps_are_seen();
+    safe_steps_are_safe_runs();
+}
+
+/// In every run of a program with a table that keeps the rule book, the row of each place that is
+/// reached admits the machine, with the steps before it.
+pub fn accepted_runs_are_admitted()
+    ensures starts { StartsAreAdmitted }
+    ensures steps { StepsStayAdmitted }
 {
     steps_are_sound();
     covered_rows_follow();

@@ -24,7 +24,8 @@ mod written;
 pub use checking::check;
 pub use fault::TableFault;
 pub use law::{
-    inductive_runs_are_safe, small_tables_are_judged, tables_are_judged_by_place, tables_have_texts,
+    accepted_runs_are_admitted, inductive_runs_are_safe, small_tables_are_judged,
+    tables_are_judged_by_place, tables_have_texts,
 };
 pub use reading::read_table;
 pub use shape::shaped;

@@ -1,7 +1,8 @@
 //! The lines of a text, one after another.
 
-ghost use Rattle.std.specs.Prelude.{◌≡◌, ◌<◌, ◌^◌, map, None, IfSome, IsTrue};
+ghost use Rattle.std.specs.Prelude.{◌≡◌, map, length, None, IfSome, IsTrue};
 ghost use Rattle.texts.specs.Reading.{some_or};
+ghost use Rattle.texts.specs.Words.{lines_by_feed};
 ghost use Rattle.table_check.specs.declared.fault.TableFault.TheVariants.{BadLine};
 ghost use Rattle.table_check.specs.Tables.{table_view};
 ghost use Rattle.table_check.specs.Faults.{Gives};
@@ -15,6 +16,7 @@ use crate::table::Table;
 use board::Board;
 use facts::Row;
 use std::alloc::Global;
+use texts::line_count;
 
 /// The rows so far, and what is read of the next one.
 #[derive(Drop)]
@@ -91,14 +93,14 @@ impl Pass {
         }
     }
 
-    /// The table of so many lines, unless a row isn't finished.
-    pub(crate) fn whole(self, lines: usize) -> Result<Table, TableFault>
-        requires { lines < 2 ^ 63 }
-        ensures { Gives table_view result (whole lines (pass_view self)) }
+    /// The table of a text's lines, unless a row isn't finished.
+    pub(crate) fn whole(self, text: &str) -> Result<Table, TableFault>
+        ensures { Gives table_view result
+            (whole (length (lines_by_feed text.now)) (pass_view self)) }
     {
         match self.part {
             None => Ok(Table { rows: self.rows }),
-            Some(_) => Err(TableFault::BadLine(lines + 1)),
+            Some(_) => Err(TableFault::BadLine(line_count(text) + 1)),
         }
     }
 }

@@ -4,7 +4,7 @@ ghost use Rattle.std.specs.Prelude.{◌≡◌, map, IfOk, IfErr};
 ghost use Rattle.texts.specs.Words.{lines_by_feed};
 ghost use Rattle.table_check.specs.Faults.{Gives};
 ghost use Rattle.table_check.specs.Tables.{table_view};
-ghost use Rattle.table_check.specs.Texts.{AreLinesOf, IsTextOf, FindsTable, CarriesFirst};
+ghost use Rattle.table_check.specs.Texts.{IsTextOf, FindsTable, CarriesFirst};
 ghost use Rattle.table_check.specs.Passes.{pass_view, after_lines, no_pass, parted};
 ghost use Rattle.table_check.specs.Passes.{table_in};
 
@@ -14,7 +14,7 @@ use crate::shape::is_board;
 use crate::table::Table;
 use board::Board;
 use std::alloc::{AllocError, Global};
-use texts::lines_by_feed;
+use texts::first_by_feed;
 
 /// Takes the words of a line, between single spaces, in place of those before.
 fn take_words<'a>(words: &mut Vec<&'a str>, line: &'a str) -> Result<(), AllocError>
@@ -29,36 +29,29 @@ fn take_words<'a>(words: &mut Vec<&'a str>, line: &'a str) -> Result<(), AllocEr
 
 /// All lines of a text.
 #[tactic(auto, unfolding(crate::specs::Passes::after_line))]
-fn pass_of(alloc: Global, board: &Board, lines: &[&str]) -> Result<Pass, TableFault>
+fn pass_of(alloc: Global, board: &Board, text: &str) -> Result<Pass, TableFault>
     ensures { Gives pass_view result
-        (after_lines board.now 1 no_pass (map (λ l. l.now) lines.now)) }
+        (after_lines board.now 1 no_pass (lines_by_feed text.now)) }
 {
     let mut pass = Pass::new(alloc);
     let mut words = Vec::new(alloc);
-    for (index, line) in lines.iter().enumerate() {
+    let mut number = 1;
+    let mut rest = text;
+    while let Some((line, below)) = first_by_feed(rest) {
         take_words(&mut words, line)?;
-        pass.add_line(alloc, board, index + 1, &words)?;
+        pass.add_line(alloc, board, number, &words)?;
+        number += 1;
+        rest = below;
     }
     Ok(pass)
 }
 
 #[tactic(auto, unfolding(crate::specs::Passes::table_in))]
-fn table_in(alloc: Global, board: &Board, lines: &[&str]) -> Result<Table, TableFault>
-    ensures { Gives table_view result (table_in board.now (map (λ l. l.now) lines.now)) }
+fn table_in(alloc: Global, board: &Board, text: &str) -> Result<Table, TableFault>
+    ensures { Gives table_view result (table_in board.now (lines_by_feed text.now)) }
 {
-    let pass = pass_of(alloc, board, lines)?;
-    pass.whole(lines.len())
-}
-
-/// The table of some lines.
-fn read_lines(alloc: Global, board: &Board, lines: &[&str]) -> Result<Table, TableFault>
-    ensures ok { IfOk result (λ t. AreLinesOf board.now (table_view t)
-        (map (λ l. l.now) lines.now)) }
-    ensures all { FindsTable board.now (map (λ l. l.now) lines.now) result }
-    ensures bad { IfErr result (λ e. CarriesFirst board.now (map (λ l. l.now) lines.now) e) }
-{
-    is_board(board);
-    table_in(alloc, board, lines)
+    let pass = pass_of(alloc, board, text)?;
+    pass.whole(text)
 }
 
 /// The table of a text for a board: the one whose lines the text has, if there is one.
@@ -72,6 +65,6 @@ pub fn read_table(alloc: Global, board: &Board, text: &str) -> Result<Table, Tab
     ensures all { FindsTable board.now (lines_by_feed text.now) result }
     ensures bad { IfErr result (λ e. CarriesFirst board.now (lines_by_feed text.now) e) }
 {
-    let lines = lines_by_feed(alloc, text)?;
-    read_lines(alloc, board, &lines)
+    is_board(board);
+    table_in(alloc, board, text)
 }

@@ -12,7 +12,7 @@ mod step;
 
 pub use fitting::fits;
 pub use law::{lowest_address_wins, some_answer_fits, states_belong};
-pub use outcome::Outcome;
+pub use outcome::{Outcome, cut_of};
 pub use start::starts;
 pub use state::BusState;
-pub use step::after;
+pub use step::{after, after_in};

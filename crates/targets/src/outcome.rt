@@ -40,8 +40,9 @@ fn first_cut_of(slot_count: usize, holds: &[u16]) -> Option<usize>
     first_cut_in(&holds[..slot_count.min(holds.len())])
 }
 
-/// The first slot of a message that is cut.
-pub(crate) fn cut_of(message: &Message, answer: &Answer) -> Option<usize>
+/// The first slot of a message that is cut: its low period is longer than 5000 ticks (the clock-low
+/// timeout: SMBus 3.2, 4.2.5). Slots are numbered from 0, the STOP among them.
+pub fn cut_of(message: &Message, answer: &Answer) -> Option<usize>
     ensures { result ≡ cut_of message.now answer.now }
 {
     first_cut_of(slot_count(message, answer), &answer.holds)

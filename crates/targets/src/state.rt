@@ -1,3 +1,4 @@
+use std::alloc::Global;
 use std::marker::Model;
 
 /// What the targets keep, by their indices: PAGE, WRITE_PROTECT, and who pulls SMBALERT# low.
@@ -21,4 +22,19 @@ impl Model for BusState {
       protect = s.protect.items;
       alerting = s.alerting;
     } };
+}
+
+impl BusState {
+    ghost use Rattle.std.specs.Prelude.{◌≡◌, []};
+
+    /// What no targets keep. Takes no memory.
+    pub fn empty(alloc: Global) -> BusState
+        ensures { result ≡ record { page = []; protect = []; alerting = 0 } }
+    {
+        BusState {
+            page: Vec::new(alloc),
+            protect: Vec::new(alloc),
+            alerting: 0,
+        }
+    }
 }

@@ -14,15 +14,16 @@ use board::Board;
 use smbus::{Answer, Form, Message};
 use std::alloc::{AllocError, Global};
 
-/// What is stored with one value written, at its index.
+/// What is stored with one value written, at its index. Spare bytes give it their memory.
 fn with_write(
-    alloc: Global,
+    spare: Vec<u8>,
     stored: &[u8],
     write: Option<(usize, u8)>,
 ) -> Result<Vec<u8>, AllocError>
     ensures { IfOk result (λ bytes. bytes.items ≡ with_write write stored.now) }
 {
-    let mut bytes = Vec::new(alloc);
+    let mut bytes = spare;
+    bytes.clear();
     bytes.extend_from_slice(stored)?;
     if let Some((index, value)) = write {
         if let Some(byte) = bytes.get_mut(index) {
@@ -81,10 +82,9 @@ fn stops_alerting(
     }
 }
 
-/// The state and the outcome after a message and an answer of the targets, or after a step that
-/// sends nothing. Fails only for want of memory.
-pub fn after(
-    alloc: Global,
+/// The same as `after`, where a spare state gives its memory to the new one.
+pub fn after_in(
+    spare: BusState,
     board: &Board,
     state: &BusState,
     message: Option<&Message>,
@@ -99,9 +99,26 @@ pub fn after(
     let page_write = page_write(board, state, message, answer);
     let protect_write = protect_write(board, state, message, answer);
     let new = BusState {
-        page: with_write(alloc, &state.page, page_write)?,
-        protect: with_write(alloc, &state.protect, protect_write)?,
+        page: with_write(spare.page, &state.page, page_write)?,
+        protect: with_write(spare.protect, &state.protect, protect_write)?,
         alerting: joined(answer.alerts, kept_alerting(state.alerting, stops)),
     };
     Ok((new, outcome_of(message, answer)))
+}
+
+/// The state and the outcome after a message and an answer of the targets, or after a step that
+/// sends nothing. Fails only for want of memory.
+pub fn after(
+    alloc: Global,
+    board: &Board,
+    state: &BusState,
+    message: Option<&Message>,
+    answer: &Answer,
+) -> Result<(BusState, Outcome), AllocError>
+    ensures state { IfOk result (λ r.
+        IsAfter board.now state.now (option_map (λ m. m.now) message.entry) answer.now r.0) }
+    ensures outcome { IfOk result
+        (λ r. r.1 ≡ outcome_of (option_map (λ m. m.now) message.entry) answer.now) }
+{
+    after_in(BusState::empty(alloc), board, state, message, answer)
 }

@@ -2,4 +2,4 @@ pub mod DecimalTexts
 pub mod HexDigits
 pub mod HexLaws
 pub mod Sent
-pub mod LastLines
+pub mod FirstLines

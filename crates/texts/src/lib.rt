@@ -4,6 +4,7 @@
 
 mod decimal;
 mod hex;
+mod lines;
 mod name;
 mod reading;
 mod sending;
@@ -11,7 +12,8 @@ mod words;
 
 pub use decimal::decimal_within;
 pub use hex::{hex_number, pair_of, pairs_of, push_pair, push_word};
+pub use lines::{first_by_feed, first_line, line_count};
 pub use name::is_name;
 pub use reading::ReadError;
 pub use sending::{CutShort, send};
-pub use words::{lines_by_feed, lines_of, words_of};
+pub use words::words_of;

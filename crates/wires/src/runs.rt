@@ -105,6 +105,13 @@ impl Runs {
         }
     }
 
+    /// Takes all samples away. The memory is kept for others.
+    pub fn clear(&mut self)
+        ensures { self.new ≡ [] }
+    {
+        self.runs.clear();
+    }
+
     /// Appends so many equal samples. Fails only for want of memory, and then the list is
     /// unchanged.
     pub fn push(&mut self, sample: Sample, count: u64) -> Result<(), AllocError>

@@ -1,6 +1,7 @@
 -- What reading answers, by what the lines are read as.
-use Rattle.std.proofs.Common.{◌≡◌, ◌<◌, ◌^◌, ℕ, length, Result, Ok, Err, IfOk, IfErr, refl, sym}
-use Rattle.std.proofs.Common.{◌∙◌, arith}
+use Rattle.std.proofs.Common.{◌≡◌, ◌≤◌, ◌<◌, ◌^◌, ℕ, length, Result, Ok, Err, IfOk, IfErr, refl}
+use Rattle.std.proofs.Common.{sym}
+use Rattle.std.proofs.Common.{◌∙◌}
 use Rattle.board.specs.Boards.{Board}
 use Rattle.board.specs.Valid.{IsBoard}
 use Rattle.table_check.specs.declared.fault.TableFault.{TableFault}
@@ -16,10 +17,10 @@ use Rattle.table_check.proofs.Text.TableFaults.{read_wrong}
 abbrev Answer : Type 0
 Answer = Result CodeTable TableFault
 
-pub ok_of : (b : Board) (lines : Lines) (r : Answer) → IsBoard b → length lines < 2 ^ 63
+pub ok_of : (b : Board) (lines : Lines) (r : Answer) → IsBoard b → length lines < 2 ^ 64
     → Gives table_view r (table_in b lines) → IfOk r (λ t. AreLinesOf b (table_view t) lines)
 ok_of b lines (Ok t) board small g =
-    read_only b lines (table_view t) board (omega (arith, small)) g
+    read_only b lines (table_view t) board small g
 ok_of b lines (Err e) board small g = tt
 
 abbrev read : Table → Result Table TableFault
@@ -42,7 +43,7 @@ all_of b lines (Err fault.Memory) board g = λ t are. refl
 all_of b lines (Err (fault.BadLine n)) board g = λ t are.
     absurd (no_fault t (fault.BadLine n) (sym (g (not_memory n)) ∙ read_all b lines t board are))
 
-pub bad_of : (b : Board) (lines : Lines) (r : Answer) → IsBoard b → length lines < 2 ^ 63
+pub bad_of : (b : Board) (lines : Lines) (r : Answer) → IsBoard b → length lines ≤ 2 ^ 63
     → Gives table_view r (table_in b lines) → IfErr r (λ e. CarriesFirst b lines e)
 bad_of b lines (Ok t) board small g = tt
 bad_of b lines (Err fault.Memory) board small g = tt

@@ -1,5 +1,5 @@
 -- The first bad line of a text that is read as no table.
-use Rattle.std.proofs.Common.{◌≡◌, ℕ, zero, suc, ◌+◌, ◌-◌, ◌<◌, ◌^◌, Bool, List, [], ◌∷◌, ◌++◌}
+use Rattle.std.proofs.Common.{◌≡◌, ◌≤◌, ℕ, zero, suc, ◌+◌, ◌-◌, ◌<◌, ◌^◌, Bool, List, [], ◌∷◌, ◌++◌}
 use Rattle.std.proofs.Common.{length, map, Option, Some, None, IfSome, Result, Ok, Err, take, drop}
 use Rattle.std.proofs.Common.{replicate, refl, sym, ap, ◌∙◌, arith, inl, inr, subst, IsTrue, lit<}
 use Rattle.std.specs.List.{AllByRecursion}
@@ -162,7 +162,7 @@ completed_by b rows q (Some S) e board good =
 -- ---- lines that are taken begin some table
 
 row_begins : (b : Board) (lines : Lines) (rows : Table) (row : Row) (more : List Words)
-    → length rows < 2 ^ 63 → Stands b (past rows row) (cut lines ++ more) → Begins b lines
+    → length rows ≤ 2 ^ 63 → Stands b (past rows row) (cut lines ++ more) → Begins b lines
 row_begins b lines rows row more few s =
     let t : Table = rows ++ Some row ∷ [] in
     let size = one_longer rows (Some row) in
@@ -175,8 +175,8 @@ row_begins b lines rows row more few s =
           ∙ ap (λ (ls : Lines). ls ++ map line_of more) (lines_whole lines);
     }
 
-rows_small : (b : Board) (lines : Lines) (pass : Pass) → length lines < 2 ^ 63
-    → Stands b pass (cut lines) → length pass.rows < 2 ^ 63
+rows_small : (b : Board) (lines : Lines) (pass : Pass) → length lines ≤ 2 ^ 63
+    → Stands b pass (cut lines) → length pass.rows ≤ 2 ^ 63
 rows_small b lines pass small s =
     let few = few_rows b 0 pass.rows in
     let size = length-map lines parted in
@@ -186,7 +186,7 @@ rows_small b lines pass small s =
     omega (arith, few, size, same, sum, small)
 
 begins_by : (b : Board) (lines : Lines) (rows : Table) (o : Option Part) → IsBoard b
-    → length lines < 2 ^ 63 → Stands b (record { rows = rows; part = o }) (cut lines)
+    → length lines ≤ 2 ^ 63 → Stands b (record { rows = rows; part = o }) (cut lines)
     → Begins b lines
 begins_by b lines rows None board small s =
     let are = table_stands b lines rows (omega (arith, small)) s in
@@ -196,7 +196,7 @@ begins_by b lines rows (Some q) board small s =
     row_begins b lines rows c.row c.more (rows_small b lines (at rows q) small s)
     (ran b c.more (at rows q) (cut lines) (past rows c.row) board s c.ran)
 
-begins : (b : Board) (lines : Lines) (pass : Pass) → IsBoard b → length lines < 2 ^ 63
+begins : (b : Board) (lines : Lines) (pass : Pass) → IsBoard b → length lines ≤ 2 ^ 63
     → run b no_pass (cut lines) ≡ Some pass → Begins b lines
 begins b lines pass board small e =
     begins_by b lines pass.rows pass.part board small (stands b lines pass board e)
@@ -206,7 +206,7 @@ begins b lines pass board small e =
 number_is : (n m : ℕ) → BadLine n ≡ BadLine m → n ≡ m
 number_is n m e = cc
 
-wrong_at : (b : Board) (lines : Lines) (e : TableFault) → IsBoard b → length lines < 2 ^ 63
+wrong_at : (b : Board) (lines : Lines) (e : TableFault) → IsBoard b → length lines ≤ 2 ^ 63
     → (h : Stuck b 1 no_pass lines e) → IsWrongAt b lines h.before
 wrong_at b lines e board small h =
     let less = h.less in
@@ -228,7 +228,7 @@ ok_error : (t : Table) (e : TableFault) → Ok t ≡ Err e → ⊥
 ok_error t e p = cc
 
 whole_wrong : (b : Board) (lines : Lines) (rows : Table) (o : Option Part) (n : ℕ) → IsBoard b
-    → length lines < 2 ^ 63 → run b no_pass (cut lines) ≡ Some (record { rows = rows; part = o })
+    → length lines ≤ 2 ^ 63 → run b no_pass (cut lines) ≡ Some (record { rows = rows; part = o })
     → whole_of (length lines) (record { rows = rows; part = o }) o ≡ Err (BadLine n)
     → table_in b lines ≡ Err (BadLine n) → IsFirstBadLine b lines n
 whole_wrong b lines rows None n board small h e none = absurd (ok_error rows (BadLine n) e)
@@ -247,7 +247,7 @@ whole_wrong b lines rows (Some q) n board small h e none =
     }
 
 wrong_by : (b : Board) (lines : Lines) (r : Result Pass TableFault) (n : ℕ) → IsBoard b
-    → length lines < 2 ^ 63 → Linked b 1 no_pass lines r
+    → length lines ≤ 2 ^ 63 → Linked b 1 no_pass lines r
     → (r >>= λ pass. whole (length lines) pass) ≡ Err (BadLine n)
     → table_in b lines ≡ Err (BadLine n) → IsFirstBadLine b lines n
 wrong_by b lines (Ok end) n board small h e none =
@@ -262,7 +262,7 @@ wrong_by b lines (Err x) n board small h e none =
     }
 
 -- the fault carries the first bad line
-pub read_wrong : (b : Board) (lines : Lines) (n : ℕ) → IsBoard b → length lines < 2 ^ 63
+pub read_wrong : (b : Board) (lines : Lines) (n : ℕ) → IsBoard b → length lines ≤ 2 ^ 63
     → table_in b lines ≡ Err (BadLine n) → IsFirstBadLine b lines n
 unfolding table_in
 read_wrong b lines n board small e =

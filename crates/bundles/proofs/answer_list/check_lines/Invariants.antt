@@ -1,4 +1,3 @@
-use Rattle.std.proofs.Common.{length}
 use Rattle.bundles.specs.CountedLines.{counted_lines}
 use Rattle.bundles.specs.Views.{section_view}
 use Rattle.bundles.proofs.CheckedLines.{AreChecked}
@@ -9,4 +8,4 @@ invariant-loop-first l =
     AreChecked (counted_lines (section_view l.section)) (counted_lines (section_view l.rest))
 
 abbrev pub decreases-loop-first : goal.decreases-loop-first
-decreases-loop-first l = length l.rest.lines.now
+decreases-loop-first l = l.rest.count

@@ -1,10 +1,13 @@
-use Rattle.std.proofs.Common.{◌≡◌, ◌+◌, drop, map, filter}
-use Rattle.std.specs.List.{enumerate_from}
-use Rattle.bundles.specs.CountedLines.{is_counted, counted_lines}
+use Rattle.std.proofs.Common.{◌≡◌, ◌≤◌}
+use Rattle.bundles.specs.CountedLines.{counted_lines}
 use Rattle.bundles.specs.Views.{section_view}
 use Rattle.bundles.proofs.counted.first_counted.Given as goal
 
-abbrev pub invariant-loop-place : goal.invariant-loop-place
-invariant-loop-place l =
-    filter (λ x. is_counted x.1) (enumerate_from (l.section.first_line + l.place)
-    (map (λ x. x.now) (drop l.place l.section.lines.now))) ≡ counted_lines (section_view l.section)
+abbrev pub invariant-loop-line : goal.invariant-loop-line
+invariant-loop-line l = record {
+  same : counted_lines (section_view l.rest) ≡ counted_lines (section_view l.section);
+  few : l.rest.count ≤ l.section.count;
+}
+
+abbrev pub decreases-loop-line : goal.decreases-loop-line
+decreases-loop-line l = l.rest.count

@@ -4,7 +4,7 @@ use Rattle.simulator.specs.Machines.{Machine, Entry}
 use Rattle.simulator.proofs.Runs.{passed_on}
 use Rattle.bundles.specs.Answers.{Answers}
 use Rattle.session.specs.Scenarios.{start_of, IsFaultOf}
-use Rattle.session.proofs.Told.{told_none, told_to_more, told_to_end, told_to_fault, room_to_tell}
+use Rattle.session.proofs.Told.{told_to_more, told_to_end, told_to_fault}
 use Rattle.session.proofs.tracing.run_text.Goals as goal
 
 pub loop-report-preserved : goal.loop-report-preserved

@@ -7,7 +7,7 @@ pub returns-clause-machine : goal.returns-clause-machine
 returns-clause-machine c = record {
   place =
       stepped_place c.args.board.now c.args.program.now c.instr_of-instr.result.now _
-      c.args.machine.now c.args.answer.now c.in_ok-next.entry c.in_ok-next.next
+      c.args.last.0 c.args.answer.now c.in_ok-next.entry c.in_ok-next.next
       c.instr_of-instr.ensures.program c.instr_of-instr.ensures.at
       (search rules) c.in_ok-next.ensures.step;
   bus = c.in_ok-next.ensures.belongs c.requires.machine.bus;

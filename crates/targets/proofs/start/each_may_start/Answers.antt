@@ -1,4 +1,4 @@
-use Rattle.std.proofs.Common.{ℕ, ◌<◌, length, slice_index, refl, ap, rules, arith}
+use Rattle.std.proofs.Common.{ℕ, slice_index, refl, ap, rules, arith}
 use Rattle.std.proofs.lemmas.Option.{slice_get_within}
 use Rattle.board.specs.Boards.{Target}
 use Rattle.targets.specs.States.{BusState, MayStart}

@@ -1,5 +1,5 @@
-use Rattle.std.proofs.Common.{arith}
-use Rattle.std.proofs.lemmas.List.{length-map}
+use Rattle.std.proofs.Common.{arith, length-take}
+use Rattle.std.specs.Str.Lines.{lines}
 use Rattle.bundles.specs.Views.{section_view}
 use Rattle.bundles.proofs.CheckedLines.{few_answers}
 use Rattle.bundles.proofs.answer_list.AnswerLines.copied.Goals as goal
@@ -7,6 +7,5 @@ use Rattle.bundles.proofs.answer_list.AnswerLines.copied.Goals as goal
 pub returns-clause-few : goal.returns-clause-few
 returns-clause-few c =
     let few = few_answers (section_view c.self.inside.section) in
-    let lines = length-map c.self.inside.section.lines.now (λ l. l.now) in
-    let range = c.self.inside.section.in_range in
-    omega (arith, few, lines, range)
+    let most = length-take c.self.inside.section.count (lines c.self.inside.section.text.now) in
+    omega (arith, few, most, c.self.inside.section.in_range)

@@ -1,0 +1,41 @@
+use Rattle.std.proofs.Common.{◌≡◌, Option, option_map, ap, ◌∙◌}
+use Rattle.std.specs.Borrow.{Bor}
+use Rattle.smbus.specs.Asked.{Asked}
+use Rattle.smbus.specs.Answered.{Answered}
+use Rattle.targets.specs.States.{BusState}
+use Rattle.targets.specs.Effects.{WritesPage, WritesProtect}
+use Rattle.targets.proofs.StoredAfter.{stored_after}
+use Rattle.targets.proofs.AlertingAfter.{alerting_after}
+use Rattle.targets.proofs.step.after_in.Goals as goal
+
+pub returns-clause-state : goal.returns-clause-state
+returns-clause-state c =
+    let b = c.args.board.now in
+    let s = c.args.state.now in
+    let m : Option Asked = option_map (λ (m : Bor Asked). m.now) c.args.message in
+    let a = c.args.answer.now in
+    let is = c.stops_alerting-stops.ensures.board in
+    let page = stored_after (WritesPage b s m a) c.deref.result.now s.page
+    c.in_ok-with_write.field-0.items c.page_write-page_write.result
+    (c.deref.ensures.value ∙ ap (λ (s : BusState). s.page) c.state.view_is)
+    c.in_ok-with_write.ensures c.page_write-page_write.ensures.some
+    (c.page_write-page_write.ensures.only is) in
+    let protect = stored_after (WritesProtect b s m a) c.deref-2.result.now s.protect
+    c.in_ok-with_write-2.field-0.items c.protect_write-protect_write.result
+    (c.deref-2.ensures.value ∙ ap (λ (s : BusState). s.protect) c.state.view_is)
+    c.in_ok-with_write-2.ensures c.protect_write-protect_write.ensures.some
+    (c.protect_write-protect_write.ensures.only is) in
+    let alerting : c.state.inside.alerting ≡ s.alerting =
+    ap (λ (s : BusState). s.alerting) c.state.view_is in
+    let alerts : c.answer.inside.alerts ≡ a.alerts =
+    ap (λ (a : Answered). a.alerts) c.answer.view_is in
+    record {
+      pages = page.long;
+      protects = protect.long;
+      page = page.each;
+      protect = protect.each;
+      alerting =
+          alerting_after b s m a c.stops_alerting-stops.result c.kept_alerting.result
+          c.joined.result c.stops_alerting-stops.ensures.some c.stops_alerting-stops.ensures.only
+          (λ i. rw alerting at c.kept_alerting.ensures i) (λ i. rw alerts at c.joined.ensures i);
+    }

@@ -1,0 +1,9 @@
+use Rattle.std.proofs.Common.{None, lit<}
+use Rattle.std.proofs.lemmas.Str.Pattern.{strip_suffix_char}
+use Rattle.texts.proofs.FirstLines.{no_return}
+use Rattle.texts.proofs.lines.without_return.Goals as goal
+
+pub returns-in-None : goal.returns-in-None
+returns-in-None c =
+    no_return c.args.line.now
+    (strip_suffix_char 13 c.args.line.now None c.in-None.ensures.cases (lit< tt))
