@@ -1,10 +1,71 @@
-//! Reads a bundle from standard input and answers it on standard output.
+//! Reads a bundle from standard input and answers it on standard output. Where it is refused or has
+//! a fault, a note on standard error says what to mend; where a run does what a checked program
+//! never does, a warning says so.
 #![tactic(auto)]
 
-use session::session;
+use diagnostics::{Keeping, note_on, warning_on};
+use session::{Status, session};
+use std::alloc::{AllocError, Global};
+use std::io::{Stderr, Write};
 use std::process::ExitCode;
+use texts::send;
+
+/// What is told on standard error.
+#[derive(Drop)]
+struct Notes {
+    error: Option<String>,
+    warning: Option<String>,
+}
+
+/// The note on a text that was answered so, if it has a fault or is refused.
+fn error_on(alloc: Global, status: Status, text: &str) -> Result<Option<String>, AllocError> {
+    match status {
+        Status::Refused | Status::InputFault => note_on(alloc, text),
+        Status::Accepted | Status::DeviceFault => Ok(None),
+    }
+}
+
+/// The notes on an input that was answered so, where it was kept and is a text.
+fn notes_on(alloc: Global, status: Status, input: Option<&[u8]>) -> Result<Notes, AllocError> {
+    let text = match input {
+        Some(input) => str::from_utf8(input).unwrap_or(""),
+        None => "",
+    };
+    Ok(Notes {
+        error: error_on(alloc, status, text)?,
+        warning: warning_on(alloc, text)?,
+    })
+}
+
+/// Writes a note, if there is one. What becomes of it changes nothing.
+fn tell(errors: &mut Stderr, note: Option<String>) {
+    if let Some(note) = note {
+        let _written = errors.write_all(note.as_bytes());
+    }
+}
+
+/// Answers the input. The reply waits for its notes, so that where memory is refused, nothing is
+/// written.
+fn answer_all(rt: &HostRuntime) -> Status {
+    let mut input = Keeping::new(rt.alloc(), rt.stdin());
+    let mut reply = Vec::new(rt.alloc());
+    let status = session(rt.alloc(), &mut input, &mut reply);
+    if status == Status::DeviceFault {
+        return status;
+    }
+    let Ok(notes) = notes_on(rt.alloc(), status, input.kept()) else {
+        return Status::DeviceFault;
+    };
+    if send(&mut rt.stdout(), &reply).is_err() {
+        return Status::DeviceFault;
+    }
+    let mut errors = rt.stderr();
+    tell(&mut errors, notes.error);
+    tell(&mut errors, notes.warning);
+    status
+}
 
 fn main(rt: HostRuntime) -> ExitCode {
-    let status = session(rt.alloc(), &mut rt.stdin(), &mut rt.stdout());
+    let status = answer_all(&rt);
     ExitCode::from(status.code())
 }

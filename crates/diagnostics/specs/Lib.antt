@@ -1,0 +1,15 @@
+pub mod Notes
+pub mod Nearest
+pub mod Places
+pub mod ProgramPlaces
+pub mod AnswerPlaces
+pub mod AnswerLaws
+pub mod BundlePlaces
+pub mod Inputs
+pub mod Runs
+pub mod Boards
+pub mod Warnings
+pub mod Known
+pub mod Breaches
+pub mod Telling
+pub mod Accepted

@@ -1,0 +1,96 @@
+//! A word that is no number, or one that can't stand in its place.
+
+use crate::habit::habit_in;
+use crate::operand::{Operand, operands_of};
+use crate::quote::Quoted;
+use crate::remark::{Remark, help_of};
+use seq_program::{Width, number_within, sized_in};
+use smbus::Form;
+use std::alloc::{AllocError, Global};
+
+/// How a number is written.
+const FORM: &str =
+    "a number is decimal without leading zeros, or 0x and one to four hexadecimal digits";
+
+/// The greatest number that a command writes.
+fn most_written(command: &str) -> u32 {
+    match sized_in(Form::WriteByte, Form::WriteWord, command) {
+        Some((_, Width::Byte)) => 255,
+        _ => 65_535,
+    }
+}
+
+/// The range of an operand that is a number.
+fn range_of(operand: Operand, command: Option<&str>) -> Option<(u32, u32)> {
+    match operand {
+        Operand::Number(low, high) => Some((low, high)),
+        Operand::Mask => Some((0, 65_535)),
+        Operand::Written => Some((0, most_written(command.unwrap_or("")))),
+        _ => None,
+    }
+}
+
+/// A word in the place of a number, and the range of that place.
+#[derive(Clone, Copy, Debug)]
+struct Misplaced<'a> {
+    word: &'a str,
+    low: u32,
+    high: u32,
+}
+
+/// The first word that is no number of its range.
+fn first_misplaced<'a>(operands: &[Operand], words: &[&'a str]) -> Option<Misplaced<'a>> {
+    let command = words.get(1).copied();
+    for (operand, word) in operands.iter().zip(words) {
+        match range_of(*operand, command) {
+            Some((low, high)) if number_within(low, high, word).is_none() => {
+                return Some(Misplaced { word, low, high });
+            }
+            _ => {}
+        }
+    }
+    None
+}
+
+/// What may help where a number can't stand.
+fn number_help(
+    alloc: Global,
+    words: &[&str],
+    misplaced: Misplaced,
+) -> Result<Option<String>, AllocError> {
+    if let Some(habit) = habit_in(words) {
+        return help_of(alloc, Some(habit));
+    }
+    if number_within(0, u32::MAX, misplaced.word).is_none() {
+        return help_of(alloc, Some(FORM));
+    }
+    match words {
+        ["write", _, command, ..] => {
+            let size = if misplaced.high == 255 {
+                "byte"
+            } else {
+                "word"
+            };
+            let command = Quoted(command);
+            Ok(Some(format!(in alloc; "{command} is written as a {size}")?))
+        }
+        _ => Ok(None),
+    }
+}
+
+/// What is said of a line with such a word.
+pub(crate) fn bad_number(alloc: Global, words: &[&str]) -> Result<Remark, AllocError> {
+    let [instruction, operand_words @ ..] = words else {
+        return Remark::plain(alloc, "a bad number");
+    };
+    let operands = operands_of(instruction).unwrap_or(&[]);
+    let Some(misplaced) = first_misplaced(operands, operand_words) else {
+        return Remark::plain(alloc, "a bad number");
+    };
+    let (low, high) = (misplaced.low, misplaced.high);
+    let word = Quoted(misplaced.word);
+    Ok(Remark {
+        message: format!(in alloc; "expected a number from {low} to {high}, found {word}")?,
+        help: number_help(alloc, words, misplaced)?,
+    })
+}

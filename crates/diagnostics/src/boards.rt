@@ -1,0 +1,74 @@
+//! Notes on board files.
+
+ghost use Rattle.std.specs.Prelude.{◌≡◌, ◌≢◌, None, IfOk};
+ghost use Rattle.board.specs.declared.fault.BoardFault.TheVariants.{Memory};
+ghost use Rattle.texts.specs.Words.{lines_by_feed};
+ghost use Rattle.diagnostics.specs.Boards.{IsLineNumber, IsOnSomeLine};
+
+mod blame;
+mod describe;
+mod document;
+mod draft;
+mod finding;
+mod keys;
+mod kind;
+mod locate;
+mod not_toml;
+mod scan;
+mod search;
+mod twice;
+mod values;
+mod words;
+
+use crate::lines::line_at;
+use crate::note::note_of;
+use board::BoardFault;
+use draft::Draft;
+use finding::{Finding, finding_in};
+use not_toml::not_toml;
+use std::alloc::{AllocError, Global};
+
+/// The line that a fault is told on, and what is said of it.
+fn finding_on(alloc: Global, text: &str, fault: BoardFault) -> Result<Finding, AllocError> {
+    match toml::table_from_str(alloc, text) {
+        Ok(tree) => {
+            let draft = Draft::new(alloc, text, &tree, fault)?;
+            finding_in(alloc, &draft)
+        }
+        Err(error) if error.is_memory() => Err(AllocError),
+        Err(error) => not_toml(alloc, text, &error),
+    }
+}
+
+/// The number of a line, or 1 where the text hasn't that many.
+fn number_within(text: &str, number: usize) -> usize
+    ensures { IsLineNumber (lines_by_feed text.now) result }
+{
+    match line_at(text, number) {
+        Some(_) => number,
+        None => 1,
+    }
+}
+
+/// What a person needs to mend a text that is no board: a line with its number, what is wrong
+/// there, and what may help. `None` for `Memory`, which is no fault of the text.
+///
+/// The fault is to be the one that `read_board` answers for the text. Which line it is on is found
+/// by asking `read_board` about parts of the text, and then by the looks of its lines: where a file
+/// is laid out in an unusual way, a line above may be named.
+pub fn board_note(
+    alloc: Global,
+    text: &str,
+    fault: BoardFault,
+) -> Result<Option<String>, AllocError>
+    ensures memory { IfOk result (λ note. fault ≡ Memory → note ≡ None) }
+    ensures line { IfOk result (λ note. fault ≢ Memory → IsOnSomeLine text.now note) }
+{
+    if let BoardFault::Memory = fault {
+        return Ok(None);
+    }
+    let finding = finding_on(alloc, text, fault)?;
+    let number = number_within(text, finding.number);
+    let note = note_of(alloc, "%board", text, number, &finding.remark)?;
+    Ok(Some(note))
+}

@@ -1,0 +1,177 @@
+//! The tables of a board file, and in words what stands at their keys.
+
+use crate::boards::document::{fault_of, list_of_one, only, put};
+use board::BoardFault;
+use std::alloc::{AllocError, Global};
+use toml::{Table, Value};
+
+/// What a table of a board file is.
+#[derive(Clone, Copy, Debug, PartialEq, Eq)]
+pub(crate) enum Kind {
+    Board,
+    Target,
+    Entry,
+    Rail,
+}
+
+/// The name of a key, and what stands there.
+type Key = (&'static str, &'static str);
+
+const BOARD: [Key; 2] = [
+    ("target", "a list of tables, each below a line [[target]]"),
+    ("rail", "a list of tables, each below a line [[rail]]"),
+];
+
+const TARGET: [Key; 9] = [
+    ("name", NAME),
+    (
+        "address",
+        "the seven bits of an address, from 0x09 to 0x77 without 0x0C (alert response) and 0x61 \
+         (device default)",
+    ),
+    ("pages", "the number of its pages, from 1 to 32"),
+    (
+        "exponent",
+        "the exponent of its voltages, from -16 to 0: a voltage is a mantissa times two to it",
+    ),
+    (
+        "stretch",
+        "for how many ticks of 5 us it may hold the clock low, from 0 to 6999",
+    ),
+    (
+        "start_pages",
+        "the values that PAGE may have at the start: pages of the target, the first is 0, and 255 \
+         for all of them",
+    ),
+    (
+        "start_protects",
+        "the values that WRITE_PROTECT may have at the start: some of 0, 0x20, 0x40 and 0x80",
+    ),
+    ("alerts", "whether it may pull SMBALERT# low, true or false"),
+    (
+        "allow",
+        "what it may be sent, a list of tables as {form = \"writebyte\", command = \"PAGE\"}",
+    ),
+];
+
+const ENTRY: [Key; 4] = [
+    ("form", "the form of a message, as \"writebyte\""),
+    (
+        "command",
+        "the name of a command, or for a manufacturer command two digits, \"D0\" to \"FD\"",
+    ),
+    ("values", "the lowest and the highest value, as [0, 255]"),
+    (
+        "length",
+        "the lowest and the highest number of bytes, within 1 to 255, as [1, 16]",
+    ),
+];
+
+const RAIL: [Key; 5] = [
+    ("name", NAME),
+    ("target", "the name of a target"),
+    ("page", "a page of the target, the first is 0"),
+    (
+        "limit_uv",
+        "the highest voltage that is safe, in microvolts, from 1 to 4294967295",
+    ),
+    (
+        "needs",
+        "a list of the names of the rails that have to be good before it is turned on",
+    ),
+];
+
+const NAME: &str = "a name of 1 to 32 of a to z, 0 to 9 and _, the first a letter";
+
+/// A target without faults.
+const SAMPLE: &str = "name = \"a\"\naddress = 9\npages = 1\nexponent = 0\nstretch = 0\n\
+     start_pages = [0]\nstart_protects = [0]\n";
+
+fn sample(alloc: Global) -> Result<Table, AllocError> {
+    match toml::table_from_str(alloc, SAMPLE) {
+        Ok(table) => Ok(table),
+        Err(_) => Err(AllocError),
+    }
+}
+
+/// A value whose tables are empty, where it is a list.
+fn hollow_value(alloc: Global, value: &Value) -> Result<Value, AllocError> {
+    let Value::Array(items) = value else {
+        return value.clone();
+    };
+    let mut copies = Vec::new(alloc);
+    for item in items {
+        copies.push(match item {
+            Value::Table(_) => Value::Table(Table::new(alloc)),
+            other => other.clone()?,
+        })?;
+    }
+    Ok(Value::Array(copies))
+}
+
+/// A board file whose tables are empty.
+fn hollow(alloc: Global, tree: &Table) -> Result<Table, AllocError> {
+    let mut copy = Table::new(alloc);
+    for (key, value) in tree.iter() {
+        put(alloc, &mut copy, key, hollow_value(alloc, value)?)?;
+    }
+    Ok(copy)
+}
+
+impl Kind {
+    fn keys(self) -> &'static [Key] {
+        match self {
+            Kind::Board => &BOARD,
+            Kind::Target => &TARGET,
+            Kind::Entry => &ENTRY,
+            Kind::Rail => &RAIL,
+        }
+    }
+
+    /// The names of the keys that its tables may have, those that are needed first.
+    pub(crate) fn key_names(self, alloc: Global) -> Result<Vec<&'static str>, AllocError> {
+        self.keys().iter().map(|(name, _)| *name).collect(alloc)
+    }
+
+    /// What stands at a key, in words.
+    pub(crate) fn holds(self, key: &str) -> Option<&'static str> {
+        let (_, holds) = self.keys().iter().find(|(name, _)| *name == key)?;
+        Some(holds)
+    }
+
+    /// The fault of a board file that has this table, and besides only what is needed. The tables
+    /// of a whole file are taken as empty.
+    pub(crate) fn fault_of(
+        self,
+        alloc: Global,
+        table: &Table,
+    ) -> Result<Option<BoardFault>, AllocError> {
+        let mut tree = Table::new(alloc);
+        match self {
+            Kind::Board => return fault_of(alloc, hollow(alloc, table)?),
+            Kind::Target => put(alloc, &mut tree, "target", list_of_one(alloc, table)?)?,
+            Kind::Entry => {
+                let mut target = sample(alloc)?;
+                put(alloc, &mut target, "allow", list_of_one(alloc, table)?)?;
+                put(alloc, &mut tree, "target", list_of_one(alloc, &target)?)?;
+            }
+            Kind::Rail => {
+                let target = sample(alloc)?;
+                put(alloc, &mut tree, "target", list_of_one(alloc, &target)?)?;
+                put(alloc, &mut tree, "rail", list_of_one(alloc, table)?)?;
+            }
+        }
+        fault_of(alloc, tree)
+    }
+
+    /// Whether a key of a table can't be, or not with what stands there.
+    pub(crate) fn is_bad(
+        self,
+        alloc: Global,
+        table: &Table,
+        key: &str,
+    ) -> Result<bool, AllocError> {
+        let alone = only(alloc, table, &[key])?;
+        Ok(self.fault_of(alloc, &alone)? == Some(BoardFault::BadKey))
+    }
+}

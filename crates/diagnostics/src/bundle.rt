@@ -1,0 +1,99 @@
+//! Notes on bundles.
+
+ghost use Rattle.std.specs.Prelude.{string_bytes, IfOk};
+ghost use Rattle.diagnostics.specs.BundlePlaces.{IsOnFault, IsOnBundleLine, IsOnSectionLine};
+ghost use Rattle.diagnostics.specs.BundlePlaces.{IsOnPartLine, part_view};
+
+use crate::header::{missing_section, unexpected_line, unknown_command};
+use crate::lines::line_at;
+use crate::note::note_of;
+use crate::part::{Part, part_at};
+use crate::remark::{Remark, help_of};
+use crate::spot::{Spot, spot_remark};
+use bundles::{BundleFault, Header};
+use std::alloc::{AllocError, Global};
+
+/// The note on a line of the bundle.
+fn bundle_line_note(
+    alloc: Global,
+    text: &str,
+    line: usize,
+    remark: &Remark,
+) -> Result<String, AllocError>
+    ensures { IfOk result (λ note. IsOnBundleLine text.now line (string_bytes note)) }
+{
+    note_of(alloc, "bundle", text, line, remark)
+}
+
+/// The note on the line of a section that has this number in the bundle.
+fn part_note(alloc: Global, header: Header, part: &Part, line: usize) -> Result<String, AllocError>
+    ensures { IfOk result
+        (λ note. IsOnPartLine header (part_view part.now) line (string_bytes note)) }
+{
+    let number = line.saturating_sub(part.above);
+    let spot = Spot {
+        text: &part.text,
+        number,
+    };
+    let remark = spot_remark(alloc, header, spot)?;
+    note_of(alloc, header.text(), &part.text, number, &remark)
+}
+
+/// The note on the line of the section of an index that has this number in the bundle.
+fn section_note(
+    alloc: Global,
+    text: &str,
+    header: Header,
+    index: usize,
+    line: usize,
+) -> Result<String, AllocError>
+    ensures { IfOk result
+        (λ note. IsOnSectionLine text.now header index line (string_bytes note)) }
+{
+    match part_at(alloc, text, index)? {
+        Some(part) => part_note(alloc, header, &part, line),
+        None => {
+            let remark = Remark::plain(alloc, "this line doesn't belong here")?;
+            bundle_line_note(alloc, text, line, &remark)
+        }
+    }
+}
+
+/// What is said of an input without a line.
+fn no_command(alloc: Global) -> Result<Remark, AllocError> {
+    Ok(Remark {
+        message: String::from_str(alloc, "the input is empty")?,
+        help: help_of(alloc, Some("the first line is a command, as %verify"))?,
+    })
+}
+
+/// What a person needs to mend a text that is no bundle: the fault's line with its number, what is
+/// wrong with it, and what may help. Lines of messages and answers are counted in their sections.
+/// What has no line is told at the first, which has the command.
+///
+/// The fault is to be the one that the bundle's readers answer for the text. Of another fault the
+/// note still names its line, and quotes it if the text has it.
+pub fn bundle_note(alloc: Global, text: &str, fault: BundleFault) -> Result<String, AllocError>
+    ensures { IfOk result (λ note. IsOnFault text.now fault (string_bytes note)) }
+{
+    let remark = match fault {
+        BundleFault::BadMessage(line) => {
+            return section_note(alloc, text, Header::Message, 0, line);
+        }
+        BundleFault::BadAnswer(line) => {
+            return section_note(alloc, text, Header::Answers, 2, line);
+        }
+        BundleFault::Unexpected(line) => {
+            let remark = unexpected_line(alloc, text, line)?;
+            return bundle_line_note(alloc, text, line, &remark);
+        }
+        BundleFault::NoCommand => no_command(alloc)?,
+        BundleFault::UnknownCommand => unknown_command(alloc, line_at(text, 1).unwrap_or(""))?,
+        BundleFault::MissingSection(header) => missing_section(alloc, text, header)?,
+        BundleFault::NotText | BundleFault::TooLarge => {
+            let message = format!(in alloc; "{fault}")?;
+            Remark::plain(alloc, &message)?
+        }
+    };
+    bundle_line_note(alloc, text, 1, &remark)
+}

@@ -1,0 +1,65 @@
+//! Programs that don't end, or are too long.
+
+use crate::quote::Quoted;
+use crate::remark::{Remark, help_of};
+use seq_program::{label_in, without_comment};
+use std::alloc::{AllocError, Global};
+use texts::{first_by_feed, words_of};
+
+/// A line and its number.
+#[derive(Clone, Copy, Debug)]
+struct Numbered<'a> {
+    line: &'a str,
+    number: usize,
+}
+
+/// Whether there is a word on a line.
+fn says_something(line: &str) -> bool {
+    without_comment(line).bytes().any(|byte| byte != b' ')
+}
+
+/// The last line that says something.
+fn last_line(text: &str) -> Option<Numbered<'_>> {
+    let mut last = None;
+    let mut number = 1;
+    let mut rest = text;
+    while let Some((line, below)) = first_by_feed(rest) {
+        if says_something(line) {
+            last = Some(Numbered { line, number });
+        }
+        number += 1;
+        rest = below;
+    }
+    last
+}
+
+/// What is wrong with the end of a program.
+fn end_message(alloc: Global, text: &str) -> Result<String, AllocError> {
+    let Some(Numbered { line, number }) = last_line(text) else {
+        return String::from_str(alloc, "the program has no instruction");
+    };
+    let words = words_of(alloc, without_comment(line))?;
+    if let Some(label) = label_in(&words) {
+        return format!(in alloc;
+            "the program doesn't end: the label \"{label}\" in line {number} has no instruction"
+        );
+    }
+    let word = Quoted(words.first().copied().unwrap_or(""));
+    format!(in alloc; "the program doesn't end: its last instruction is {word} in line {number}")
+}
+
+/// What is said of a program that doesn't end.
+pub(crate) fn no_end(alloc: Global, text: &str) -> Result<Remark, AllocError> {
+    Ok(Remark {
+        message: end_message(alloc, text)?,
+        help: help_of(
+            alloc,
+            Some("a program's last instruction is \"end\" or \"fail\""),
+        )?,
+    })
+}
+
+/// What is said of the first instruction that is too many.
+pub(crate) fn too_long(alloc: Global) -> Result<Remark, AllocError> {
+    Remark::plain(alloc, "a program has at most 1024 instructions")
+}

@@ -1,0 +1,189 @@
+//! The fields of messages and answers: words of the form KEY=VALUE, in a fixed order.
+
+use crate::form::form_help;
+use crate::listing::listed;
+use crate::quote::Quoted;
+use crate::remark::Remark;
+use crate::suggestion::lowercase_suggestion;
+use bundles::answer_line_of;
+use smbus::form_named;
+use std::alloc::{AllocError, Global};
+use texts::{ReadError, pair_of};
+
+/// A field, and what stands behind its key.
+#[derive(Clone, Copy, Debug)]
+pub(crate) struct Field {
+    pub key: &'static str,
+    pub expected: &'static str,
+}
+
+const WORD: &str = "one to four digits, 0 to 9 or A to F";
+
+const BYTES: &str = "bytes of two digits, 0 to 9 or A to F";
+
+const HOLDS: &str = "SLOT:TICKS with commas, slots below 4096 in ascending order, ticks up to 6999";
+
+pub(crate) const MESSAGE_FIELDS: [Field; 8] = [
+    Field {
+        key: "form=",
+        expected: "the name of a form",
+    },
+    Field {
+        key: "address=",
+        expected: "two digits, 00 to 7F",
+    },
+    Field {
+        key: "code=",
+        expected: "two digits, 0 to 9 or A to F",
+    },
+    Field {
+        key: "out=",
+        expected: BYTES,
+    },
+    Field {
+        key: "holds=",
+        expected: HOLDS,
+    },
+    Field {
+        key: "refuse=",
+        expected: "a number from 0 to 65535",
+    },
+    Field {
+        key: "value=",
+        expected: WORD,
+    },
+    Field {
+        key: "bytes=",
+        expected: BYTES,
+    },
+];
+
+pub(crate) const ANSWER_FIELDS: [Field; 6] = [
+    Field {
+        key: "holds=",
+        expected: HOLDS,
+    },
+    Field {
+        key: "refuse=",
+        expected: "a number from 0 to 65535",
+    },
+    Field {
+        key: "value=",
+        expected: WORD,
+    },
+    Field {
+        key: "bytes=",
+        expected: BYTES,
+    },
+    Field {
+        key: "took=",
+        expected: "1",
+    },
+    Field {
+        key: "alerts=",
+        expected: WORD,
+    },
+];
+
+/// Whether a word alone is an answer.
+fn is_answer(alloc: Global, word: &str) -> Result<bool, AllocError> {
+    match answer_line_of(alloc, 1, word) {
+        Ok(_) => Ok(true),
+        Err(ReadError::Memory) => Err(AllocError),
+        Err(ReadError::Fault(_)) => Ok(false),
+    }
+}
+
+/// Whether a value can stand behind a key.
+fn takes(alloc: Global, key: &str, value: &str) -> Result<bool, AllocError> {
+    match key {
+        "form=" => Ok(value == "alert" || form_named(value).is_some()),
+        "address=" => Ok(pair_of(value).is_some_and(|address| address <= 127)),
+        "code=" => Ok(pair_of(value).is_some()),
+        "out=" => {
+            let word = format!(in alloc; "bytes={value}")?;
+            is_answer(alloc, &word)
+        }
+        _ => {
+            let word = format!(in alloc; "{key}{value}")?;
+            is_answer(alloc, &word)
+        }
+    }
+}
+
+/// The keys of fields.
+fn keys_of(alloc: Global, fields: &[Field]) -> Result<Vec<&'static str>, AllocError> {
+    fields.iter().map(|field| field.key).collect(alloc)
+}
+
+/// What is said of a word that has no key of the fields.
+fn unknown_field(alloc: Global, fields: &[Field], word: &str) -> Result<Remark, AllocError> {
+    let name = match word.split_once('=') {
+        Some((name, _)) => name,
+        None => word,
+    };
+    let typed = format!(in alloc; "{name}=")?;
+    let keys = keys_of(alloc, fields)?;
+    let help = match lowercase_suggestion(alloc, &typed, &keys)? {
+        Some(help) => help,
+        None if word == "-" => String::from_str(alloc, "\"-\" stands alone on its line")?,
+        None => {
+            let keys = listed(alloc, &keys)?;
+            format!(in alloc; "the fields here are {keys}")?
+        }
+    };
+    let word = Quoted(word);
+    Ok(Remark {
+        message: format!(in alloc; "unknown field {word}")?,
+        help: Some(help),
+    })
+}
+
+/// What is said of a field that stands too late, or twice.
+fn late_field(alloc: Global, fields: &[Field], field: Field) -> Result<Remark, AllocError> {
+    let keys = keys_of(alloc, fields)?;
+    let keys = listed(alloc, &keys)?;
+    let key = field.key;
+    Ok(Remark {
+        message: format!(in alloc; "\"{key}\" stands behind a later field")?,
+        help: Some(format!(in alloc; "each field stands once, in this order: {keys}")?),
+    })
+}
+
+/// What is said of a value that can't stand behind its key.
+fn bad_value(alloc: Global, field: Field, value: &str) -> Result<Remark, AllocError> {
+    let (key, expected) = (field.key, field.expected);
+    let help = match key {
+        "form=" => Some(form_help(alloc, value)?),
+        _ => None,
+    };
+    let value = Quoted(value);
+    Ok(Remark {
+        message: format!(in alloc; "\"{key}\" takes {expected}, found {value}")?,
+        help,
+    })
+}
+
+/// What is said of the first word that is no field, or one that can't stand in its place.
+pub(crate) fn first_flaw(
+    alloc: Global,
+    fields: &[Field],
+    words: &[&str],
+) -> Result<Option<Remark>, AllocError> {
+    let mut next = 0;
+    for word in words {
+        let found = fields.iter().position(|field| word.starts_with(field.key));
+        let Some((place, field)) = found.and_then(|place| Some((place, *fields.get(place)?))) else {
+            return Ok(Some(unknown_field(alloc, fields, word)?));
+        };
+        if place < next {
+            return Ok(Some(late_field(alloc, fields, field)?));
+        }
+        let value = word.strip_prefix(field.key).unwrap_or("");
+        if !takes(alloc, field.key, value)? {
+            return Ok(Some(bad_value(alloc, field, value)?));
+        }
+        next = place + 1;
+    }
+    Ok(None)
+}

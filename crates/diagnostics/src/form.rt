@@ -1,0 +1,32 @@
+//! The names of forms in messages.
+
+use crate::listing::listed;
+use crate::suggestion::lowercase_suggestion;
+use std::alloc::{AllocError, Global};
+
+const NAMES: [&str; 13] = [
+    "quickwrite",
+    "quickread",
+    "send",
+    "receive",
+    "writebyte",
+    "writeword",
+    "readbyte",
+    "readword",
+    "call",
+    "blockwrite",
+    "blockread",
+    "blockcall",
+    "alert",
+];
+
+/// What may help where a word is no form.
+pub(crate) fn form_help(alloc: Global, word: &str) -> Result<String, AllocError> {
+    match lowercase_suggestion(alloc, word, &NAMES)? {
+        Some(help) => Ok(help),
+        None => {
+            let names = listed(alloc, &NAMES)?;
+            format!(in alloc; "the forms are {names}")
+        }
+    }
+}

@@ -1,0 +1,210 @@
+//! Notes on whole inputs.
+
+ghost use Rattle.std.specs.Prelude.{[], codes, string_bytes, IfOk};
+ghost use Rattle.seq_program.specs.Faults.{line_of};
+ghost use Rattle.diagnostics.specs.Notes.{IsNote};
+ghost use Rattle.session.specs.Commands.{task_view, IsReady};
+ghost use Rattle.session.specs.Trials.{trial_view};
+ghost use Rattle.texts.specs.Words.{lines_by_feed};
+ghost use Rattle.diagnostics.specs.Inputs.{IsOnLine, NamesFault, NamesBundleFault, NamesTaskFault};
+ghost use Rattle.diagnostics.specs.Inputs.{NamesTaskFaults, IsOnRefusal, IsOnVerdict};
+ghost use Rattle.diagnostics.specs.Inputs.{NamesCheckFault, NamesVerifyFault, NamesFindFault};
+
+use crate::boards::board_note;
+use crate::bundle::bundle_note;
+use crate::detail::detail_of;
+use crate::frame::frame_note;
+use crate::note::note_of;
+use crate::part::section_of;
+use crate::program::program_note;
+use crate::refusal::{Refusal, detailed_note};
+use crate::remark::Remark;
+use crate::run::run_note;
+use board::{Board, BoardFault, read_board};
+use fact_search::{FindFault, find};
+use seq_program::{Program, ProgramFault};
+use session::{InputFault, Sequence, Task, Trial, read_task};
+use std::alloc::{AllocError, Global};
+use table_check::{Table, TableFault, Verdict, check, read_table};
+use texts::ReadError;
+
+/// The board of an input.
+fn board_of(alloc: Global, text: &str) -> Result<Option<Board>, AllocError> {
+    let Some(text) = section_of(alloc, text, 0)? else {
+        return Ok(None);
+    };
+    match read_board(alloc, &text) {
+        Ok(board) => Ok(Some(board)),
+        Err(BoardFault::Memory) => Err(AllocError),
+        Err(_) => Ok(None),
+    }
+}
+
+/// The note on a line of which no more is known than its fault.
+fn bare_note(alloc: Global, number: usize, fault: ProgramFault) -> Result<String, AllocError>
+    ensures { IfOk result (λ note. IsNote (codes "%program") number [] (string_bytes note)) }
+{
+    let message = format!(in alloc; "{fault}")?;
+    let remark = Remark {
+        message,
+        help: None,
+    };
+    note_of(alloc, "%program", "", number, &remark)
+}
+
+/// The note on the fault of an input's program.
+fn program_fault_note(
+    alloc: Global,
+    text: &str,
+    fault: ProgramFault,
+) -> Result<Option<String>, AllocError>
+    ensures { IfOk result (λ note. IsOnLine (line_of fault) note) }
+{
+    let Some(number) = fault.line() else {
+        return Ok(None);
+    };
+    match (board_of(alloc, text)?, section_of(alloc, text, 1)?) {
+        (Some(board), Some(program)) => program_note(alloc, &board, &program, fault),
+        _ => Ok(Some(bare_note(alloc, number, fault)?)),
+    }
+}
+
+/// The note on the fault of an input's board.
+fn board_fault_note(
+    alloc: Global,
+    text: &str,
+    fault: BoardFault,
+) -> Result<Option<String>, AllocError> {
+    match section_of(alloc, text, 0)? {
+        Some(board) => board_note(alloc, &board, fault),
+        None => Ok(None),
+    }
+}
+
+/// The note on a refusal at a place.
+fn place_note(
+    alloc: Global,
+    text: &str,
+    place: usize,
+    refusal: Refusal,
+    detail: Option<&str>,
+) -> Result<Option<String>, AllocError>
+    ensures { IfOk result (IsOnRefusal text.now place) }
+{
+    match section_of(alloc, text, 1)? {
+        Some(program) => detailed_note(alloc, &program, place, refusal, detail),
+        None => Ok(None),
+    }
+}
+
+/// The note on the verdict on a table.
+fn verdict_note(
+    alloc: Global,
+    text: &str,
+    board: &Board,
+    program: &Program,
+    table: &Table,
+    verdict: Verdict,
+) -> Result<Option<String>, AllocError>
+    ensures { IfOk result (IsOnVerdict text.now verdict) }
+{
+    match verdict {
+        Verdict::Accepted { .. } => Ok(None),
+        Verdict::Refused { place, rule } => {
+            let detail = detail_of(alloc, board, program, table, place, rule)?;
+            let detail = match &detail {
+                Some(detail) => Some(detail.as_str()),
+                None => None,
+            };
+            place_note(alloc, text, place, Refusal::Breaks(rule), detail)
+        }
+    }
+}
+
+/// The note on a program that is verified.
+fn verify_note(alloc: Global, text: &str, sequence: &Sequence) -> Result<Option<String>, AllocError>
+    ensures { IfOk result (NamesVerifyFault text.now sequence.now) }
+{
+    match find(alloc, &sequence.board, &sequence.program) {
+        Ok(table) => {
+            let (board, program) = (&sequence.board, &sequence.program);
+            let verdict = check(alloc, board, program, &table)?;
+            verdict_note(alloc, text, board, program, &table, verdict)
+        }
+        Err(FindFault::GaveUp(place)) => place_note(alloc, text, place, Refusal::GaveUp, None),
+        Err(FindFault::Memory) => Err(AllocError),
+    }
+}
+
+/// The note on a program whose facts are searched for.
+fn find_note(alloc: Global, text: &str, sequence: &Sequence) -> Result<Option<String>, AllocError>
+    ensures { IfOk result (NamesFindFault text.now) }
+{
+    match find(alloc, &sequence.board, &sequence.program) {
+        Ok(_) => Ok(None),
+        Err(FindFault::GaveUp(place)) => place_note(alloc, text, place, Refusal::GaveUp, None),
+        Err(FindFault::Memory) => Err(AllocError),
+    }
+}
+
+/// The note on a line that is none of a table.
+fn table_note(alloc: Global, table: &str, number: usize) -> Result<String, AllocError>
+    ensures { IfOk result
+        (λ note. IsNote (codes "%table") number (lines_by_feed table.now) (string_bytes note)) }
+{
+    let message = "no table of this board goes on with this line";
+    let remark = Remark::plain(alloc, message)?;
+    note_of(alloc, "%table", table, number, &remark)
+}
+
+/// The note on a program that is checked with a table.
+fn check_note(alloc: Global, text: &str, trial: &Trial) -> Result<Option<String>, AllocError>
+    ensures { IfOk result (NamesCheckFault text.now (trial_view trial.now)) }
+{
+    match read_table(alloc, &trial.board, &trial.table) {
+        Ok(table) => {
+            let (board, program) = (&trial.board, &trial.program);
+            let verdict = check(alloc, board, program, &table)?;
+            verdict_note(alloc, text, board, program, &table, verdict)
+        }
+        Err(TableFault::BadLine(number)) => Ok(Some(table_note(alloc, &trial.table, number)?)),
+        Err(TableFault::Memory) => Err(AllocError),
+    }
+}
+
+/// The note on what is asked for, if that is refused.
+fn task_note(alloc: Global, text: &str, task: &Task<'_>) -> Result<Option<String>, AllocError>
+    requires { IsReady (task_view task.now) }
+    ensures { IfOk result (λ note. NamesTaskFault text.now (task_view task.now) note) }
+{
+    match task {
+        Task::Check(trial) => check_note(alloc, text, trial),
+        Task::Find(sequence) => find_note(alloc, text, sequence),
+        Task::Verify(sequence) => verify_note(alloc, text, sequence),
+        Task::Frame(exchange) => frame_note(alloc, text, exchange),
+        Task::Run(scenario) | Task::Wave(scenario) => run_note(alloc, text, scenario),
+    }
+}
+
+/// What a person needs to mend an input: a note on the fault of its bundle, its board, its program
+/// or its answers, or on the place at which its program is refused. `None` where there is nothing
+/// to say.
+///
+/// It is for standard error, beside the reply to the same input, and has no say in that.
+pub fn note_on(alloc: Global, text: &str) -> Result<Option<String>, AllocError>
+    ensures program { IfOk result (λ note. NamesFault text.now note) }
+    ensures bundle { IfOk result (λ note. NamesBundleFault text.now note) }
+    ensures task { IfOk result (λ note. NamesTaskFaults text.now note) }
+{
+    let fault = match read_task(alloc, text) {
+        Ok(task) => return task_note(alloc, text, &task),
+        Err(ReadError::Memory) => return Err(AllocError),
+        Err(ReadError::Fault(fault)) => fault,
+    };
+    match fault {
+        InputFault::Bundle(fault) => Ok(Some(bundle_note(alloc, text, fault)?)),
+        InputFault::Board(fault) => board_fault_note(alloc, text, fault),
+        InputFault::Program(fault) => program_fault_note(alloc, text, fault),
+        _ => Ok(None),
+    }
+}

@@ -1,0 +1,74 @@
+//! What was read, once more.
+
+use std::alloc::{AllocError, Global};
+use std::io;
+use std::io::Read;
+
+/// How many bytes are kept, at most.
+const MOST_KEPT: usize = 1 << 20;
+
+/// A reader that keeps what it gives, if that isn't over 1 MiB.
+#[derive(Drop)]
+pub struct Keeping<R> {
+    reader: R,
+    kept: Vec<u8>,
+    is_whole: bool,
+}
+
+impl<R: Read> Keeping<R> {
+    ghost use Rattle.std.specs.Prelude.{◌≡◌};
+
+    /// Keeps what a reader gives from here on.
+    pub fn new(alloc: Global, reader: R) -> Keeping<R> {
+        Keeping {
+            reader,
+            kept: Vec::new(alloc),
+            is_whole: true,
+        }
+    }
+
+    /// All that was read, if it was kept.
+    pub fn kept(&self) -> Option<&[u8]> {
+        if self.is_whole {
+            Some(&self.kept)
+        } else {
+            None
+        }
+    }
+
+    /// Asks for the memory of so many bytes more, where they may be kept.
+    fn make_room(&mut self, count: usize) -> Result<(), AllocError>
+        ensures { self.new.reader ≡ self.old.reader }
+    {
+        if self.is_whole {
+            self.kept.reserve(count)?;
+        }
+        Ok(())
+    }
+
+    /// Keeps some bytes more, or forgets all.
+    fn keep(&mut self, bytes: &[u8])
+        ensures { self.new.reader ≡ self.old.reader }
+    {
+        let fits = bytes.len() <= MOST_KEPT - self.kept.len().min(MOST_KEPT);
+        if fits && self.kept.extend_from_slice(bytes).is_ok() {
+            return;
+        }
+        self.is_whole = false;
+        self.kept.clear();
+    }
+}
+
+impl<R: Read> Read for Keeping<R> {
+    ghost remaining = { λ k. R.remaining k.reader };
+
+    /// Fails, and reads nothing, where memory is refused.
+    fn read(&mut self, buffer: &mut [u8]) -> io::Result<usize> {
+        self.make_room(buffer.len())?;
+        let count = self.reader.read(buffer)?;
+        if self.is_whole {
+            self.keep(&buffer[..count]);
+        }
+        Ok(count)
+    }
+}

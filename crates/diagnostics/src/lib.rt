@@ -1,0 +1,58 @@
+//! What a person needs to mend a text that has a fault: the line that has it, and what is wrong.
+#![tactic(auto)]
+
+mod alert;
+mod answer;
+mod bad_number;
+mod bad_operand;
+mod bad_start;
+mod boards;
+mod breach;
+mod bundle;
+mod counted;
+mod detail;
+mod distance;
+mod ending;
+mod field;
+mod form;
+mod frame;
+mod habit;
+mod header;
+mod input;
+mod judge;
+mod keeping;
+mod known;
+mod label;
+mod law;
+mod lines;
+mod listing;
+mod misfit;
+mod nearest;
+mod note;
+mod operand;
+mod part;
+mod place;
+mod program;
+mod quote;
+mod refusal;
+mod remark;
+mod replay;
+mod reporting;
+mod returned;
+mod run;
+mod spot;
+mod step;
+mod suggestion;
+mod unknown_command;
+mod unknown_target;
+mod unknown_word;
+mod warning;
+
+pub use boards::board_note;
+pub use bundle::bundle_note;
+pub use input::note_on;
+pub use keeping::Keeping;
+pub use law::{accepted_runs_keep_rules, answers_are_found};
+pub use program::program_note;
+pub use refusal::{Refusal, refusal_note};
+pub use warning::warning_on;

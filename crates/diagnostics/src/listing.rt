@@ -1,0 +1,11 @@
+use std::alloc::{AllocError, Global};
+
+/// Words with commas between them.
+pub(crate) fn listed(alloc: Global, words: &[&str]) -> Result<String, AllocError> {
+    let mut text = String::new(alloc);
+    for word in words {
+        let comma = if text.is_empty() { "" } else { ", " };
+        write!(text, "{comma}{word}")?;
+    }
+    Ok(text)
+}

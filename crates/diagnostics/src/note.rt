@@ -1,0 +1,108 @@
+//! The text of a note.
+
+ghost use Rattle.std.specs.Prelude.{◌≡◌, ◌++◌, codes, option_copied, string_bytes};
+ghost use Rattle.std.specs.Prelude.{IfOk, OnOk};
+ghost use Rattle.texts.specs.Words.{lines_by_feed};
+ghost use Rattle.diagnostics.specs.Notes.{NoFeed, head, quoted, helped, IsNote, IsNoteOf};
+
+use crate::lines::line_at;
+use crate::remark::Remark;
+use std::alloc::{AllocError, Global};
+
+/// What stands before the first line feed.
+fn one_line(text: &str) -> &str
+    ensures { NoFeed result.now }
+{
+    match text.split_once('\n') {
+        Some((line, _)) => line,
+        None => text,
+    }
+}
+
+/// Adds the first line of a note.
+fn push_message(
+    note: &mut String,
+    kind: &str,
+    section: &str,
+    number: usize,
+    message: &str,
+) -> Result<(), AllocError>
+    ensures { OnOk result (string_bytes note.new ≡ string_bytes note.old
+        ++ head kind.now section.now number ++ message.now ++ codes "\n") }
+{
+    write!(note, "{section}:{number}: {kind}: {message}\n")
+}
+
+/// Adds the line that has the fault, if there is one.
+fn push_line(note: &mut String, line: Option<&str>) -> Result<(), AllocError>
+    ensures { OnOk result
+        (string_bytes note.new ≡ string_bytes note.old ++ quoted (option_copied line.entry)) }
+{
+    match line {
+        Some(line) => write!(note, "    {line}\n"),
+        None => Ok(()),
+    }
+}
+
+/// Adds the line of help, if there is one.
+fn push_help(note: &mut String, help: Option<&str>) -> Result<(), AllocError>
+    ensures { OnOk result
+        (string_bytes note.new ≡ string_bytes note.old ++ helped (option_copied help.entry)) }
+{
+    match help {
+        Some(help) => write!(note, "help: {help}\n"),
+        None => Ok(()),
+    }
+}
+
+/// The note of a kind on the line of a section with this number: what is said of it, the line, and
+/// what may help.
+fn made(
+    alloc: Global,
+    kind: &str,
+    section: &str,
+    text: &str,
+    number: usize,
+    remark: &Remark,
+) -> Result<String, AllocError>
+    ensures { IfOk result (λ note.
+        IsNoteOf kind.now section.now number (lines_by_feed text.now) (string_bytes note)) }
+{
+    let mut note = String::new(alloc);
+    push_message(&mut note, kind, section, number, one_line(&remark.message))?;
+    push_line(&mut note, line_at(text, number))?;
+    let help = match &remark.help {
+        Some(help) => Some(one_line(help)),
+        None => None,
+    };
+    push_help(&mut note, help)?;
+    Ok(note)
+}
+
+/// The note on an error.
+pub(crate) fn note_of(
+    alloc: Global,
+    section: &str,
+    text: &str,
+    number: usize,
+    remark: &Remark,
+) -> Result<String, AllocError>
+    ensures { IfOk result
+        (λ note. IsNote section.now number (lines_by_feed text.now) (string_bytes note)) }
+{
+    made(alloc, "error", section, text, number, remark)
+}
+
+/// The note on what is no error, and may become one.
+pub(crate) fn warning_of(
+    alloc: Global,
+    section: &str,
+    text: &str,
+    number: usize,
+    remark: &Remark,
+) -> Result<String, AllocError>
+    ensures { IfOk result (λ note. IsNoteOf (codes "warning") section.now number
+        (lines_by_feed text.now) (string_bytes note)) }
+{
+    made(alloc, "warning", section, text, number, remark)
+}

@@ -1,0 +1,41 @@
+//! The line of a place.
+
+ghost use Rattle.std.specs.Prelude.{◌≡◌, IfOk};
+ghost use Rattle.texts.specs.Words.{lines_by_feed};
+ghost use Rattle.diagnostics.specs.Places.{has_instruction, place_line};
+
+use seq_program::{label_in, without_comment};
+use std::alloc::{AllocError, Global};
+use texts::{first_by_feed, words_of};
+
+/// Whether an instruction stands on a line.
+fn has_instruction(alloc: Global, line: &str) -> Result<bool, AllocError>
+    ensures { IfOk result (λ has. has ≡ has_instruction line.now) }
+{
+    let words = words_of(alloc, without_comment(line))?;
+    Ok(!words.is_empty() && label_in(&words).is_none())
+}
+
+/// The number of the line with the instruction of a place, counted from 1.
+pub(crate) fn place_line(
+    alloc: Global,
+    text: &str,
+    place: usize,
+) -> Result<Option<usize>, AllocError>
+    ensures { IfOk result (λ number. number ≡ place_line place (lines_by_feed text.now)) }
+{
+    let mut left = place;
+    let mut number = 1;
+    let mut rest = text;
+    while let Some((line, below)) = first_by_feed(rest) {
+        if has_instruction(alloc, line)? {
+            if left == 0 {
+                return Ok(Some(number));
+            }
+            left -= 1;
+        }
+        number += 1;
+        rest = below;
+    }
+    Ok(None)
+}

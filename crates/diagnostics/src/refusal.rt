@@ -1,0 +1,118 @@
+//! Notes on programs that are refused.
+
+ghost use Rattle.std.specs.Prelude.{codes, IfOk};
+ghost use Rattle.texts.specs.Words.{lines_by_feed};
+ghost use Rattle.diagnostics.specs.ProgramPlaces.{IsOnPlace};
+
+use crate::note::note_of;
+use crate::place::place_line;
+use crate::remark::{Remark, help_of};
+use facts::Rule;
+use std::alloc::{AllocError, Global};
+
+/// Why a program isn't accepted.
+#[derive(Clone, Copy, Debug, PartialEq, Eq)]
+pub enum Refusal {
+    /// A rule fails at the place.
+    Breaks(Rule),
+    /// The search found no facts for a loop through the place.
+    GaveUp,
+}
+
+/// What fails, in a sentence.
+fn message_of(refusal: Refusal) -> &'static str {
+    match refusal {
+        Refusal::Breaks(Rule::K1) => {
+            "K1: the target may not take this: no entry of its `allow` permits it with every value \
+             that it may carry here"
+        }
+        Refusal::Breaks(Rule::K2) => {
+            "K2: this reads at a page, and PAGE may be FFh here, all pages"
+        }
+        Refusal::Breaks(Rule::K3) => {
+            "K3: WRITE_PROTECT may have a value here that forbids this write"
+        }
+        Refusal::Breaks(Rule::K4) => {
+            "K4: this may command a voltage over the limit of a rail that it may touch"
+        }
+        Refusal::Breaks(Rule::K5) => {
+            "K5: this may turn on a rail while a rail that it needs isn't known to be good"
+        }
+        Refusal::Breaks(Rule::K6) => {
+            "K6: this leads to a place whose row says more than is known there"
+        }
+        Refusal::Breaks(Rule::K7) => {
+            "K7: this may take more ticks than the rows leave from here to where it leads"
+        }
+        Refusal::Breaks(Rule::K8) => "K8: the row of place 0 doesn't hold every start of the board",
+        Refusal::Breaks(Rule::K9) => "K9: the table is none of this program on this board",
+        Refusal::GaveUp => "no facts are found: no counter bounds a loop through this line",
+    }
+}
+
+/// What may mend it, where there is something to say.
+pub(crate) fn help_on(refusal: Refusal) -> Option<&'static str> {
+    match refusal {
+        Refusal::Breaks(Rule::K1) => {
+            Some("if the data sheet allows it, add an entry or widen its `values`")
+        }
+        Refusal::Breaks(Rule::K2) => Some("write the page that is meant before this line"),
+        Refusal::Breaks(Rule::K3) => Some(
+            "where the write of WRITE_PROTECT wasn't done, leave by its `else` label, or read it \
+             back and test the register",
+        ),
+        Refusal::Breaks(Rule::K4) => Some(
+            "a voltage is its mantissa times two to the target's exponent; pages that PAGE may \
+             have here count all",
+        ),
+        Refusal::Breaks(Rule::K5) => Some(
+            "read STATUS_WORD of the rails that it needs, each at its page, and come here only \
+             behind `if rN 0x0840 0x0000 LABEL`",
+        ),
+        Refusal::GaveUp => Some("count its turns: `count c0 N` before it, `again c0 LABEL` in it"),
+        Refusal::Breaks(Rule::K6 | Rule::K7 | Rule::K8 | Rule::K9) => None,
+    }
+}
+
+/// What is said of a refusal, and what is to blame for it, if that is known.
+fn remark_on(alloc: Global, refusal: Refusal, detail: Option<&str>) -> Result<Remark, AllocError> {
+    let sentence = message_of(refusal);
+    let message = match detail {
+        Some(detail) => format!(in alloc; "{sentence}: {detail}")?,
+        None => String::from_str(alloc, sentence)?,
+    };
+    Ok(Remark {
+        message,
+        help: help_of(alloc, help_on(refusal))?,
+    })
+}
+
+/// The note on a refusal, with what is to blame for it.
+pub(crate) fn detailed_note(
+    alloc: Global,
+    text: &str,
+    place: usize,
+    refusal: Refusal,
+    detail: Option<&str>,
+) -> Result<Option<String>, AllocError>
+    ensures { IfOk result (IsOnPlace (codes "error") (lines_by_feed text.now) place) }
+{
+    let Some(number) = place_line(alloc, text, place)? else {
+        return Ok(None);
+    };
+    let remark = remark_on(alloc, refusal, detail)?;
+    Ok(Some(note_of(alloc, "%program", text, number, &remark)?))
+}
+
+/// What a person needs to mend a program that is refused at a place: the place's line with its
+/// number, the rule in a sentence, and what may help. `None` where the text has no such place.
+pub fn refusal_note(
+    alloc: Global,
+    text: &str,
+    place: usize,
+    refusal: Refusal,
+) -> Result<Option<String>, AllocError>
+    ensures { IfOk result (IsOnPlace (codes "error") (lines_by_feed text.now) place) }
+{
+    detailed_note(alloc, text, place, refusal, None)
+}

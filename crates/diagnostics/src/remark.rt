@@ -1,0 +1,27 @@
+use std::alloc::{AllocError, Global};
+
+/// What is said of a fault, in one line, and what may help, in another.
+#[derive(Debug, Drop)]
+pub(crate) struct Remark {
+    pub message: String,
+    pub help: Option<String>,
+}
+
+impl Remark {
+    /// A message without help.
+    pub(crate) fn plain(alloc: Global, message: &str) -> Result<Remark, AllocError> {
+        let message = String::from_str(alloc, message)?;
+        Ok(Remark {
+            message,
+            help: None,
+        })
+    }
+}
+
+/// A help of these words, if there are some.
+pub(crate) fn help_of(alloc: Global, help: Option<&str>) -> Result<Option<String>, AllocError> {
+    match help {
+        Some(help) => Ok(Some(String::from_str(alloc, help)?)),
+        None => Ok(None),
+    }
+}

@@ -1,0 +1,74 @@
+//! The run of a scenario once more. Nothing of its steps is kept.
+
+ghost use Rattle.std.specs.Prelude.{◌≢◌, IfErr, OnOk};
+ghost use Rattle.simulator.specs.declared.fault.RunFault.TheVariants.{Memory};
+ghost use Rattle.simulator.specs.Traces.{Trace};
+ghost use Rattle.session.specs.Scenarios.{IsOnItsBoard, IsRunOf, IsFaultOf};
+
+use session::Scenario;
+use simulator::{Entry, Machine, RunFault, start, step_at};
+use smbus::Answer;
+use std::alloc::Global;
+
+/// A machine before a step, and the answer to that.
+#[derive(Drop)]
+pub(crate) struct Stop {
+    pub machine: Machine,
+    pub answer: Answer,
+}
+
+/// The machine before the answer of an index, if the run comes so far.
+pub(crate) fn stop_at(
+    alloc: Global,
+    scenario: &Scenario<'_>,
+    stop: usize,
+) -> Result<Option<Stop>, RunFault>
+    requires { IsOnItsBoard scenario.now }
+{
+    let (board, program) = (&scenario.board, &scenario.program);
+    let _places = program.places();
+    let answered = &scenario.answers;
+    let mut machine = start(alloc, board, &answered.pages, &answered.protects)?;
+    let mut spare = Entry::empty(alloc);
+    let mut answers = answered.answers();
+    let mut ticks = 0;
+    for index in 0..stop {
+        let Some(answer) = answers.next(alloc)? else {
+            return Ok(None);
+        };
+        let before = (machine, spare);
+        let (after, entry) = step_at(alloc, board, program, before, &answer, index, ticks)?;
+        ticks += entry.ticks;
+        machine = after;
+        spare = entry;
+    }
+    match answers.next(alloc)? {
+        Some(answer) => Ok(Some(Stop { machine, answer })),
+        None => Ok(None),
+    }
+}
+
+/// Runs a scenario to its last answer, or to the first that has no step.
+pub(crate) fn run_through(alloc: Global, scenario: &Scenario<'_>) -> Result<(), RunFault>
+    requires { IsOnItsBoard scenario.now }
+    ensures run { OnOk result ((trace : Trace) × IsRunOf scenario.now trace) }
+    ensures fault { IfErr result (λ e. e ≢ Memory → IsFaultOf scenario.now e) }
+{
+    let (board, program) = (&scenario.board, &scenario.program);
+    let _places = program.places();
+    let answered = &scenario.answers;
+    let mut machine = start(alloc, board, &answered.pages, &answered.protects)?;
+    let mut spare = Entry::empty(alloc);
+    let mut answers = answered.answers();
+    let mut index = 0;
+    let mut ticks = 0;
+    while let Some(answer) = answers.next(alloc)? {
+        let before = (machine, spare);
+        let (after, entry) = step_at(alloc, board, program, before, &answer, index, ticks)?;
+        index += 1;
+        ticks += entry.ticks;
+        machine = after;
+        spare = entry;
+    }
+    Ok(())
+}

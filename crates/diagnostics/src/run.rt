@@ -1,0 +1,37 @@
+//! Notes on runs.
+
+ghost use Rattle.std.specs.Prelude.{IfOk};
+ghost use Rattle.session.specs.Scenarios.{IsOnItsBoard};
+ghost use Rattle.diagnostics.specs.Inputs.{NamesRunFault};
+
+use crate::answer::answer_note;
+use crate::part::section_of;
+use crate::replay::run_through;
+use session::Scenario;
+use simulator::RunFault;
+use std::alloc::{AllocError, Global};
+
+/// The note on the run of a bundle's scenario, if that fails.
+pub(crate) fn run_note(
+    alloc: Global,
+    text: &str,
+    scenario: &Scenario<'_>,
+) -> Result<Option<String>, AllocError>
+    requires { IsOnItsBoard scenario.now }
+    ensures { IfOk result (λ note. NamesRunFault text.now scenario.now note) }
+{
+    let fault = match run_through(alloc, scenario) {
+        Ok(()) => return Ok(None),
+        Err(RunFault::Memory) => return Err(AllocError),
+        Err(fault) => fault,
+    };
+    let Some(answers) = section_of(alloc, text, 2)? else {
+        return Ok(None);
+    };
+    let program = section_of(alloc, text, 1)?;
+    let program = match &program {
+        Some(program) => program.as_str(),
+        None => "",
+    };
+    answer_note(alloc, scenario, program, &answers, fault)
+}

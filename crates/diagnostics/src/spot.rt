@@ -1,0 +1,118 @@
+//! Lines of `%message` and of `%answers` that can't be read.
+
+use crate::counted::counted_line;
+use crate::field::{ANSWER_FIELDS, MESSAGE_FIELDS, first_flaw};
+use crate::lines::line_at;
+use crate::quote::Quoted;
+use crate::remark::{Remark, help_of};
+use bundles::Header;
+use smbus::{carries_code, form_named};
+use std::alloc::{AllocError, Global};
+use texts::words_of;
+
+/// A line of a section, by the section's text and the line's number in it.
+#[derive(Clone, Copy, Debug)]
+pub(crate) struct Spot<'a> {
+    pub text: &'a str,
+    pub number: usize,
+}
+
+impl Spot<'_> {
+    /// Whether it is the line at a place among those that count.
+    fn is_counted(self, place: usize) -> bool {
+        counted_line(self.text, place) == Some(self.number)
+    }
+}
+
+/// How the first line of answers looks.
+const START: &str = "the first line says how the targets start, as in \"start 00,00 00,00\"";
+
+/// What is said of a first line that doesn't say how the targets start.
+fn bad_start_line(alloc: Global, words: &[&str]) -> Result<Remark, AllocError> {
+    let message = match words {
+        ["start", _, _] => String::from_str(alloc, "expected two digits for each target")?,
+        ["start", ..] => String::from_str(alloc, "\"start\" takes PAGES PROTECTS")?,
+        [word, ..] => {
+            let word = Quoted(word);
+            format!(in alloc; "expected \"start\", found {word}")?
+        }
+        [] => String::from_str(alloc, "expected \"start\"")?,
+    };
+    Ok(Remark {
+        message,
+        help: help_of(alloc, Some(START))?,
+    })
+}
+
+/// What is said of a line of `%answers`.
+fn answer_remark(alloc: Global, spot: Spot) -> Result<Remark, AllocError> {
+    let Some(line) = line_at(spot.text, spot.number) else {
+        return Ok(Remark {
+            message: String::from_str(alloc, "no line says how the targets start")?,
+            help: help_of(alloc, Some(START))?,
+        });
+    };
+    let words = words_of(alloc, line)?;
+    if spot.is_counted(0) {
+        return bad_start_line(alloc, &words);
+    }
+    match first_flaw(alloc, &ANSWER_FIELDS, &words)? {
+        Some(remark) => Ok(remark),
+        None => Remark::plain(alloc, "this is no answer"),
+    }
+}
+
+/// The value of the field of a key, if there is one.
+fn value_of<'a>(words: &[&'a str], key: &str) -> Option<&'a str> {
+    for word in words {
+        if let Some(value) = word.strip_prefix(key) {
+            return Some(value);
+        }
+    }
+    None
+}
+
+/// What is wrong with a message of which each field is right by itself.
+fn whole_message(words: &[&str]) -> &'static str {
+    let Some(form) = value_of(words, "form=") else {
+        return "\"form=\" is missing";
+    };
+    if value_of(words, "address=").is_none() {
+        return "\"address=\" is missing";
+    }
+    let has_code = form_named(form).is_some_and(|form| carries_code(form));
+    match value_of(words, "code=") {
+        None if has_code => "\"code=\" is missing, which this form has",
+        Some(_) if !has_code => "\"code=\" stands here, which this form hasn't",
+        _ => "the address 0C is for the form alert, which has no other",
+    }
+}
+
+/// What is said of a line of `%message`.
+fn message_remark(alloc: Global, spot: Spot) -> Result<Remark, AllocError> {
+    let Some(line) = line_at(spot.text, spot.number) else {
+        return Ok(Remark {
+            message: String::from_str(alloc, "the section has no message")?,
+            help: help_of(
+                alloc,
+                Some("a message is a line of fields: form=F address=HH .."),
+            )?,
+        });
+    };
+    if spot.is_counted(1) {
+        return Remark::plain(alloc, "a second message, and a frame has one");
+    }
+    let words = words_of(alloc, line)?;
+    match first_flaw(alloc, &MESSAGE_FIELDS, &words)? {
+        Some(remark) => Ok(remark),
+        None => Remark::plain(alloc, whole_message(&words)),
+    }
+}
+
+/// What is said of a line of `%message` or of `%answers`.
+pub(crate) fn spot_remark(alloc: Global, header: Header, spot: Spot) -> Result<Remark, AllocError> {
+    match header {
+        Header::Message => message_remark(alloc, spot),
+        _ => answer_remark(alloc, spot),
+    }
+}

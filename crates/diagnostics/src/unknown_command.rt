@@ -1,0 +1,178 @@
+//! A word that is no command, or a command without the form of the instruction.
+
+use crate::operand::{Operand, operands_of};
+use crate::quote::Quoted;
+use crate::remark::{Remark, help_of};
+use crate::suggestion::suggestion;
+use pmbus_table::{Command, by_code, by_name, name_of};
+use smbus::Form;
+use std::alloc::{AllocError, Global};
+use texts::pair_of;
+
+/// The first code of a manufacturer command.
+const FIRST_MANUFACTURER: u8 = 0xD0;
+
+/// How manufacturer commands are written.
+const MANUFACTURER_RULE: &str =
+    "manufacturer commands are D0 to FD, and in \"write\" and \"read\" b or w stands behind them";
+
+fn is_manufacturer(command: Command) -> bool {
+    command.code() >= FIRST_MANUFACTURER
+}
+
+/// Whether an operand takes the command.
+fn takes(operand: Operand, command: Command) -> bool {
+    match operand {
+        Operand::Command(form) => command.takes(form),
+        Operand::Sized(byte, word) => command.takes(byte) || command.takes(word),
+        _ => false,
+    }
+}
+
+/// The names of the table's commands that the operand takes.
+fn command_names(alloc: Global, operand: Operand) -> Result<Vec<String>, AllocError> {
+    let mut names = Vec::new(alloc);
+    for code in 0..FIRST_MANUFACTURER {
+        match by_code(code) {
+            Some(command) if takes(operand, command) => names.push(name_of(alloc, command)?)?,
+            _ => {}
+        }
+    }
+    Ok(names)
+}
+
+/// Proposes the nearest of these commands.
+fn command_suggestion(
+    alloc: Global,
+    word: &str,
+    operand: Operand,
+) -> Result<Option<String>, AllocError> {
+    let names = command_names(alloc, operand)?;
+    let names: Vec<&str> = names.iter().map(|name| name.as_str()).collect(alloc)?;
+    let word = word.to_ascii_uppercase(alloc)?;
+    suggestion(alloc, &word, &names)
+}
+
+/// What can be done with a named command, by a form.
+fn use_of(form: Form) -> &'static str {
+    match form {
+        Form::SendByte => "sent",
+        Form::WriteByte => "written as a byte",
+        Form::WriteWord => "written as a word",
+        Form::ReadByte => "read as a byte",
+        Form::ReadWord => "read as a word",
+        Form::ProcessCall => "called",
+        Form::BlockWrite => "written as a block",
+        Form::BlockRead => "read as a block",
+        Form::BlockProcessCall => "called with blocks",
+        Form::Quick(_) | Form::ReceiveByte | Form::Alert => "asked without a code",
+    }
+}
+
+/// The forms of a named command.
+pub(crate) fn forms_help(alloc: Global, command: Command) -> Result<Option<String>, AllocError> {
+    let name = name_of(alloc, command)?;
+    match (command.form_written(), command.form_read()) {
+        (Some(written), Some(read)) => {
+            let (written, read) = (use_of(written), use_of(read));
+            Ok(Some(format!(in alloc; "\"{name}\" can be {written} and {read}")?))
+        }
+        (Some(form), None) | (None, Some(form)) => {
+            let form = use_of(form);
+            Ok(Some(format!(in alloc; "\"{name}\" can only be {form}")?))
+        }
+        (None, None) => Ok(None),
+    }
+}
+
+/// What is said of a command that is known.
+fn known_command(
+    alloc: Global,
+    instruction: &str,
+    word: &str,
+    command: Command,
+) -> Result<Remark, AllocError> {
+    if is_manufacturer(command) {
+        return Ok(Remark {
+            message: format!(in alloc; "\"{word}\" needs \"b\" or \"w\" behind it")?,
+            help: Some(format!(in alloc; "\"{word}b\" is for a byte, \"{word}w\" for a word")?),
+        });
+    }
+    let instruction = Quoted(instruction);
+    Ok(Remark {
+        message: format!(in alloc; "{instruction} doesn't take \"{word}\"")?,
+        help: forms_help(alloc, command)?,
+    })
+}
+
+/// The digits of a manufacturer command with `b` or `w` behind them.
+fn digits_of(word: &str) -> Option<&str> {
+    let digits = match word.strip_suffix("b") {
+        Some(digits) => digits,
+        None => word.strip_suffix("w")?,
+    };
+    match by_name(digits) {
+        Some(command) if is_manufacturer(command) => Some(digits),
+        _ => None,
+    }
+}
+
+/// Whether a word is nearly a manufacturer command.
+fn is_nearly_manufacturer(alloc: Global, word: &str) -> Result<bool, AllocError> {
+    match word.get(..2) {
+        Some(digits) if word.len() <= 3 => {
+            let digits = digits.to_ascii_uppercase(alloc)?;
+            Ok(by_name(&digits).is_some())
+        }
+        _ => Ok(false),
+    }
+}
+
+/// The name of the command whose digits stand there.
+fn named_by_digits(alloc: Global, word: &str) -> Result<Option<String>, AllocError> {
+    match pair_of(word) {
+        Some(code) => match by_code(code) {
+            Some(command) => Ok(Some(name_of(alloc, command)?)),
+            None => Ok(None),
+        },
+        None => Ok(None),
+    }
+}
+
+/// Proposes another word. How manufacturer commands are written is told by `rule`.
+pub(crate) fn command_help(
+    alloc: Global,
+    word: &str,
+    operand: Operand,
+    rule: &str,
+) -> Result<Option<String>, AllocError> {
+    if let Some(digits) = digits_of(word) {
+        return Ok(Some(format!(in alloc; "did you mean \"{digits}\"?")?));
+    }
+    if is_nearly_manufacturer(alloc, word)? {
+        return help_of(alloc, Some(rule));
+    }
+    match named_by_digits(alloc, word)? {
+        Some(name) => Ok(Some(format!(in alloc; "did you mean \"{name}\"?")?)),
+        None => command_suggestion(alloc, word, operand),
+    }
+}
+
+/// What is said of a line with such a word.
+pub(crate) fn unknown_command(alloc: Global, words: &[&str]) -> Result<Remark, AllocError> {
+    let [instruction, _, word, ..] = words else {
+        return Remark::plain(alloc, "unknown command");
+    };
+    if let Some(command) = by_name(word) {
+        return known_command(alloc, instruction, word, command);
+    }
+    let help = match operands_of(instruction) {
+        Some([_, operand, ..]) => command_help(alloc, word, *operand, MANUFACTURER_RULE)?,
+        _ => None,
+    };
+    let word = Quoted(word);
+    Ok(Remark {
+        message: format!(in alloc; "unknown command {word}")?,
+        help,
+    })
+}

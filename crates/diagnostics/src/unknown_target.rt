@@ -1,0 +1,48 @@
+//! A word that names no target of the board.
+
+ghost use Rattle.std.specs.Prelude.{◌≡◌, map, string_bytes, IfOk, IfSome};
+ghost use Rattle.diagnostics.specs.Nearest.{IsProposal};
+
+use crate::quote::{Quoted, listed};
+use crate::remark::Remark;
+use crate::suggestion::lowercase_suggestion;
+use board::Board;
+use std::alloc::{AllocError, Global};
+
+/// The names of a board's targets, in its order.
+fn target_names<'b>(alloc: Global, board: &'b Board) -> Result<Vec<&'b str>, AllocError>
+    ensures { IfOk result (λ names. map (λ n. n.now) names.items ≡ board.now.target_names) }
+{
+    let mut names = Vec::new(alloc);
+    while let Some(name) = board.target_name(names.len()) {
+        names.push(name)?;
+    }
+    Ok(names)
+}
+
+/// What is said of a word that is no target's name.
+fn target_remark(alloc: Global, board: &Board, word: &str) -> Result<Remark, AllocError>
+    ensures { IfOk result (λ remark. IfSome remark.help
+        (λ h. IsProposal board.now.target_names (string_bytes h))) }
+{
+    let names = target_names(alloc, board)?;
+    let help = lowercase_suggestion(alloc, word, &names)?;
+    let names = listed(alloc, &names)?;
+    let word = Quoted(word);
+    Ok(Remark {
+        message: format!(in alloc; "unknown target {word}: the board has {names}")?,
+        help,
+    })
+}
+
+/// What is said of a line with such a word.
+pub(crate) fn unknown_target(
+    alloc: Global,
+    board: &Board,
+    words: &[&str],
+) -> Result<Remark, AllocError> {
+    match words.get(1) {
+        Some(word) => target_remark(alloc, board, word),
+        None => Remark::plain(alloc, "unknown target"),
+    }
+}

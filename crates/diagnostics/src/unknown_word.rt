@@ -1,0 +1,48 @@
+//! A first word that is no instruction's, on a line that is no label.
+
+use crate::habit::habit_in;
+use crate::operand::instruction_words;
+use crate::quote::Quoted;
+use crate::remark::{Remark, help_of};
+use crate::suggestion::lowercase_suggestion;
+use std::alloc::{AllocError, Global};
+use texts::is_name;
+
+/// What a label looks like, where a word with a colon is none.
+fn label_rule(words: &[&str]) -> &'static str {
+    match words {
+        [_] => "a label has 1 to 32 of a to z, 0 to 9 and _, the first a letter, and then a colon",
+        _ => "a label stands alone on its line, and its colon at its end",
+    }
+}
+
+/// Proposes a colon, or another word.
+fn word_help(alloc: Global, word: &str, words: &[&str]) -> Result<Option<String>, AllocError> {
+    if words.iter().any(|word| word.contains(':')) {
+        return help_of(alloc, Some(label_rule(words)));
+    }
+    let names = instruction_words(alloc)?;
+    match lowercase_suggestion(alloc, word, &names)? {
+        Some(help) => Ok(Some(help)),
+        None if words.len() == 1 && is_name(word) => {
+            Ok(Some(format!(in alloc; "a label ends with a colon: \"{word}:\"")?))
+        }
+        None => Ok(None),
+    }
+}
+
+/// What is said of a line that begins with such a word.
+pub(crate) fn unknown_word(alloc: Global, words: &[&str]) -> Result<Remark, AllocError> {
+    let Some(word) = words.first() else {
+        return Remark::plain(alloc, "unknown instruction");
+    };
+    let help = match habit_in(words) {
+        Some(habit) => help_of(alloc, Some(habit))?,
+        None => word_help(alloc, word, words)?,
+    };
+    let word = Quoted(word);
+    Ok(Remark {
+        message: format!(in alloc; "unknown instruction {word}")?,
+        help,
+    })
+}

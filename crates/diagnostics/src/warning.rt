@@ -1,0 +1,153 @@
+//! Warnings of runs.
+
+ghost use Rattle.std.specs.Prelude.{◌≡◌, false, None, is_some, string_bytes, IfOk};
+ghost use Rattle.facts.specs.Requests.{sent_in};
+ghost use Rattle.table_check.specs.Obligations.{IsInductive};
+ghost use Rattle.table_check.specs.Tables.{Table};
+ghost use Rattle.session.specs.Commands.{task_view, IsReady};
+ghost use Rattle.session.specs.Scenarios.{IsOnItsBoard};
+ghost use Rattle.diagnostics.specs.Breaches.{IsFirstBreach};
+ghost use Rattle.diagnostics.specs.ProgramPlaces.{IsWarningAt};
+ghost use Rattle.diagnostics.specs.Runs.{SendsNothing};
+ghost use Rattle.diagnostics.specs.Warnings.{SparesAccepted, WarnsOfRun};
+ghost use Rattle.diagnostics.specs.Warnings.{WarnsOfTask, WarnsOfRuns};
+
+use crate::breach::{Breach, first_breach};
+use crate::note::warning_of;
+use crate::part::section_of;
+use crate::place::place_line;
+use crate::refusal::{Refusal, help_on};
+use crate::remark::{Remark, help_of};
+use facts::Rule;
+use seq_program::{Instr, Program};
+use session::{Scenario, Task, read_task};
+use std::alloc::{AllocError, Global};
+use texts::ReadError;
+
+/// What breaks a rule, in a sentence.
+fn sentence_of(rule: Rule) -> &'static str {
+    match rule {
+        Rule::K1 => "K1: no entry of the target's `allow` permits this",
+        Rule::K2 => "K2: this reads at a page, and PAGE is FFh, all pages",
+        Rule::K3 => "K3: what WRITE_PROTECT is here forbids this write",
+        Rule::K4 => "K4: this commands a voltage over the limit of a rail that it touches",
+        Rule::K5 => {
+            "K5: this turns on a rail, and a rail that it needs hasn't reported good, or was \
+             turned off since"
+        }
+        Rule::K6 | Rule::K7 | Rule::K8 | Rule::K9 => "the rules aren't kept here",
+    }
+}
+
+/// What is said of a breach.
+fn remark_on(alloc: Global, breach: Breach) -> Result<Remark, AllocError> {
+    let sentence = sentence_of(breach.rule);
+    let index = breach.index;
+    Ok(Remark {
+        message: format!(in alloc; "{sentence} (answer {index} of the run)")?,
+        help: help_of(alloc, help_on(Refusal::Breaks(breach.rule)))?,
+    })
+}
+
+/// The warning of a breach, on its place's line.
+fn breach_warning(alloc: Global, text: &str, breach: Breach) -> Result<String, AllocError>
+    ensures { IfOk result (λ note. IsWarningAt text.now breach.place (string_bytes note)) }
+{
+    let program = section_of(alloc, text, 1)?;
+    let program = match &program {
+        Some(program) => program.as_str(),
+        None => "",
+    };
+    let number = place_line(alloc, program, breach.place)?.unwrap_or(1);
+    let remark = remark_on(alloc, breach)?;
+    warning_of(alloc, "%program", program, number, &remark)
+}
+
+/// Whether an instruction sends something to a target.
+fn sends(instr: &Instr) -> bool
+    ensures { result ≡ is_some (sent_in instr.now) }
+{
+    match instr {
+        Instr::Quick { .. }
+        | Instr::Send { .. }
+        | Instr::Receive { .. }
+        | Instr::Write { .. }
+        | Instr::Read { .. }
+        | Instr::Call { .. }
+        | Instr::BlockWrite { .. }
+        | Instr::BlockRead { .. }
+        | Instr::BlockCall { .. } => true,
+        _ => false,
+    }
+}
+
+/// Whether some instruction does.
+fn sends_something(program: &Program) -> bool
+    ensures { result ≡ false → SendsNothing program.now }
+{
+    for place in 0..program.places() {
+        match program.at(place) {
+            Some(instr) if sends(instr) => return true,
+            _ => {}
+        }
+    }
+    false
+}
+
+/// The first breach of a run. Where nothing is sent to a target, there is none, and the run isn't
+/// gone through.
+fn breach_in(alloc: Global, scenario: &Scenario<'_>) -> Result<Option<Breach>, AllocError>
+    requires { IsOnItsBoard scenario.now }
+    ensures first { IfOk result (λ found. IsFirstBreach scenario.now found) }
+    ensures spares { IfOk result (λ found. (t : Table)
+        → IsInductive scenario.now.board scenario.now.program t → found ≡ None) }
+{
+    if sends_something(&scenario.program) {
+        first_breach(alloc, scenario)
+    } else {
+        Ok(None)
+    }
+}
+
+/// The warning of a run.
+fn run_warning(
+    alloc: Global,
+    text: &str,
+    scenario: &Scenario<'_>,
+) -> Result<Option<String>, AllocError>
+    requires { IsOnItsBoard scenario.now }
+    ensures warns { IfOk result (WarnsOfRun text.now scenario.now) }
+    ensures spares { IfOk result (SparesAccepted scenario.now.board scenario.now.program) }
+{
+    match breach_in(alloc, scenario)? {
+        Some(breach) => Ok(Some(breach_warning(alloc, text, breach)?)),
+        None => Ok(None),
+    }
+}
+
+/// The warning of what is asked for.
+fn task_warning(alloc: Global, text: &str, task: &Task<'_>) -> Result<Option<String>, AllocError>
+    requires { IsReady (task_view task.now) }
+    ensures { IfOk result (WarnsOfTask text.now (task_view task.now)) }
+{
+    match task {
+        Task::Run(scenario) | Task::Wave(scenario) => run_warning(alloc, text, scenario),
+        Task::Frame(_) | Task::Check(_) | Task::Find(_) | Task::Verify(_) => Ok(None),
+    }
+}
+
+/// A warning of the first step of a run that breaks what programs are checked by: a message that no
+/// entry allows, a write that is protected, a voltage over its limit, a rail that is turned on
+/// before its needs reported good. It is on the line of the step's place. `None` where there is
+/// no such step: a run ends where an answer doesn't fit.
+///
+/// The run of a program that is accepted has no warning.
+pub fn warning_on(alloc: Global, text: &str) -> Result<Option<String>, AllocError>
+    ensures { IfOk result (WarnsOfRuns text.now) }
+{
+    match read_task(alloc, text) {
+        Ok(task) => task_warning(alloc, text, &task),
+        Err(ReadError::Memory) => Err(AllocError),
+        Err(ReadError::Fault(_)) => Ok(None),
+    }
+}
