@@ -4,7 +4,7 @@ use bundles::{Answers, BundleFault, answer_line_of, answers_in, read_bundle};
 use std::alloc::Global;
 use std::process::Abort;
 use std::test::*;
-use texts::{ReadError, lines_of};
+use texts::ReadError;
 
 /// What a line answers, but for the slots that it holds.
 type Answered = (Option<u16>, u16, &'static [u8], bool, u16);
@@ -46,12 +46,12 @@ const LINES: [AnswerRow; 16] = [
 fn says(rt: &impl Abort, alloc: Global, row: AnswerRow) -> Result<(), Fail> {
     let (line, holds, (refuse, value, bytes, took, alerts)) = row;
     let answer = answer_line_of(alloc, 7, line)?;
-    assert_eq!(rt; answer.holds.as_slice(), holds, "{line}");
-    assert_eq!(rt; answer.refuse, refuse, "{line}");
-    assert_eq!(rt; answer.value, value, "{line}");
-    assert_eq!(rt; answer.bytes.as_slice(), bytes, "{line}");
-    assert_eq!(rt; answer.took, took, "{line}");
-    assert_eq!(rt; answer.alerts, alerts, "{line}");
+    assert!(rt; answer.holds.as_slice() == holds, "{line}");
+    assert!(rt; answer.refuse == refuse, "{line}");
+    assert!(rt; answer.value == value, "{line}");
+    assert!(rt; answer.bytes.as_slice() == bytes, "{line}");
+    assert!(rt; answer.took == took, "{line}");
+    assert!(rt; answer.alerts == alerts, "{line}");
     Ok(())
 }
 
@@ -70,8 +70,8 @@ fn answer_lines(rt: HostRuntime) -> Result<(), Fail> {
 #[test]
 fn the_last_slot(rt: HostRuntime) -> Result<(), Fail> {
     let answer = answer_line_of(rt.alloc(), 7, "holds=4095:1")?;
-    assert_eq!(rt; answer.holds.len(), 4096);
-    assert_eq!(rt; answer.holds.last(), Some(&1));
+    assert!(rt; answer.holds.len() == 4096);
+    assert!(rt; answer.holds.last() == Some(&1));
     Ok(())
 }
 
@@ -122,7 +122,7 @@ const BAD_LINES: [&str; 41] = [
 fn all_are_bad(rt: &impl Abort, alloc: Global, lines: &[&str]) {
     for line in lines {
         let fault = answer_line_of(alloc, 7, line).err();
-        assert_eq!(rt; fault, Some(BundleFault::BadAnswer(7).error()), "{line}");
+        assert!(rt; fault == Some(BundleFault::BadAnswer(7).error()), "{line}");
     }
 }
 
@@ -131,12 +131,9 @@ fn bad_answer_lines(rt: HostRuntime) {
     all_are_bad(&rt, rt.alloc(), &BAD_LINES);
 }
 
-/// The answers of the lines of a bundle for a run.
-fn answers_of<'a>(
-    alloc: Global,
-    lines: &'a [&'a str],
-) -> Result<Answers<'a>, ReadError<BundleFault>> {
-    let bundle = read_bundle(alloc, lines)?;
+/// The answers of a bundle for a run.
+fn answers_of(alloc: Global, text: &str) -> Result<Answers<'_>, ReadError<BundleFault>> {
+    let bundle = read_bundle(alloc, text)?;
     match bundle.sections.last() {
         Some(section) => answers_in(alloc, section),
         None => Err(BundleFault::NoCommand.error()),
@@ -150,10 +147,9 @@ fn sections(rt: HostRuntime) -> Result<(), Fail> {
 
 start 00,FF 00,80
 -\n  \n#-\ntook=1\nvalue=2";
-    let lines = lines_of(rt.alloc(), text)?;
-    let run = answers_of(rt.alloc(), &lines)?;
-    assert_eq!(rt; run.pages.as_slice(), [0x00, 0xFF].as_slice());
-    assert_eq!(rt; run.protects.as_slice(), [0x00, 0x80].as_slice());
+    let run = answers_of(rt.alloc(), text)?;
+    assert!(rt; run.pages.as_slice() == [0x00, 0xFF].as_slice());
+    assert!(rt; run.protects.as_slice() == [0x00, 0x80].as_slice());
     let mut said = Vec::new(rt.alloc());
     let mut answers = run.answers();
     for _ in 0..4 {
@@ -162,10 +158,7 @@ start 00,FF 00,80
         };
         said.push((answer.took, answer.value))?;
     }
-    assert_eq!(rt;
-        said.as_slice(),
-        [(false, 0), (true, 0), (false, 2)].as_slice()
-    );
+    assert!(rt; said.as_slice() == [(false, 0), (true, 0), (false, 2)].as_slice());
     Ok(())
 }
 
@@ -173,10 +166,9 @@ start 00,FF 00,80
 #[test]
 fn starts(rt: HostRuntime) -> Result<(), Fail> {
     let text = "%run\n%board\n%program\n%answers\nstart  00,00,00 00 ";
-    let lines = lines_of(rt.alloc(), text)?;
-    let run = answers_of(rt.alloc(), &lines)?;
-    assert_eq!(rt; run.pages.as_slice(), [0, 0, 0].as_slice());
-    assert_eq!(rt; run.protects.as_slice(), [0].as_slice());
+    let run = answers_of(rt.alloc(), text)?;
+    assert!(rt; run.pages.as_slice() == [0, 0, 0].as_slice());
+    assert!(rt; run.protects.as_slice() == [0].as_slice());
     assert!(rt; run.answers().next(rt.alloc())?.is_none());
     Ok(())
 }
@@ -204,11 +196,9 @@ const BAD_SECTIONS: [(&str, usize); 17] = [
 
 fn has_fault(rt: &impl Abort, alloc: Global, below: &str, line: usize) -> Result<(), Fail> {
     let text = format!(in alloc; "%run\n%board\n%program\n%answers{below}")?;
-    let lines = lines_of(alloc, &text)?;
-    let fault = answers_of(alloc, &lines).err();
-    assert_eq!(rt;
-        fault,
-        Some(BundleFault::BadAnswer(line).error()),
+    let fault = answers_of(alloc, &text).err();
+    assert!(rt;
+        fault == Some(BundleFault::BadAnswer(line).error()),
         "{below}"
     );
     Ok(())

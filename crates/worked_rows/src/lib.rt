@@ -14,6 +14,8 @@ mod bundles_rows;
 #[cfg(test)]
 mod check_rows;
 #[cfg(test)]
+mod diagnostics_rows;
+#[cfg(test)]
 mod facts_rows;
 #[cfg(test)]
 mod fitting_rows;

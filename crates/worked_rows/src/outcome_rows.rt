@@ -4,8 +4,8 @@ use board::{Board, BoardFault};
 use smbus::{Form, Message};
 use std::alloc::Global;
 use std::process::Abort;
-use std::test::Fail;
-use targets::{Outcome, after, fits};
+use std::test::*;
+use targets::{Outcome, after, cut_of, fits};
 
 fn ended(
     alloc: Global,
@@ -154,7 +154,7 @@ const ENDS: [End; 18] = [
 fn compare_ends(rt: &impl Abort, alloc: Global, board: &Board, rows: &[End]) {
     for (asked, said, value, bytes, want) in rows {
         let end = ended(alloc, board, *asked, *said, *value, bytes);
-        assert_eq!(rt; end, Ok((true, *want)), "{asked:?} {said:?}");
+        assert!(rt; end == Ok((true, *want)), "{asked:?} {said:?}");
     }
 }
 
@@ -187,6 +187,22 @@ fn longest_write_ends(alloc: Global, board: &Board) -> Result<(bool, Outcome), B
 fn longest_block_write(rt: HostRuntime) -> Result<(), Fail> {
     let board = range_board(rt.alloc())?;
     let end = longest_write_ends(rt.alloc(), &board)?;
-    assert_eq!(rt; end, (true, Outcome::Done(0)));
+    assert!(rt; end == (true, Outcome::Done(0)));
+    Ok(())
+}
+
+/// The first slot of a Read Word that is cut: the STOP is slot 46, and there are no others.
+#[test]
+fn first_cut_slots(rt: HostRuntime) -> Result<(), Fail> {
+    let message = message_of(rt.alloc(), STATUS)?;
+    for (slot, want) in [
+        (None, None),
+        (Some(0), Some(0)),
+        (Some(46), Some(46)),
+        (Some(47), None),
+    ] {
+        let answer = said_answer(rt.alloc(), (None, slot, false))?;
+        assert!(rt; cut_of(&message, &answer) == want);
+    }
     Ok(())
 }

@@ -123,9 +123,9 @@ fn facts_of(command: Command) -> (u8, Option<Form>, Option<Form>, bool) {
 
 fn compare(rt: &impl Abort, alloc: Global, command: Command, known: Known) {
     let (code, _, written, read, is_paged) = known;
-    assert_eq!(rt; facts_of(command), (code, written, read, is_paged));
-    assert_eq!(rt; by_code(code), Some(command));
-    assert_eq!(rt; read_back(alloc, command), Ok(Some(command)));
+    assert!(rt; facts_of(command) == (code, written, read, is_paged));
+    assert!(rt; by_code(code) == Some(command));
+    assert!(rt; read_back(alloc, command) == Ok(Some(command)));
 }
 
 #[test]
@@ -135,7 +135,7 @@ fn named_commands(rt: HostRuntime) -> Result<(), Fail> {
         compare(&rt, rt.alloc(), command, *known);
     }
     let status = by_code(code::STATUS_WORD).ok_or("no such code")?;
-    assert_eq!(rt; name_of(rt.alloc(), status)?.as_str(), "STATUS_WORD");
+    assert!(rt; name_of(rt.alloc(), status)?.as_str() == "STATUS_WORD");
     Ok(())
 }
 
@@ -143,17 +143,17 @@ fn named_commands(rt: HostRuntime) -> Result<(), Fail> {
 fn manufacturer_commands(rt: HostRuntime) -> Result<(), Fail> {
     for code in 0xD0..0xFEu8 {
         let command = by_code(code).ok_or("no such code")?;
-        assert_eq!(rt; read_back(rt.alloc(), command), Ok(Some(command)));
+        assert!(rt; read_back(rt.alloc(), command) == Ok(Some(command)));
         let facts = (command.code(), command.form_written(), command.paged());
-        assert_eq!(rt; facts, (code, None, false));
+        assert!(rt; facts == (code, None, false));
     }
     let command = by_name("DF").ok_or("no such name")?;
-    assert_eq!(rt; command.code(), 0xDF);
+    assert!(rt; command.code() == 0xDF);
     for name in ["CF", "FE", "21", "df", "D", "", "page", "PAGE "] {
-        assert_eq!(rt; by_name(name), None, "{name}");
+        assert!(rt; by_name(name) == None, "{name}");
     }
     for code in [0x02, 0x7F, 0xCF, 0xFE, 0xFF] {
-        assert_eq!(rt; by_code(code), None, "{code}");
+        assert!(rt; by_code(code) == None, "{code}");
     }
     Ok(())
 }
@@ -180,8 +180,8 @@ fn forms(rt: HostRuntime) -> Result<(), Fail> {
         ("FD", Form::Alert, false, false),
     ] {
         let command = by_name(name).ok_or("no such name")?;
-        assert_eq!(rt; command.takes(form), takes, "{name} {form:?}");
-        assert_eq!(rt; command.counts_as_write(form), writes, "{name} {form:?}");
+        assert!(rt; command.takes(form) == takes, "{name} {form:?}");
+        assert!(rt; command.counts_as_write(form) == writes, "{name} {form:?}");
     }
     Ok(())
 }
@@ -203,7 +203,7 @@ fn protection(rt: HostRuntime) {
         (0x01, code::PAGE, None),
         (0xC0, code::WRITE_PROTECT, None),
     ] {
-        assert_eq!(rt; permits(protect, code), want, "{protect} {code}");
+        assert!(rt; permits(protect, code) == want, "{protect} {code}");
     }
 }
 
@@ -232,12 +232,12 @@ fn status(rt: HostRuntime) {
         (0x0000, true),
         (0xF7BF, true),
     ] {
-        assert_eq!(rt; reported_good(word), good, "{word}");
+        assert!(rt; reported_good(word) == good, "{word}");
     }
     let word = StatusWord::from_bits_retain(0x0842);
     assert!(rt; word.contains(StatusWord::POWER_GOOD_N | StatusWord::OFF | StatusWord::CML));
     assert!(rt; !word.contains(StatusWord::BUSY));
-    assert_eq!(rt; word.bits(), 0x0842);
+    assert!(rt; word.bits() == 0x0842);
 }
 
 #[test]
@@ -253,9 +253,8 @@ fn voltages(rt: HostRuntime) {
         (4505, -12, 1_100_000, true),
         (4506, -12, 1_100_000, false),
     ] {
-        assert_eq!(rt;
-            within(mantissa, exponent, limit),
-            want,
+        assert!(rt;
+            within(mantissa, exponent, limit) == want,
             "{mantissa} {exponent} {limit}"
         );
     }

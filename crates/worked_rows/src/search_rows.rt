@@ -33,106 +33,6 @@ fn pages_text(alloc: Global) -> Result<String, AllocError> {
     )
 }
 
-/// `%verify` prints what it should for each program of a board.
-fn verifies(
-    rt: &impl Abort,
-    alloc: Global,
-    board: &str,
-    rows: &[(&str, &str)],
-) -> Result<(), Fail> {
-    for (program, want) in rows {
-        let (_, output) = told(alloc, "%verify", board, program)?;
-        assert_eq!(rt; output.as_slice(), want.as_bytes(), "{program}");
-    }
-    Ok(())
-}
-
-const ON_PAGES: [(&str, &str); 4] = [
-    (
-        "write a PAGE 1 else on\non:\nwrite a OPERATION 0x80 else bad\nend\nbad:\nfail",
-        "refused place 1 rule K5\n",
-    ),
-    (
-        "write a PAGE 1 else look\nlook:\nread a PAGE r0 else bad\nif r0 0x00FF 0x0001 on\nfail\n\
-            on:\nwrite a OPERATION 0x80 else bad\nend\nbad:\nfail",
-        "accepted bound 290\n",
-    ),
-    (
-        "write a PAGE 255 else bad\nread a STATUS_WORD r0 else bad\nend\nbad:\nfail",
-        "refused place 1 rule K2\n",
-    ),
-    (
-        "write a PAGE 255 else bad\nwrite a OPERATION 0x80 else bad\nend\nbad:\nfail",
-        "refused place 1 rule K5\n",
-    ),
-];
-
-#[test]
-fn programs_on_pages(rt: HostRuntime) -> Result<(), Fail> {
-    let board = pages_text(rt.alloc())?;
-    verifies(&rt, rt.alloc(), &board, &ON_PAGES)
-}
-
-const ON_TWO: [(&str, &str); 6] = [
-    (
-        "write a OPERATION 0x80 else bad\nread a STATUS_WORD r0 else bad\nif r0 0x0840 0 good\n\
-            fail\ngood:\nwrite a OPERATION 0 else bad\nwrite b OPERATION 0x80 else bad\nend\n\
-            bad:\nfail",
-        "refused place 5 rule K5\n",
-    ),
-    (
-        "read a STATUS_WORD r0 else bad\nread a STATUS_WORD r1 else bad\nif r0 0x0840 0 good\n\
-            fail\ngood:\nwrite b OPERATION 0x80 else bad\nend\nbad:\nfail",
-        "refused place 4 rule K5\n",
-    ),
-    (
-        "write a VOUT_COMMAND 4505 else bad\nend\nbad:\nfail",
-        "accepted bound 114\n",
-    ),
-    (
-        "write a VOUT_COMMAND 4506 else bad\nend\nbad:\nfail",
-        "refused place 0 rule K4\n",
-    ),
-    ("spin:\ngoto spin\nend", "gave up place 0\n"),
-    (
-        "set r2 3034\ncount c0 100\nloop:\nwrite a VOUT_COMMAND r2 else bad\nabove r2 4442 done\n\
-            add r2 64\nagain c0 loop\ndone:\nend\nbad:\nfail",
-        "refused place 2 rule K4\n",
-    ),
-];
-
-#[test]
-fn programs_on_two(rt: HostRuntime) -> Result<(), Fail> {
-    verifies(&rt, rt.alloc(), TWO, &ON_TWO)
-}
-
-const PROTECTED: [(&str, &str); 3] = [
-    (
-        "write a VOUT_COMMAND 100 else bad\nend\nbad:\nfail",
-        "refused place 0 rule K3\n",
-    ),
-    (
-        "write a WRITE_PROTECT 0x20 else bad\nwrite a VOUT_COMMAND 100 else bad\nend\nbad:\nfail",
-        "accepted bound 200\n",
-    ),
-    (
-        "write a WRITE_PROTECT 0x20 else go\ngo:\nwrite a VOUT_COMMAND 100 else bad\nend\nbad:\n\
-            fail",
-        "refused place 1 rule K3\n",
-    ),
-];
-
-#[test]
-fn programs_on_a_protected_target(rt: HostRuntime) -> Result<(), Fail> {
-    let board = TWO.replacen(
-        rt.alloc(),
-        "start_protects = [0]",
-        "start_protects = [0, 0x40]",
-        1,
-    )?;
-    verifies(&rt, rt.alloc(), &board, &PROTECTED)
-}
-
 /// The bound that is printed, if a program is accepted.
 fn bound_of(alloc: Global, board: &str, program: &str) -> Result<Option<u64>, AllocError> {
     let (status, output) = told(alloc, "%verify", board, program)?;
@@ -224,23 +124,19 @@ fn checked(
     Ok((status, output))
 }
 
+/// The page that was written is read back before a rail is turned on.
+const READ_BACK: &str = "write a PAGE 1 else look\nlook:\nread a PAGE r0 else bad\n\
+    if r0 0x00FF 0x0001 on\nfail\non:\nwrite a OPERATION 0x80 else bad\nend\nbad:\nfail";
+
 #[test]
 fn a_found_table_is_accepted(rt: HostRuntime) -> Result<(), Fail> {
     let board = pages_text(rt.alloc())?;
-    let program = ON_PAGES[1].0;
+    let program = READ_BACK;
     let (found, table) = told(rt.alloc(), "%find", &board, program)?;
     assert!(rt; found == Status::Accepted);
     let (status, output) = checked(rt.alloc(), &board, program, &table)?;
     assert!(rt; status == Status::Accepted);
-    assert_eq!(rt; output.as_slice(), b"accepted bound 290\n".as_slice());
-    Ok(())
-}
-
-#[test]
-fn a_loop_without_end_is_given_up(rt: HostRuntime) -> Result<(), Fail> {
-    let (status, output) = told(rt.alloc(), "%find", TWO, "spin:\ngoto spin\nend")?;
-    assert!(rt; status == Status::Refused);
-    assert_eq!(rt; output.as_slice(), b"gave up place 0\n".as_slice());
+    assert!(rt; output.as_slice() == b"accepted bound 290\n".as_slice());
     Ok(())
 }
 
@@ -250,7 +146,7 @@ fn found_by_call(rt: HostRuntime) -> Result<(), Fail> {
     let board = two_board(rt.alloc())?;
     let program = read_program(rt.alloc(), &board, "wait 1\nend\n")?;
     let table = find(rt.alloc(), &board, &program)?;
-    assert_eq!(rt; table.rows.len(), 2);
+    assert!(rt; table.rows.len() == 2);
     assert!(rt; shaped(&board, &table));
     let verdict = check(rt.alloc(), &board, &program, &table)?;
     assert!(rt; verdict == Verdict::Accepted { bound: 3 });
@@ -260,11 +156,11 @@ fn found_by_call(rt: HostRuntime) -> Result<(), Fail> {
 #[test]
 fn faults_of_the_search(rt: HostRuntime) -> Result<(), Fail> {
     let gave_up = FindFault::GaveUp(7);
-    assert_eq!(rt; gave_up.number(), 2);
-    assert_eq!(rt; gave_up.name(), "GaveUp");
-    assert_eq!(rt; gave_up.place(), Some(7));
-    assert_eq!(rt; FindFault::Memory.number(), 1);
-    assert_eq!(rt; FindFault::Memory.name(), "Memory");
-    assert_eq!(rt; FindFault::Memory.place(), None);
+    assert!(rt; gave_up.number() == 2);
+    assert!(rt; gave_up.name() == "GaveUp");
+    assert!(rt; gave_up.place() == Some(7));
+    assert!(rt; FindFault::Memory.number() == 1);
+    assert!(rt; FindFault::Memory.name() == "Memory");
+    assert!(rt; FindFault::Memory.place() == None);
     Ok(())
 }

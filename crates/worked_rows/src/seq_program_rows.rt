@@ -23,7 +23,7 @@ fn fault_in(alloc: Global, text: &str) -> Result<(u8, Option<usize>), BoardFault
 fn compare_faults(rt: &impl Abort, alloc: Global, faults: &[(&str, u8, usize)]) {
     for (text, number, line) in faults {
         let want = (*number, Some(*line));
-        assert_eq!(rt; fault_in(alloc, text), Ok(want), "{text}");
+        assert!(rt; fault_in(alloc, text) == Ok(want), "{text}");
     }
 }
 
@@ -55,7 +55,7 @@ const BAD_PROGRAMS: [(&str, u8, usize); 5] = [
 fn faults_of_programs(rt: HostRuntime) -> Result<(), Fail> {
     compare_faults(&rt, rt.alloc(), &BAD_PROGRAMS);
     let long = "end\n".repeat(rt.alloc(), 1025)?;
-    assert_eq!(rt; fault_in(rt.alloc(), &long), Ok((9, Some(1025))));
+    assert!(rt; fault_in(rt.alloc(), &long) == Ok((9, Some(1025))));
     Ok(())
 }
 
@@ -121,7 +121,7 @@ fn compare_messages(rt: &impl Abort, alloc: Global, board: &Board, program: &Pro
 
 fn compare_program(rt: &impl Abort, alloc: Global, board: &Board) -> Result<(), ProgramFault> {
     let program = read_program(alloc, board, MESSAGES)?;
-    assert_eq!(rt; program.places(), 16);
+    assert!(rt; program.places() == 16);
     compare_messages(rt, alloc, board, &program);
     Ok(())
 }
@@ -166,7 +166,7 @@ fn register_of(instr: Option<&Instr>) -> Option<usize> {
 /// Tries the registers of the instructions at some places.
 fn compare_registers(rt: &impl Abort, program: &Program, registers: &[(usize, usize)]) {
     for (place, want) in registers {
-        assert_eq!(rt; register_of(program.at(*place)), Some(*want), "{place}");
+        assert!(rt; register_of(program.at(*place)) == Some(*want), "{place}");
     }
 }
 
@@ -271,6 +271,6 @@ fn fault_of(alloc: Global, text: &str) -> Result<Option<ProgramFault>, BoardFaul
 #[test]
 fn names_of_faults(rt: HostRuntime) {
     let fault = ProgramFault::UnknownWord(2);
-    assert_eq!(rt; fault_of(rt.alloc(), "end\nx: end"), Ok(Some(fault)));
-    assert_eq!(rt; fault.name(), "UnknownWord");
+    assert!(rt; fault_of(rt.alloc(), "end\nx: end") == Ok(Some(fault)));
+    assert!(rt; fault.name() == "UnknownWord");
 }

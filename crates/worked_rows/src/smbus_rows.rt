@@ -82,7 +82,7 @@ fn first_text(alloc: Global, events: &[Event]) -> Result<String, Fail> {
 /// Tries the text of the first frame.
 fn reads(rt: &impl Abort, alloc: Global, events: &[Event], want: &str) -> Result<(), Fail> {
     let text = first_text(alloc, events)?;
-    assert_eq!(rt; text.as_str(), want);
+    assert!(rt; text.as_str() == want);
     Ok(())
 }
 
@@ -91,11 +91,11 @@ type Shown<'a> = (&'a str, u64, Option<usize>);
 
 fn compare(rt: &impl Abort, alloc: Global, driven: &Driven, want: Shown<'_>) -> Result<(), Fail> {
     let (text, samples, cut) = want;
-    assert_eq!(rt; (driven.samples.total(), driven.cut), (samples, cut));
+    assert!(rt; (driven.samples.total(), driven.cut) == (samples, cut));
     let events = events(alloc, &samples_of(alloc, driven)?)?;
     // The first is the START, which the idle sample before it makes one.
     let later = events_of(alloc, &driven.samples)?;
-    assert_eq!(rt; events.get(1..), Some(later.as_slice()));
+    assert!(rt; events.get(1..) == Some(later.as_slice()));
     reads(rt, alloc, &events, text)
 }
 
@@ -254,9 +254,9 @@ fn longest_block_write(rt: HostRuntime) -> Result<(), Fail> {
     let answer = answer_of(alloc, None, 0, &[])?;
     let zeros = "00A ".repeat(alloc, 255)?;
     let text = format!(in alloc; "S 80A D0A FFA {zeros}P")?;
-    assert_eq!(rt; sent_count(&message), 258);
-    assert_eq!(rt; slot_count(&message, &answer), 2323);
-    assert_eq!(rt; most_slots(Form::BlockWrite, 255, 0), 2323);
+    assert!(rt; sent_count(&message) == 258);
+    assert!(rt; slot_count(&message, &answer) == 2323);
+    assert!(rt; most_slots(Form::BlockWrite, 255, 0) == 2323);
     let driven = driven(alloc, &message, &answer)?;
     compare(&rt, alloc, &driven, (text.as_str(), 4648, None))
 }
@@ -279,10 +279,10 @@ fn no_slots(rt: HostRuntime) {
         (EMPTY, Some(3), SmbusFault::BadData),
     ] {
         let fault = slots_of(rt.alloc(), asked, refuse).err();
-        assert_eq!(rt; fault, Some(want), "{refuse:?}");
+        assert!(rt; fault == Some(want), "{refuse:?}");
     }
-    assert_eq!(rt; SmbusFault::BadData.number(), 3);
-    assert_eq!(rt; SmbusFault::BadData.name(), "BadData");
+    assert!(rt; SmbusFault::BadData.number() == 3);
+    assert!(rt; SmbusFault::BadData.name() == "BadData");
 }
 
 const HIGH: Event = Event::Rise(true);
@@ -311,15 +311,15 @@ const STRAYS: [(&[Event], Option<ObserveFault>); 6] = [
 fn all_stray(rt: &impl Abort, alloc: Global, rows: &[(&[Event], Option<ObserveFault>)]) {
     for (events, want) in rows {
         let fault = observe(alloc, events).err();
-        assert_eq!(rt; fault, *want, "{events:?}");
+        assert!(rt; fault == *want, "{events:?}");
     }
 }
 
 #[test]
 fn places_of_stray_events(rt: HostRuntime) {
     all_stray(&rt, rt.alloc(), &STRAYS);
-    assert_eq!(rt; ObserveFault::NotFrames(3).number(), 2);
-    assert_eq!(rt; ObserveFault::NotFrames(3).name(), "NotFrames");
+    assert!(rt; ObserveFault::NotFrames(3).number() == 2);
+    assert!(rt; ObserveFault::NotFrames(3).name() == "NotFrames");
 }
 
 /// A frame of two segments with no byte.
@@ -339,7 +339,7 @@ fn first_address(alloc: Global) -> Result<Option<(Option<u8>, Option<bool>)>, Ob
 
 #[test]
 fn empty_segments(rt: HostRuntime) -> Result<(), Fail> {
-    assert_eq!(rt; first_address(rt.alloc()), Ok(Some((None, None))));
+    assert!(rt; first_address(rt.alloc()) == Ok(Some((None, None))));
     reads(&rt, rt.alloc(), &BARE, "S Sr P")
 }
 
@@ -348,16 +348,16 @@ fn addresses(rt: HostRuntime) -> Result<(), Fail> {
     let segment = Segment {
         bytes: vec![in rt.alloc(); (0x81, true), (0x5A, false)]?,
     };
-    assert_eq!(rt; segment.address(), Some(0x40));
-    assert_eq!(rt; segment.read(), Some(true));
+    assert!(rt; segment.address() == Some(0x40));
+    assert!(rt; segment.read() == Some(true));
     Ok(())
 }
 
 #[test]
 fn form_words(rt: HostRuntime) {
-    assert_eq!(rt; form_named("quickread"), Some(Form::Quick(true)));
-    assert_eq!(rt; form_named("blockcall"), Some(Form::BlockProcessCall));
-    assert_eq!(rt; form_named("alert"), None);
+    assert!(rt; form_named("quickread") == Some(Form::Quick(true)));
+    assert!(rt; form_named("blockcall") == Some(Form::BlockProcessCall));
+    assert!(rt; form_named("alert") == None);
     assert!(rt; carries_code(Form::SendByte));
     assert!(rt; !carries_code(Form::ReceiveByte));
 }

@@ -3,22 +3,31 @@ use std::io;
 use std::io::Write;
 use std::test::Fail;
 use texts::{
-    CutShort, ReadError, decimal_within, hex_number, is_name, lines_by_feed, lines_of, pair_of,
-    pairs_of, push_pair, push_word, send, words_of,
+    CutShort, ReadError, decimal_within, first_by_feed, first_line, hex_number, is_name,
+    line_count, pair_of, pairs_of, push_pair, push_word, send, words_of,
 };
 
 #[test]
 fn lines_and_words(rt: HostRuntime) -> Result<(), Fail> {
-    let lines = lines_of(rt.alloc(), "%run\r\n\nwait 1\n end\r")?;
-    assert_eq!(rt;
-        lines.as_slice(),
-        ["%run", "", "wait 1", " end\r"].as_slice()
-    );
-    let lines = lines_by_feed(rt.alloc(), "end\r\n\nx:\n")?;
-    assert_eq!(rt; lines.as_slice(), ["end\r", "", "x:"].as_slice());
-    assert!(rt; lines_by_feed(rt.alloc(), "")?.is_empty());
+    assert!(rt; first_line("%run\r\n\nend\r") == Some(("%run", "\nend\r")));
+    assert!(rt; first_line("\nend\r") == Some(("", "end\r")));
+    assert!(rt; first_line("end\r") == Some(("end\r", "")));
+    assert!(rt; first_line("end\r\r\n") == Some(("end\r", "")));
+    assert!(rt; first_line("") == None);
+    assert!(rt; first_by_feed("end\r\n\nx:\n") == Some(("end\r", "\nx:\n")));
+    assert!(rt; first_by_feed("x:") == Some(("x:", "")));
+    assert!(rt; first_by_feed("") == None);
+    for (text, count) in [
+        ("", 0),
+        ("\n", 1),
+        ("end", 1),
+        ("end\r\n\nx:\n", 3),
+        ("a\n\nb", 3),
+    ] {
+        assert!(rt; line_count(text) == count, "{text}");
+    }
     let words = words_of(rt.alloc(), "  write a  PAGE\t1 ")?;
-    assert_eq!(rt; words.as_slice(), ["write", "a", "PAGE\t1"].as_slice());
+    assert!(rt; words.as_slice() == ["write", "a", "PAGE\t1"].as_slice());
     assert!(rt; words_of(rt.alloc(), "   ")?.is_empty());
     Ok(())
 }
@@ -36,7 +45,7 @@ fn decimals(rt: HostRuntime) {
         ("18446744073709551615", u64::MAX, Some(u64::MAX)),
         ("18446744073709551616", u64::MAX, None),
     ] {
-        assert_eq!(rt; decimal_within(text, most), want, "{text}");
+        assert!(rt; decimal_within(text, most) == want, "{text}");
     }
 }
 
@@ -53,11 +62,11 @@ fn digits(rt: HostRuntime) -> Result<(), Fail> {
         ("10000", None, None),
         ("", None, None),
     ] {
-        assert_eq!(rt; pair_of(text), pair, "{text}");
-        assert_eq!(rt; hex_number(text), number, "{text}");
+        assert!(rt; pair_of(text) == pair, "{text}");
+        assert!(rt; hex_number(text) == number, "{text}");
     }
     let bytes = pairs_of(rt.alloc(), "009911FF")?.ok_or("pairs")?;
-    assert_eq!(rt; bytes.as_slice(), [0x00, 0x99, 0x11, 0xFF].as_slice());
+    assert!(rt; bytes.as_slice() == [0x00, 0x99, 0x11, 0xFF].as_slice());
     assert!(rt; pairs_of(rt.alloc(), "")?.ok_or("none")?.is_empty());
     for text in ["009", "0g", "a0", "00 11"] {
         assert!(rt; pairs_of(rt.alloc(), text)?.is_none(), "{text}");
@@ -70,7 +79,7 @@ fn printed_digits(rt: HostRuntime) -> Result<(), Fail> {
     let mut text = String::from_str(rt.alloc(), "S ")?;
     push_pair(&mut text, 0x8A)?;
     push_word(&mut text, 0x0840)?;
-    assert_eq!(rt; text.as_str(), "S 8A0840");
+    assert!(rt; text.as_str() == "S 8A0840");
     Ok(())
 }
 
@@ -96,8 +105,8 @@ fn one_byte(alloc: Global, byte: Option<u8>) -> Result<Vec<u8>, ReadError<u8>> {
 
 #[test]
 fn faults(rt: HostRuntime) -> Result<(), Fail> {
-    assert_eq!(rt; one_byte(rt.alloc(), Some(3))?.as_slice(), [3].as_slice());
-    assert_eq!(rt; one_byte(rt.alloc(), None).err(), Some(ReadError::Fault(7)));
+    assert!(rt; one_byte(rt.alloc(), Some(3))?.as_slice() == [3].as_slice());
+    assert!(rt; one_byte(rt.alloc(), None).err() == Some(ReadError::Fault(7)));
     Ok(())
 }
 
@@ -137,7 +146,7 @@ fn texts_are_sent_whole_or_cut_short(rt: HostRuntime) {
             taken: Vec::new(rt.alloc()),
             calls_left,
         };
-        assert_eq!(rt; send(&mut writer, b"frame"), want);
-        assert_eq!(rt; writer.taken.as_slice(), taken);
+        assert!(rt; send(&mut writer, b"frame") == want);
+        assert!(rt; writer.taken.as_slice() == taken);
     }
 }

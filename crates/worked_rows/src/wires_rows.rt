@@ -22,18 +22,18 @@ fn lines(scl: bool, sda: bool) -> Sample {
 
 #[test]
 fn nobody_pulls(rt: HostRuntime) {
-    assert_eq!(rt; wired(&[]), IDLE);
+    assert!(rt; wired(&[]) == IDLE);
 }
 
 #[test]
 fn one_pulls_each_line(rt: HostRuntime) {
     let pulled = wired(&[lines(false, true), IDLE, lines(true, false)]);
-    assert_eq!(rt; pulled, lines(false, false));
+    assert!(rt; pulled == lines(false, false));
     let alerted = Sample {
         alert: false,
         ..IDLE
     };
-    assert_eq!(rt; wired(&[IDLE, alerted]), alerted);
+    assert!(rt; wired(&[IDLE, alerted]) == alerted);
 }
 
 // A frame that is cut in its first slot has these events.
@@ -49,7 +49,7 @@ fn start_and_stop(rt: HostRuntime) -> Result<(), Fail> {
     ];
     let seen = events(rt.alloc(), &samples)?;
     let wanted = [Event::Start, Event::Rise(false), Event::Stop];
-    assert_eq!(rt; seen.as_slice(), wanted.as_slice());
+    assert!(rt; seen.as_slice() == wanted.as_slice());
     Ok(())
 }
 
@@ -67,7 +67,7 @@ fn held_low(alloc: Global) -> Result<Runs, AllocError> {
 #[test]
 fn equal_samples_are_one_run(rt: HostRuntime) -> Result<(), Fail> {
     let samples = held_low(rt.alloc())?;
-    assert_eq!(rt; (samples.total(), samples.runs().len()), (16, 3));
+    assert!(rt; (samples.total(), samples.runs().len()) == (16, 3));
     for (place, want) in [
         (0, true),
         (2, true),
@@ -76,15 +76,14 @@ fn equal_samples_are_one_run(rt: HostRuntime) -> Result<(), Fail> {
         (13, true),
         (15, true),
     ] {
-        assert_eq!(rt;
-            samples.sample_at(place).map(|sample| sample.scl),
-            Some(want),
+        assert!(rt;
+            samples.sample_at(place).map(|sample| sample.scl) == Some(want),
             "{place}"
         );
     }
-    assert_eq!(rt; samples.sample_at(16), None);
+    assert!(rt; samples.sample_at(16) == None);
     let seen = events_of(rt.alloc(), &samples)?;
-    assert_eq!(rt; seen.as_slice(), [Event::Rise(true)].as_slice());
+    assert!(rt; seen.as_slice() == [Event::Rise(true)].as_slice());
     Ok(())
 }
 
@@ -94,13 +93,23 @@ fn runs_are_joined(rt: HostRuntime) -> Result<(), Fail> {
     let mut later = Runs::new(alloc);
     later.push(IDLE, 4)?;
     let mut first = Runs::new(alloc);
-    assert_eq!(rt; (first.total(), first.sample_at(0)), (0, None));
+    assert!(rt; (first.total(), first.sample_at(0)) == (0, None));
     first.push(lines(true, false), 1)?;
     first.push(IDLE, 1)?;
     let both = Runs::joined(alloc, &first, &later)?;
-    assert_eq!(rt; (both.total(), both.runs().len()), (6, 2));
+    assert!(rt; (both.total(), both.runs().len()) == (6, 2));
     let seen = events_of(alloc, &both)?;
-    assert_eq!(rt; seen.as_slice(), [Event::Stop].as_slice());
+    assert!(rt; seen.as_slice() == [Event::Stop].as_slice());
+    Ok(())
+}
+
+#[test]
+fn cleared_runs_have_no_samples(rt: HostRuntime) -> Result<(), Fail> {
+    let mut samples = held_low(rt.alloc())?;
+    samples.clear();
+    assert!(rt; (samples.total(), samples.runs().len()) == (0, 0));
+    samples.push(IDLE, 2)?;
+    assert!(rt; (samples.total(), samples.sample_at(1)) == (2, Some(IDLE)));
     Ok(())
 }
 
@@ -108,11 +117,11 @@ fn runs_are_joined(rt: HostRuntime) -> Result<(), Fail> {
 fn lowest_byte_wins(rt: HostRuntime) -> Result<(), Fail> {
     let alloc = rt.alloc();
     let (byte, winners) = arbitrate(alloc, &[0x80, 0x42])?.ok_or("nobody")?;
-    assert_eq!(rt; byte, 0x42);
-    assert_eq!(rt; winners.as_slice(), [1].as_slice());
+    assert!(rt; byte == 0x42);
+    assert!(rt; winners.as_slice() == [1].as_slice());
     let (byte, winners) = arbitrate(alloc, &[5, 5])?.ok_or("nobody")?;
-    assert_eq!(rt; byte, 5);
-    assert_eq!(rt; winners.as_slice(), [0, 1].as_slice());
+    assert!(rt; byte == 5);
+    assert!(rt; winners.as_slice() == [0, 1].as_slice());
     assert!(rt; arbitrate(alloc, &[])?.is_none());
     Ok(())
 }

@@ -1,6 +1,6 @@
 //! Readers that end late or fail, and writers that fail.
 
-use super::{ALERTING, TRACES, run_bundle};
+use super::{ASKED, ASKING};
 use session::{DeviceFault, Status, answer, session};
 use std::alloc::Global;
 use std::io;
@@ -93,8 +93,8 @@ fn the_size_limit(rt: HostRuntime) {
     ] {
         let mut output = Vec::new(rt.alloc());
         let status = session(rt.alloc(), &mut Lines { left }, &mut output);
-        assert_eq!(rt; status, Status::InputFault);
-        assert_eq!(rt; output.as_slice(), want);
+        assert!(rt; status == Status::InputFault);
+        assert!(rt; output.as_slice() == want);
     }
 }
 
@@ -112,7 +112,7 @@ fn the_reader_fails_at_each_call(rt: HostRuntime) {
         };
         let mut output = Vec::new(rt.alloc());
         let ended = answer(rt.alloc(), &mut reader, &mut output);
-        assert_eq!(rt; ended, Err(DeviceFault::Reader), "{calls_left}");
+        assert!(rt; ended == Err(DeviceFault::Reader), "{calls_left}");
         assert!(rt; output.is_empty());
     }
     let mut reader = SlowReader {
@@ -120,11 +120,8 @@ fn the_reader_fails_at_each_call(rt: HostRuntime) {
         calls_left: FRAME.len() + 1,
     };
     let mut output = Vec::new(rt.alloc());
-    assert_eq!(rt;
-        session(rt.alloc(), &mut reader, &mut output),
-        Status::Accepted
-    );
-    assert_eq!(rt; output.as_slice(), FRAME_REPLY);
+    assert!(rt; session(rt.alloc(), &mut reader, &mut output) == Status::Accepted);
+    assert!(rt; output.as_slice() == FRAME_REPLY);
 }
 
 /// The bundle with blank lines behind the command, one byte a call.
@@ -161,7 +158,7 @@ impl Read for PaddedReader {
 fn the_reader_ends_in_time(rt: HostRuntime) {
     let mut output = Vec::new(rt.alloc());
     let ended = answer(rt.alloc(), &mut EndlessReader, &mut output);
-    assert_eq!(rt; ended, Err(DeviceFault::Reader));
+    assert!(rt; ended == Err(DeviceFault::Reader));
     assert!(rt; output.is_empty());
     let (head, tail) = FRAME.split_at(7);
     let blanks = 1_048_575 - FRAME.len();
@@ -172,7 +169,7 @@ fn the_reader_ends_in_time(rt: HostRuntime) {
         let mut reader = PaddedReader { head, blanks, tail };
         let mut output = Vec::new(rt.alloc());
         let ended = session(rt.alloc(), &mut reader, &mut output);
-        assert_eq!(rt; (ended, output.as_slice()), want);
+        assert!(rt; (ended, output.as_slice()) == want);
     }
 }
 
@@ -206,16 +203,12 @@ fn all_stop(rt: &impl Abort, alloc: Global, bundle: &[u8], want: &[u8]) {
         fails: true,
     };
     let mut reader = bundle;
-    assert_eq!(rt; session(alloc, &mut reader, &mut output), Status::Accepted);
-    assert_eq!(rt; output.taken.as_slice(), want);
+    assert!(rt; session(alloc, &mut reader, &mut output) == Status::Accepted);
+    assert!(rt; output.taken.as_slice() == want);
 }
 
 #[test]
-fn the_writer_fails_at_each_call(rt: HostRuntime) -> Result<(), Fail> {
-    let alloc = rt.alloc();
-    all_stop(&rt, alloc, FRAME, FRAME_REPLY);
-    let (program, answers, want) = TRACES[0];
-    let bundle = run_bundle(alloc, ALERTING, program, answers)?;
-    all_stop(&rt, alloc, bundle.as_bytes(), want.as_bytes());
-    Ok(())
+fn the_writer_fails_at_each_call(rt: HostRuntime) {
+    all_stop(&rt, rt.alloc(), FRAME, FRAME_REPLY);
+    all_stop(&rt, rt.alloc(), ASKING.as_bytes(), ASKED.as_bytes());
 }

@@ -32,9 +32,9 @@ fn none_ends(rt: &impl Abort, observer: &mut Observer, events: &[Event]) -> Resu
 
 /// Tries that there is one frame, and its text.
 fn is_one(rt: &impl Abort, alloc: Global, frames: &[Frame], want: &str) -> Result<(), Fail> {
-    assert_eq!(rt; frames.len(), 1);
+    assert!(rt; frames.len() == 1);
     let frame = frames.first().ok_or("no frame")?;
-    assert_eq!(rt; frame_text(alloc, frame)?.as_str(), want);
+    assert!(rt; frame_text(alloc, frame)?.as_str() == want);
     Ok(())
 }
 
@@ -45,14 +45,11 @@ fn event_by_event(rt: HostRuntime) -> Result<(), Fail> {
     let (last, before) = events.split_last().ok_or("no events")?;
     let mut observer = Observer::new(alloc);
     none_ends(&rt, &mut observer, before)?;
-    assert_eq!(rt; observer.fed(), before.len() as u64);
-    assert_eq!(rt;
-        observer.finish(),
-        Err(ObserveFault::NotFrames(before.len()))
-    );
+    assert!(rt; observer.fed() == before.len() as u64);
+    assert!(rt; observer.finish() == Err(ObserveFault::NotFrames(before.len())));
     let frames = feed(&rt, &mut observer, &[*last])?;
-    assert_eq!(rt; observer.fed(), events.len() as u64);
-    assert_eq!(rt; observer.finish(), Ok(()));
+    assert!(rt; observer.fed() == events.len() as u64);
+    assert!(rt; observer.finish() == Ok(()));
     is_one(&rt, alloc, &frames, STATUS_FRAME)
 }
 
@@ -68,8 +65,8 @@ fn frames_cut_at(
     let mut observer = Observer::new(alloc);
     let mut frames = feed(rt, &mut observer, first)?;
     frames.append(&mut feed(rt, &mut observer, later)?)?;
-    assert_eq!(rt; observer.fed(), events.len() as u64);
-    assert_eq!(rt; observer.finish(), Ok(()));
+    assert!(rt; observer.fed() == events.len() as u64);
+    assert!(rt; observer.finish() == Ok(()));
     Ok(frames)
 }
 
@@ -86,8 +83,8 @@ fn cut_in_two(rt: HostRuntime) -> Result<(), Fail> {
 
 /// Tries that a piece, and the end of the stream behind it, has this fault.
 fn faults(rt: &impl Abort, observer: &mut Observer, piece: &[Event], want: ObserveFault) {
-    assert_eq!(rt; feed(rt, observer, piece).err(), Some(want));
-    assert_eq!(rt; observer.finish(), Err(want));
+    assert!(rt; feed(rt, observer, piece).err() == Some(want));
+    assert!(rt; observer.finish() == Err(want));
 }
 
 #[test]
@@ -100,18 +97,18 @@ fn stray_stop(rt: HostRuntime) {
         ObserveFault::NotFrames(0),
     );
     faults(&rt, &mut observer, &[], ObserveFault::NotFrames(0));
-    assert_eq!(rt; observer.fed(), 0);
+    assert!(rt; observer.fed() == 0);
 }
 
 #[test]
 fn open_frame(rt: HostRuntime) -> Result<(), Fail> {
     let mut observer = Observer::new(rt.alloc());
     none_ends(&rt, &mut observer, &[Event::Start])?;
-    assert_eq!(rt; observer.finish(), Err(ObserveFault::NotFrames(1)));
+    assert!(rt; observer.finish() == Err(ObserveFault::NotFrames(1)));
     let frames = feed(&rt, &mut observer, &[Event::Rise(false), Event::Stop])?;
     is_one(&rt, rt.alloc(), &frames, "S P")?;
-    assert_eq!(rt; observer.finish(), Ok(()));
-    assert_eq!(rt; observer.fed(), 3);
+    assert!(rt; observer.finish() == Ok(()));
+    assert!(rt; observer.fed() == 3);
     // The second event of this piece doesn't go on, so none of it is taken.
     let piece = [Event::Start, Event::Stop];
     faults(&rt, &mut observer, &piece, ObserveFault::NotFrames(4));
@@ -121,6 +118,6 @@ fn open_frame(rt: HostRuntime) -> Result<(), Fail> {
         &[Event::Start],
         ObserveFault::NotFrames(4),
     );
-    assert_eq!(rt; observer.fed(), 3);
+    assert!(rt; observer.fed() == 3);
     Ok(())
 }
