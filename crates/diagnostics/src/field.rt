@@ -113,7 +113,11 @@ fn takes(alloc: Global, key: &str, value: &str) -> Result<bool, AllocError> {
 
 /// The keys of fields.
 fn keys_of(alloc: Global, fields: &[Field]) -> Result<Vec<&'static str>, AllocError> {
-    fields.iter().map(|field| field.key).collect(alloc)
+    let mut keys = Vec::new(alloc);
+    for field in fields {
+        keys.push(field.key)?;
+    }
+    Ok(keys)
 }
 
 /// What is said of a word that has no key of the fields.

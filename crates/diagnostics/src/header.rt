@@ -38,11 +38,10 @@ fn sections_help(alloc: Global, text: &str) -> Result<Option<String>, AllocError
     let Some(command) = command_in(text) else {
         return Ok(None);
     };
-    let names: Vec<&str> = command
-        .headers()
-        .iter()
-        .map(|header| header.text())
-        .collect(alloc)?;
+    let mut names = Vec::new(alloc);
+    for header in command.headers() {
+        names.push(header.text())?;
+    }
     let names = listed(alloc, &names)?;
     Ok(Some(format!(in alloc; "the sections here are {names}, in this order")?))
 }

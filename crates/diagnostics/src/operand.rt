@@ -124,7 +124,11 @@ pub(crate) fn operands_of(word: &str) -> Option<&'static [Operand]> {
 
 /// The first words of all instructions.
 pub(crate) fn instruction_words(alloc: Global) -> Result<Vec<&'static str>, AllocError> {
-    INSTRUCTIONS.iter().map(|(name, _)| *name).collect(alloc)
+    let mut words = Vec::new(alloc);
+    for (word, _) in &INSTRUCTIONS {
+        words.push(*word)?;
+    }
+    Ok(words)
 }
 
 impl Operand {

@@ -48,9 +48,12 @@ fn command_suggestion(
     operand: Operand,
 ) -> Result<Option<String>, AllocError> {
     let names = command_names(alloc, operand)?;
-    let names: Vec<&str> = names.iter().map(|name| name.as_str()).collect(alloc)?;
+    let mut candidates = Vec::new(alloc);
+    for name in &names {
+        candidates.push(name.as_str())?;
+    }
     let word = word.to_ascii_uppercase(alloc)?;
-    suggestion(alloc, &word, &names)
+    suggestion(alloc, &word, &candidates)
 }
 
 /// What can be done with a named command, by a form.

@@ -130,7 +130,11 @@ impl Kind {
 
     /// The names of the keys that its tables may have, those that are needed first.
     pub(crate) fn key_names(self, alloc: Global) -> Result<Vec<&'static str>, AllocError> {
-        self.keys().iter().map(|(name, _)| *name).collect(alloc)
+        let mut names = Vec::new(alloc);
+        for (name, _) in self.keys() {
+            names.push(*name)?;
+        }
+        Ok(names)
     }
 
     /// What stands at a key, in words.
