@@ -28,9 +28,8 @@ use Rattle.session.specs.Scenarios.{start_of}
 use Rattle.table_check.specs.Obligations.{IsInductive}
 use Rattle.table_check.specs.Tables.{Table}
 use Rattle.diagnostics.specs.Accepted.{AdmittedKeepRules}
-use Rattle.diagnostics.specs.Breaches.{ComesTo, KeepsRulesAt, Breaks, IsFirstBreach}
-use Rattle.diagnostics.specs.declared.breach.Breach.{Breach}
-use Rattle.diagnostics.specs.Known.{Knows, KeepsRules, IsBreach, known_row}
+use Rattle.diagnostics.specs.Breaches.{KeepsRulesAt, IsFirstBreach}
+use Rattle.diagnostics.specs.Known.{known_row}
 use Rattle.diagnostics.specs.Runs.{GoesOn, SendsNothing}
 use Rattle.diagnostics.proofs.JudgedRuns.{IsJudged, IsTold, kept_here, kept_at}
 use Rattle.diagnostics.proofs.Replayed.{IsReplayed, next_is}

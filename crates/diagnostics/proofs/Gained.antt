@@ -3,7 +3,7 @@ use Rattle.std.proofs.Common.{◌≡◌, ◌<◌, ◌≤◌, ◌+◌, ◌∙◌,
 use Rattle.std.proofs.Common.{ap}
 use Rattle.std.proofs.Common.{inl, inr, sym, subst, arith}
 use Rattle.std.specs.Prelude.{IsTrue, ◌==◌}
-use Rattle.std.proofs.lemmas.Bool.{cases_eq, cases_Bool}
+use Rattle.std.proofs.lemmas.Bool.{cases_eq}
 use Rattle.std.proofs.lemmas.Bool.Decides.{nat_tests}
 use Rattle.facts.specs.Sets.{Set}
 

@@ -1,11 +1,10 @@
 -- What is known after a step.
-use Rattle.std.proofs.Common.{◌≡◌, ◌<◌, ◌∙◌, ◌∷◌, ◌⊎◌, ℕ, List, [], length, slice_get, Option, Some}
-use Rattle.std.proofs.Common.{None, inl, inr, refl, sym, ap, subst}
+use Rattle.std.proofs.Common.{◌≡◌, ◌<◌, ◌∙◌, ◌∷◌, ℕ, List, [], length, slice_get, Option, Some}
+use Rattle.std.proofs.Common.{None, inl, inr, sym, ap, subst}
 use Rattle.std.specs.Prelude.{IsTrue}
 use Rattle.smbus.specs.Asked.{Asked}
 use Rattle.smbus.specs.Answered.{Answered}
 use Rattle.board.specs.Boards.{Board}
-use Rattle.targets.specs.States.{BusState}
 use Rattle.seq_program.specs.declared.instr.Instr.{Instr}
 use Rattle.seq_program.specs.Messages.{message_of}
 use Rattle.simulator.specs.Machines.{Machine, Entry}

@@ -1,28 +1,22 @@
 -- A run that is judged step by step.
-use Rattle.std.proofs.Common.{◌≡◌, ◌<◌, ◌≤◌, ◌+◌, ◌^◌, ◌⊎◌, ◌∷◌, ◌++◌, ℕ, List, [], Option, Some}
+use Rattle.std.proofs.Common.{◌≡◌, ◌<◌, ◌+◌, ◌^◌, ◌⊎◌, ◌∷◌, ◌++◌, ℕ, List, [], Option, Some}
 use Rattle.std.proofs.Common.{None}
-use Rattle.std.proofs.Common.{length, reverse, take, drop, slice_get, Bool, true, false, zero, suc}
-use Rattle.std.proofs.Common.{All, refl, sym, subst, ap, ◌∙◌, inl, inr, arith}
+use Rattle.std.proofs.Common.{length, reverse, take, slice_get, Bool, true, false, zero, suc}
+use Rattle.std.proofs.Common.{refl, sym, subst, ap, inl, inr, arith}
 use Rattle.std.specs.Prelude.{IsTrue, Result, Ok, Err, IfOk, IfSome}
 use Rattle.std.proofs.Math.Path.{fun_ext}
 use Rattle.std.proofs.lemmas.List.{reverse-append}
-use Rattle.std.proofs.lemmas.Option.{slice_get_within}
 use Rattle.smbus.specs.Answered.{Answered}
 use Rattle.board.specs.Boards.{Board}
 use Rattle.board.specs.Valid.{IsBoard}
-use Rattle.targets.specs.States.{BusState, IsStart}
-use Rattle.targets.specs.Fitting.{FitsStep}
+use Rattle.targets.specs.States.{IsStart}
 use Rattle.seq_program.specs.declared.instr.Instr.{Instr}
-use Rattle.seq_program.specs.Messages.{message_of}
-use Rattle.seq_program.specs.Valid.{IsOnBoard, IsProgram}
-use Rattle.simulator.specs.declared.fault.RunFault.{RunFault}
-use Rattle.simulator.specs.declared.fault.RunFault.TheVariants as faults
+use Rattle.seq_program.specs.Valid.{IsProgram}
 use Rattle.simulator.specs.declared.machine.Ending.TheVariants.{Running}
-use Rattle.simulator.specs.Faults.{most_ticks, IsStepFault}
 use Rattle.simulator.specs.Machines.{Machine, Entry, start_at}
-use Rattle.simulator.specs.RunLaws.{RunsAreOne, StepsAreOne}
+use Rattle.simulator.specs.RunLaws.{RunsAreOne}
 use Rattle.simulator.specs.StepLaws.{IsReady, StartsAreReady, StepsAreSeen}
-use Rattle.simulator.specs.Steps.{IsStep, IsRun, total_ticks}
+use Rattle.simulator.specs.Steps.{IsStep}
 use Rattle.facts.specs.declared.rule.Rule.{Rule}
 use Rattle.facts.specs.declared.rule.Rule.TheVariants.{K1, K2, K3, K4, K5, K6, K7, K8, K9}
 use Rattle.facts.specs.Duties.{Meets, MeetsSent, IsFirstFailing, duties}
@@ -34,12 +28,10 @@ use Rattle.session.specs.Scenarios.{start_of}
 use Rattle.table_check.specs.Admitted.{IsAdmitted, StartsAreAdmitted, StepsStayAdmitted}
 use Rattle.table_check.specs.Obligations.{IsInductive}
 use Rattle.table_check.specs.Tables.{Table}
-use Rattle.diagnostics.specs.Accepted.{AdmittedKeepRules}
-use Rattle.diagnostics.specs.Breaches.{ComesTo, KeepsRulesAt, Breaks, IsFirstBreach}
-use Rattle.diagnostics.specs.declared.breach.Breach.{Breach}
+use Rattle.diagnostics.specs.Breaches.{ComesTo, KeepsRulesAt}
 use Rattle.diagnostics.specs.Known.{Knows, KeepsRules, IsBreach, known_row}
-use Rattle.diagnostics.specs.Runs.{IsNextStep, GoesOn, SendsNothing}
-use Rattle.diagnostics.proofs.Replayed.{IsReplayed, nothing_done, one_more, next_is}
+use Rattle.diagnostics.specs.Runs.{IsNextStep}
+use Rattle.diagnostics.proofs.Replayed.{IsReplayed, nothing_done, one_more}
 
 -- where a run has come to, with so many answers left
 pub record IsJudged (s : Scenario) (left : List Answered) (index ticks : ℕ) (m : Machine)

@@ -1,6 +1,6 @@
 -- Lists by their places, and the parts of a row by theirs.
-use Rattle.std.proofs.Common.{◌≡◌, ◌<◌, ◌≤◌, ℕ, zero, suc, List, [], ◌∷◌, length, map, slice_get}
-use Rattle.std.proofs.Common.{slice_index, slice_index_or, Some, None, All, refl, ap, subst, arith}
+use Rattle.std.proofs.Common.{◌≡◌, ◌<◌, ℕ, zero, suc, List, [], ◌∷◌, length, map, slice_get}
+use Rattle.std.proofs.Common.{slice_index, slice_index_or, Some, All, refl, ap, subst, arith}
 use Rattle.std.specs.Prelude.{IsTrue}
 use Rattle.std.proofs.lemmas.Bool.Decides.{nat_tests}
 use Rattle.facts.specs.declared.span.Span.{Span}

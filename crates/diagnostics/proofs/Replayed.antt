@@ -13,7 +13,7 @@ use Rattle.simulator.specs.declared.fault.RunFault.{RunFault}
 use Rattle.simulator.specs.declared.fault.RunFault.TheVariants as faults
 use Rattle.simulator.specs.Faults.{most_ticks, IsStepFault, FailsAt}
 use Rattle.simulator.specs.Machines.{Machine, Entry, start_at, IsMachine}
-use Rattle.simulator.specs.Steps.{IsStep, IsRun, total_ticks}
+use Rattle.simulator.specs.Steps.{IsRun, total_ticks}
 use Rattle.simulator.specs.Traces.{Trace, IsSeen}
 use Rattle.simulator.proofs.Runs.{next_run, seen_more, sum_more, fails_here}
 use Rattle.diagnostics.specs.Runs.{IsNextStep}

@@ -1,32 +1,28 @@
 -- Where a row admits a machine, the rules that it keeps are kept by what is known of the machine.
-use Rattle.std.proofs.Common.{◌≡◌, ◌<◌, ◌≤◌, ◌∙◌, ◌⊎◌, ℕ, zero, suc, List, length, map, slice_get}
+use Rattle.std.proofs.Common.{◌≡◌, ◌<◌, ◌≤◌, ◌∙◌, ◌⊎◌, ℕ, zero, suc, List, length, map}
 use Rattle.std.proofs.Common.{slice_index}
-use Rattle.std.proofs.Common.{Some, All, replicate, refl, sym, ap, subst, inl, inr, arith}
-use Rattle.std.specs.Prelude.{IsTrue, slice_index_or}
+use Rattle.std.proofs.Common.{replicate, refl, sym, subst, inl, inr, arith}
+use Rattle.std.specs.Prelude.{IsTrue}
 use Rattle.std.proofs.lemmas.List.{length-map}
 use Rattle.pmbus_table.specs.Protect.{is_protection}
 use Rattle.board.specs.Boards.{Target, Board}
-use Rattle.board.specs.Valid.{IsBoard, is_page_value}
-use Rattle.targets.specs.States.{IsTargetAt, Belongs}
+use Rattle.board.specs.Valid.{is_page_value}
+use Rattle.targets.specs.States.{Belongs}
 use Rattle.seq_program.specs.declared.instr.Instr.{Instr}
-use Rattle.seq_program.specs.Valid.{IsProgram, IsInstr, IsOnBoard, IsSaid}
+use Rattle.seq_program.specs.Valid.{IsInstr, IsOnBoard, IsSaid}
 use Rattle.simulator.specs.declared.machine.Ending.TheVariants.{Running}
 use Rattle.simulator.specs.Machines.{Machine, Entry}
 use Rattle.simulator.specs.StepLaws.{IsReady}
-use Rattle.facts.specs.declared.rule.Rule.{Rule}
-use Rattle.facts.specs.declared.source.Source.{Source}
-use Rattle.facts.specs.declared.source.Source.TheVariants as source
 use Rattle.facts.specs.declared.span.Span.{Span}
 use Rattle.facts.specs.Duties.{one, Meets}
-use Rattle.facts.specs.FactLaws.{IsShaped, Wider, DutiesAreKept}
+use Rattle.facts.specs.FactLaws.{IsShaped, DutiesAreKept}
 use Rattle.facts.specs.Rows.{Row, Admits, IsRow, IsSetOf, IsSource, IsSpan, RowCovers, SetCovers}
-use Rattle.facts.specs.Rows.{set_at, span_at, most_ticks}
+use Rattle.facts.specs.Rows.{set_at, most_ticks}
 use Rattle.facts.specs.Sets.{Set, only}
-use Rattle.table_check.specs.Admitted.{HasRow, IsAdmitted}
+use Rattle.table_check.specs.Admitted.{HasRow}
 use Rattle.table_check.specs.ByPlace.{InductiveByPlace}
-use Rattle.table_check.specs.Tables.{Table}
 use Rattle.diagnostics.specs.Accepted.{AdmittedKeepRules}
-use Rattle.diagnostics.specs.Known.{known_row, Knows, KeepsRules}
+use Rattle.diagnostics.specs.Known.{known_row, Knows}
 use Rattle.diagnostics.proofs.Places.{found, within, each_at, all_index, only_at, one_at, is_only}
 use Rattle.diagnostics.proofs.Places.{in_only, as_many, in_span, spans_cover}
 use Rattle.diagnostics.proofs.Sources.{from_nowhere, meets, no_source}

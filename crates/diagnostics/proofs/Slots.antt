@@ -1,7 +1,7 @@
 -- The slots of a Read Word and of a Write Byte.
-use Rattle.std.proofs.Common.{◌≡◌, ◌≤◌, ◌⊎◌, ◌+◌, inl, inr, ◌*◌, ◌/◌, ◌∙◌, ℕ, Option, Some, None}
-use Rattle.std.proofs.Common.{List, [], ◌∷◌}
-use Rattle.std.proofs.Common.{length, take, min, refl, ap, sym, subst, arith}
+use Rattle.std.proofs.Common.{◌≡◌, ◌≤◌, ◌+◌, inl, inr, ◌/◌, ◌∙◌, ℕ, Option, Some, None}
+use Rattle.std.proofs.Common.{List}
+use Rattle.std.proofs.Common.{length, take, min, refl, ap, sym, arith}
 use Rattle.std.specs.Prelude.{IfSome, IsTrue, ◌==◌, ◌↔◌}
 use Rattle.std.proofs.lemmas.Bool.Decides.{nat_tests}
 use Rattle.smbus.specs.MessageFrame.{IsCutLate}

@@ -1,16 +1,14 @@
 -- Duties don't ask where values come from.
-use Rattle.std.proofs.Common.{◌≡◌, ◌<◌, ℕ, zero, suc, List, Option, Some, None, replicate, refl}
+use Rattle.std.proofs.Common.{◌≡◌, ℕ, zero, suc, Option, Some, None, replicate, refl}
 use Rattle.std.specs.Prelude.{slice_index_or}
 use Rattle.board.specs.Boards.{Allow, Board}
 use Rattle.seq_program.specs.declared.instr.Instr.{Instr}
-use Rattle.seq_program.specs.declared.instr.Written.{Written}
 use Rattle.seq_program.specs.declared.instr.Written.TheVariants as written
 use Rattle.facts.specs.declared.rule.Rule.{Rule}
 use Rattle.facts.specs.declared.rule.Rule.TheVariants.{K1, K2, K3, K4, K5, K6, K7, K8, K9}
-use Rattle.facts.specs.declared.source.Source.{Source}
 use Rattle.facts.specs.declared.source.Source.TheVariants as source
-use Rattle.facts.specs.Duties.{Meets, MeetsSent, MeetsAt, MayBeSent, IsInEntry, IsWithinRange}
-use Rattle.facts.specs.Duties.{written_span, CommandsWithinLimits, HasNeeds}
+use Rattle.facts.specs.Duties.{Meets, MeetsSent, MeetsAt, MayBeSent, IsInEntry}
+use Rattle.facts.specs.Duties.{CommandsWithinLimits, HasNeeds}
 use Rattle.facts.specs.Requests.{Request, Sent, sent_in}
 use Rattle.facts.specs.Requests.Request.{QuickTo, Send, Receive, Write, Read, Call, PutBlock}
 use Rattle.facts.specs.Requests.Request.{GetBlock, CallBlock}

@@ -1,17 +1,16 @@
 -- Lists of sets that hold what is stored.
 use Rattle.std.proofs.Common.{◌≡◌, ◌<◌, ◌≤◌, ◌+◌, ◌∙◌, ℕ, zero, suc, List, [], ◌∷◌, ◌++◌, drop}
 use Rattle.std.proofs.Common.{length, map, slice_index_or, refl, ap, sym, subst, All, arith}
-use Rattle.std.specs.Prelude.{IsTrue, slice_index, slice_get, Some}
+use Rattle.std.specs.Prelude.{IsTrue, slice_index}
 use Rattle.std.proofs.lemmas.Bool.Decides.{nat_tests}
 use Rattle.std.proofs.lemmas.List.{map-append, append_assoc}
 use Rattle.std.proofs.Math.Seq.{drop-cons}
 use Rattle.pmbus_table.specs.Protect.{is_protection}
 use Rattle.board.specs.Boards.{Target, Board}
 use Rattle.board.specs.Valid.{IsBoard, IsTarget, is_page_value}
-use Rattle.facts.specs.declared.span.Span.{Span}
 use Rattle.facts.specs.Duties.{one}
 use Rattle.facts.specs.Sets.{Set, only, is_page, is_protect}
-use Rattle.targets.specs.States.{BusState, Belongs, IsTargetAt}
+use Rattle.targets.specs.States.{BusState, Belongs}
 use Rattle.diagnostics.proofs.Places.{found, each_at}
 
 -- one more set is pushed

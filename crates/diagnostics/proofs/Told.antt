@@ -1,5 +1,5 @@
 -- What a rail's last report is after a step.
-use Rattle.std.proofs.Common.{◌≡◌, ◌∙◌, ◌∷◌, ◌⊎◌, ℕ, Bool, true, false, not, List, Option, Some}
+use Rattle.std.proofs.Common.{◌≡◌, ◌∙◌, ◌∷◌, ℕ, Bool, true, false, not, Some}
 use Rattle.std.proofs.Common.{inl, inr, refl, sym, subst}
 use Rattle.std.specs.Prelude.{IsTrue, ◌↔◌}
 use Rattle.smbus.specs.Asked.{Asked}
@@ -7,9 +7,8 @@ use Rattle.smbus.specs.Answered.{Answered}
 use Rattle.pmbus_table.specs.Status.{reported_good}
 use Rattle.board.specs.Boards.{Board}
 use Rattle.targets.specs.States.{BusState}
-use Rattle.simulator.specs.Machines.{Entry}
-use Rattle.simulator.specs.Reports.{Reports, Withdraws, LastReport, IsReportedGood}
-use Rattle.simulator.specs.StepDoes.{StepDoes, MessageReports, MessageWithdraws}
+use Rattle.simulator.specs.Reports.{Withdraws, LastReport, IsReportedGood}
+use Rattle.simulator.specs.StepDoes.{MessageReports, MessageWithdraws}
 use Rattle.diagnostics.specs.Telling.{TellsAfter}
 
 both : (x : Bool) → IsTrue x → IsTrue (not x) → ⊥

@@ -1,8 +1,11 @@
--- What a note on a board file names.
-use Rattle.std.specs.Prelude.{◌≢◌, ℕ, List, Option, String, IsSome, IsSomeAnd, codes, string_bytes}
+-- What a note on a board file, or a warning of it, names.
+use Rattle.std.specs.Prelude.{◌≢◌, ℕ, List, [], Option, String, IsSome, IsSomeAnd, codes}
+use Rattle.std.specs.Prelude.{option_map, string_bytes, unwrap_or}
 use Rattle.std.specs.Global.{Global}
 use Rattle.texts.specs.Words.{lines_by_feed}
-use Rattle.diagnostics.specs.Notes.{line_at, IsNote}
+use Rattle.session.specs.SectionTexts.{section_text}
+use Rattle.diagnostics.specs.BundlePlaces.{section_in}
+use Rattle.diagnostics.specs.Notes.{line_at, IsNote, IsNoteOf}
 
 -- the number of one of these lines, or 1 where there is none
 abbrev pub IsLineNumber : List (List ℕ) → ℕ → Type 0
@@ -14,3 +17,16 @@ IsOnSomeLine text note =
     IsSomeAnd note
     (λ n. (number : ℕ) × (IsLineNumber (lines_by_feed text) number
     × IsNote (codes "%board") number (lines_by_feed text) (string_bytes n)))
+
+-- the text of a bundle's board, and its lines
+abbrev pub board_text : List ℕ → List ℕ
+board_text text = unwrap_or (option_map section_text (section_in text 0)) []
+
+abbrev pub board_lines : List ℕ → List (List ℕ)
+board_lines text = lines_by_feed (board_text text)
+
+-- a warning on one of the lines of a board
+abbrev pub IsBoardWarning : List (List ℕ) → String Global → Type 0
+IsBoardWarning lines note =
+    (number : ℕ) × (IsLineNumber lines number
+    × IsNoteOf (codes "warning") (codes "%board") number lines (string_bytes note))

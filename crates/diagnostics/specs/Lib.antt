@@ -13,3 +13,4 @@ pub mod Known
 pub mod Breaches
 pub mod Telling
 pub mod Accepted
+pub mod Keeping

@@ -21,21 +21,30 @@ abbrev pub quoted : Option (List ℕ) → List ℕ
 quoted None = []
 quoted (Some line) = codes "    " ++ line ++ codes "\n"
 
+-- a line of what is known beside, if there is some
+abbrev pub noted : Option (List ℕ) → List ℕ
+noted None = []
+noted (Some known) = codes "note: " ++ known ++ codes "\n"
+
 -- a line of help, if there is some
 abbrev pub helped : Option (List ℕ) → List ℕ
 helped None = []
 helped (Some help) = codes "help: " ++ help ++ codes "\n"
 
 -- a note of a kind on the line of a section with this number: a message, the line itself if there
--- is one, and help
+-- is one, the facts at its place, the way that leads there, and help
 pub record IsNoteOf (kind section : List ℕ) (number : ℕ) (lines : List (List ℕ)) (note : List ℕ)
     : Type 0 where
   pub message : List ℕ
+  pub known : Option (List ℕ)
+  pub way : Option (List ℕ)
   pub help : Option (List ℕ)
   pub one_line : NoFeed message
+  pub one_known : IfSome known NoFeed
+  pub one_way : IfSome way NoFeed
   pub one_help : IfSome help NoFeed
   pub parts : note ≡ head kind section number ++ message ++ codes "\n"
-      ++ quoted (line_at number lines) ++ helped help
+      ++ quoted (line_at number lines) ++ noted known ++ noted way ++ helped help
 
 abbrev pub IsNote : List ℕ → ℕ → List (List ℕ) → List ℕ → Type 0
 IsNote section number lines note = IsNoteOf (codes "error") section number lines note

@@ -6,26 +6,34 @@ ghost use Rattle.texts.specs.Words.{lines_by_feed};
 ghost use Rattle.diagnostics.specs.Boards.{IsLineNumber, IsOnSomeLine};
 
 mod blame;
+mod circle;
 mod describe;
 mod document;
+mod doubt;
 mod draft;
 mod finding;
+mod idle;
 mod keys;
 mod kind;
 mod locate;
+mod loose;
 mod not_toml;
 mod scan;
 mod search;
 mod twice;
+mod unready;
 mod values;
 mod words;
 
 use crate::lines::line_at;
 use crate::note::note_of;
 use board::BoardFault;
+pub(crate) use doubt::{Doubt, doubts_on};
 use draft::Draft;
+pub(crate) use draft::lines_of;
 use finding::{Finding, finding_in};
 use not_toml::not_toml;
+pub(crate) use scan::number_of;
 use std::alloc::{AllocError, Global};
 
 /// The line that a fault is told on, and what is said of it.
@@ -41,7 +49,7 @@ fn finding_on(alloc: Global, text: &str, fault: BoardFault) -> Result<Finding, A
 }
 
 /// The number of a line, or 1 where the text hasn't that many.
-fn number_within(text: &str, number: usize) -> usize
+pub(crate) fn number_within(text: &str, number: usize) -> usize
     ensures { IsLineNumber (lines_by_feed text.now) result }
 {
     match line_at(text, number) {

@@ -1,12 +1,18 @@
 //! What is to blame for a refusal, with names and numbers.
 
+use crate::allowed_detail::allowed_detail;
+use crate::cause::Cause;
+use crate::edge_detail::edge_detail;
+use crate::facts_here::{facts_here, has_rail};
 use crate::quote::Quoted;
+use crate::roads::Judged;
+use crate::sent::{greatest_sent, least_sent, number_of};
+use crate::table_detail::{form_detail, start_detail};
 use board::{Board, Rail};
 use facts::{Row, Rule};
 use pmbus_table::permits;
-use seq_program::{Instr, Program, Written};
+use smbus::Message;
 use std::alloc::{AllocError, Global};
-use table_check::Table;
 
 /// The value of PAGE that stands for all pages (PMBus 1.3 Part II, 11.10).
 const ALL_PAGES: u8 = 0xFF;
@@ -25,17 +31,10 @@ fn may_touch(row: &Row, target: usize, rail: &Rail) -> bool {
     }
 }
 
-fn is_good(row: &Row, index: usize) -> bool {
-    match u8::try_from(index) {
-        Ok(index) => row.good.contains(index),
-        Err(_) => false,
-    }
-}
-
 /// The first need of a rail that isn't known to be good.
 fn missing_need(row: &Row, rail: &Rail) -> Option<usize> {
     for need in rail.needs() {
-        if !is_good(row, *need) {
+        if !has_rail(row.good, *need) {
             return Some(*need);
         }
     }
@@ -87,28 +86,18 @@ fn greatest_within(exponent: i8, limit_uv: u32) -> Option<u64> {
     Some(u64::from(limit_uv).checked_mul(scale)? / 1_000_000)
 }
 
-/// The greatest word that may be written.
-fn greatest_written(row: &Row, value: Written) -> u16 {
-    match value {
-        Written::Byte(byte) => u16::from(byte),
-        Written::Word(word) => word,
-        Written::Register(register) => row.regs[register.index()].hi,
-    }
-}
-
 /// K4: what may be written, and a limit that it is over.
 fn limit_detail(
     alloc: Global,
     board: &Board,
     row: &Row,
     target: usize,
-    value: Written,
+    most: u16,
 ) -> Result<Option<String>, AllocError> {
     let exponent = match board.target(target) {
         Some(target) => target.exponent(),
         None => 0,
     };
-    let most = greatest_written(row, value);
     for (index, rail) in board.rails().iter().enumerate() {
         let limit = rail.limit_uv();
         match greatest_within(exponent, limit) {
@@ -124,45 +113,64 @@ fn limit_detail(
     Ok(None)
 }
 
-/// What is to blame for a write that breaks a rule.
-fn write_detail(
+/// What is to blame for a message to a target that breaks a rule, and what is known there.
+fn message_cause(
     alloc: Global,
-    board: &Board,
+    judged: Judged<'_>,
     row: &Row,
     rule: Rule,
-    target: usize,
-    code: u8,
-    value: Written,
-) -> Result<Option<String>, AllocError> {
-    match rule {
-        Rule::K3 => protection_detail(alloc, board, row, target, code),
-        Rule::K4 => limit_detail(alloc, board, row, target, value),
-        Rule::K5 => need_detail(alloc, board, row, target),
-        _ => Ok(None),
+    least: &Message,
+    most: &Message,
+) -> Result<Cause, AllocError> {
+    let board = judged.board;
+    let Some(target) = board.target_at(most.address) else {
+        return Ok(Cause::none());
+    };
+    let detail = match rule {
+        Rule::K1 => allowed_detail(alloc, board, target, least, most)?,
+        Rule::K3 => protection_detail(alloc, board, row, target, most.code)?,
+        Rule::K4 => limit_detail(alloc, board, row, target, number_of(&most.out))?,
+        Rule::K5 => need_detail(alloc, board, row, target)?,
+        _ => None,
+    };
+    let known = facts_here(alloc, board, row, target, rule)?;
+    Ok(Cause::of(detail, known))
+}
+
+/// The same of a place's instruction.
+fn instr_cause(
+    alloc: Global,
+    judged: Judged<'_>,
+    place: usize,
+    rule: Rule,
+) -> Result<Cause, AllocError> {
+    let (Some(instr), Some(row)) = (judged.program.at(place), judged.row(place)) else {
+        return Ok(Cause::none());
+    };
+    let least = least_sent(alloc, judged.board, instr, row)?;
+    let most = greatest_sent(alloc, judged.board, instr, row)?;
+    match (least, most) {
+        (Some(least), Some(most)) => message_cause(alloc, judged, row, rule, &least, &most),
+        _ => Ok(Cause::none()),
     }
 }
 
-/// What is to blame where an instruction of a program breaks a rule at its row, if that is found.
+/// What is to blame where a rule is broken at a place, and what is known there; `lines` are those
+/// of all places.
 pub(crate) fn detail_of(
     alloc: Global,
-    board: &Board,
-    program: &Program,
-    table: &Table,
+    judged: Judged<'_>,
+    lines: &[usize],
     place: usize,
     rule: Rule,
-) -> Result<Option<String>, AllocError> {
-    match (program.at(place), table.rows.get(place)) {
-        (
-            Some(
-                Instr::Write {
-                    target,
-                    command,
-                    value,
-                    ..
-                },
-            ),
-            Some(Some(row)),
-        ) => write_detail(alloc, board, row, rule, *target, command.code(), *value),
-        _ => Ok(None),
-    }
+) -> Result<Cause, AllocError> {
+    let detail = match rule {
+        Rule::K6 | Rule::K7 => edge_detail(alloc, judged, lines, place)?,
+        Rule::K8 => start_detail(alloc, judged)?,
+        Rule::K9 => form_detail(alloc, judged, place)?,
+        Rule::K1 | Rule::K2 | Rule::K3 | Rule::K4 | Rule::K5 => {
+            return instr_cause(alloc, judged, place, rule);
+        }
+    };
+    Ok(Cause::of(detail, None))
 }

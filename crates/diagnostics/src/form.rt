@@ -2,6 +2,7 @@
 
 use crate::listing::listed;
 use crate::suggestion::lowercase_suggestion;
+use smbus::{Form, form_named};
 use std::alloc::{AllocError, Global};
 
 const NAMES: [&str; 13] = [
@@ -19,6 +20,16 @@ const NAMES: [&str; 13] = [
     "blockcall",
     "alert",
 ];
+
+/// The word of a form.
+pub(crate) fn form_word(form: Form) -> &'static str {
+    for name in NAMES {
+        if form_named(name) == Some(form) {
+            return name;
+        }
+    }
+    "alert"
+}
 
 /// What may help where a word is no form.
 pub(crate) fn form_help(alloc: Global, word: &str) -> Result<String, AllocError> {

@@ -12,20 +12,22 @@ ghost use Rattle.diagnostics.specs.Inputs.{NamesCheckFault, NamesVerifyFault, Na
 
 use crate::boards::board_note;
 use crate::bundle::bundle_note;
-use crate::detail::detail_of;
 use crate::frame::frame_note;
 use crate::note::note_of;
 use crate::part::section_of;
 use crate::program::program_note;
+use crate::reason::{cause_of, loop_cause};
 use crate::refusal::{Refusal, detailed_note};
 use crate::remark::Remark;
+use crate::roads::Judged;
 use crate::run::run_note;
 use board::{Board, BoardFault, read_board};
 use fact_search::{FindFault, find};
+use facts::Rule;
 use seq_program::{Program, ProgramFault};
 use session::{InputFault, Sequence, Task, Trial, read_task};
 use std::alloc::{AllocError, Global};
-use table_check::{Table, TableFault, Verdict, check, read_table};
+use table_check::{TableFault, Verdict, check, read_table};
 use texts::ReadError;
 
 /// The board of an input.
@@ -81,43 +83,51 @@ fn board_fault_note(
     }
 }
 
-/// The note on a refusal at a place.
-fn place_note(
+/// The note on a rule that is broken at a place.
+fn broken_note(
     alloc: Global,
     text: &str,
+    judged: Judged<'_>,
     place: usize,
-    refusal: Refusal,
-    detail: Option<&str>,
+    rule: Rule,
 ) -> Result<Option<String>, AllocError>
     ensures { IfOk result (IsOnRefusal text.now place) }
 {
-    match section_of(alloc, text, 1)? {
-        Some(program) => detailed_note(alloc, &program, place, refusal, detail),
-        None => Ok(None),
-    }
+    let Some(program) = section_of(alloc, text, 1)? else {
+        return Ok(None);
+    };
+    let cause = cause_of(alloc, judged, &program, place, rule)?;
+    detailed_note(alloc, &program, place, Refusal::Breaks(rule), &cause)
+}
+
+/// The note on a place at which the search gave up.
+fn gave_up_note(
+    alloc: Global,
+    text: &str,
+    program: &Program,
+    place: usize,
+) -> Result<Option<String>, AllocError>
+    ensures { IfOk result (IsOnRefusal text.now place) }
+{
+    let Some(written) = section_of(alloc, text, 1)? else {
+        return Ok(None);
+    };
+    let cause = loop_cause(alloc, program, &written, place)?;
+    detailed_note(alloc, &written, place, Refusal::GaveUp, &cause)
 }
 
 /// The note on the verdict on a table.
 fn verdict_note(
     alloc: Global,
     text: &str,
-    board: &Board,
-    program: &Program,
-    table: &Table,
+    judged: Judged<'_>,
     verdict: Verdict,
 ) -> Result<Option<String>, AllocError>
     ensures { IfOk result (IsOnVerdict text.now verdict) }
 {
     match verdict {
         Verdict::Accepted { .. } => Ok(None),
-        Verdict::Refused { place, rule } => {
-            let detail = detail_of(alloc, board, program, table, place, rule)?;
-            let detail = match &detail {
-                Some(detail) => Some(detail.as_str()),
-                None => None,
-            };
-            place_note(alloc, text, place, Refusal::Breaks(rule), detail)
-        }
+        Verdict::Refused { place, rule } => broken_note(alloc, text, judged, place, rule),
     }
 }
 
@@ -127,11 +137,20 @@ fn verify_note(alloc: Global, text: &str, sequence: &Sequence) -> Result<Option<
 {
     match find(alloc, &sequence.board, &sequence.program) {
         Ok(table) => {
-            let (board, program) = (&sequence.board, &sequence.program);
-            let verdict = check(alloc, board, program, &table)?;
-            verdict_note(alloc, text, board, program, &table, verdict)
+            let (board, program, table) = (&sequence.board, &sequence.program, &table);
+            let verdict = check(alloc, board, program, table)?;
+            verdict_note(
+                alloc,
+                text,
+                Judged {
+                    board,
+                    program,
+                    table,
+                },
+                verdict,
+            )
         }
-        Err(FindFault::GaveUp(place)) => place_note(alloc, text, place, Refusal::GaveUp, None),
+        Err(FindFault::GaveUp(place)) => gave_up_note(alloc, text, &sequence.program, place),
         Err(FindFault::Memory) => Err(AllocError),
     }
 }
@@ -142,7 +161,7 @@ fn find_note(alloc: Global, text: &str, sequence: &Sequence) -> Result<Option<St
 {
     match find(alloc, &sequence.board, &sequence.program) {
         Ok(_) => Ok(None),
-        Err(FindFault::GaveUp(place)) => place_note(alloc, text, place, Refusal::GaveUp, None),
+        Err(FindFault::GaveUp(place)) => gave_up_note(alloc, text, &sequence.program, place),
         Err(FindFault::Memory) => Err(AllocError),
     }
 }
@@ -163,9 +182,18 @@ fn check_note(alloc: Global, text: &str, trial: &Trial) -> Result<Option<String>
 {
     match read_table(alloc, &trial.board, &trial.table) {
         Ok(table) => {
-            let (board, program) = (&trial.board, &trial.program);
-            let verdict = check(alloc, board, program, &table)?;
-            verdict_note(alloc, text, board, program, &table, verdict)
+            let (board, program, table) = (&trial.board, &trial.program, &table);
+            let verdict = check(alloc, board, program, table)?;
+            verdict_note(
+                alloc,
+                text,
+                Judged {
+                    board,
+                    program,
+                    table,
+                },
+                verdict,
+            )
         }
         Err(TableFault::BadLine(number)) => Ok(Some(table_note(alloc, &trial.table, number)?)),
         Err(TableFault::Memory) => Err(AllocError),

@@ -1,10 +1,11 @@
 //! The text of a note.
 
 ghost use Rattle.std.specs.Prelude.{◌≡◌, ◌++◌, codes, option_copied, string_bytes};
-ghost use Rattle.std.specs.Prelude.{IfOk, OnOk};
+ghost use Rattle.std.specs.Prelude.{IfOk, IfSome, OnOk};
 ghost use Rattle.texts.specs.Words.{lines_by_feed};
-ghost use Rattle.diagnostics.specs.Notes.{NoFeed, head, quoted, helped, IsNote, IsNoteOf};
+ghost use Rattle.diagnostics.specs.Notes.{NoFeed, head, quoted, noted, helped, IsNote, IsNoteOf};
 
+use crate::background::Background;
 use crate::lines::line_at;
 use crate::remark::Remark;
 use std::alloc::{AllocError, Global};
@@ -44,6 +45,17 @@ fn push_line(note: &mut String, line: Option<&str>) -> Result<(), AllocError>
     }
 }
 
+/// Adds a line of what is known beside, if there is one.
+fn push_noted(note: &mut String, known: Option<&str>) -> Result<(), AllocError>
+    ensures { OnOk result
+        (string_bytes note.new ≡ string_bytes note.old ++ noted (option_copied known.entry)) }
+{
+    match known {
+        Some(known) => write!(note, "note: {known}\n"),
+        None => Ok(()),
+    }
+}
+
 /// Adds the line of help, if there is one.
 fn push_help(note: &mut String, help: Option<&str>) -> Result<(), AllocError>
     ensures { OnOk result
@@ -55,8 +67,18 @@ fn push_help(note: &mut String, help: Option<&str>) -> Result<(), AllocError>
     }
 }
 
-/// The note of a kind on the line of a section with this number: what is said of it, the line, and
-/// what may help.
+/// What stands before the first line feed, where there is a text.
+fn one_line_of(text: &Option<String>) -> Option<&str>
+    ensures { IfSome (option_copied result) NoFeed }
+{
+    match text {
+        Some(text) => Some(one_line(text)),
+        None => None,
+    }
+}
+
+/// The note of a kind on the line of a section with this number: what is said of it, the line, what
+/// is known beside, and what may help.
 fn made(
     alloc: Global,
     kind: &str,
@@ -64,6 +86,7 @@ fn made(
     text: &str,
     number: usize,
     remark: &Remark,
+    background: &Background,
 ) -> Result<String, AllocError>
     ensures { IfOk result (λ note.
         IsNoteOf kind.now section.now number (lines_by_feed text.now) (string_bytes note)) }
@@ -71,11 +94,9 @@ fn made(
     let mut note = String::new(alloc);
     push_message(&mut note, kind, section, number, one_line(&remark.message))?;
     push_line(&mut note, line_at(text, number))?;
-    let help = match &remark.help {
-        Some(help) => Some(one_line(help)),
-        None => None,
-    };
-    push_help(&mut note, help)?;
+    push_noted(&mut note, one_line_of(&background.known))?;
+    push_noted(&mut note, one_line_of(&background.way))?;
+    push_help(&mut note, one_line_of(&remark.help))?;
     Ok(note)
 }
 
@@ -90,7 +111,22 @@ pub(crate) fn note_of(
     ensures { IfOk result
         (λ note. IsNote section.now number (lines_by_feed text.now) (string_bytes note)) }
 {
-    made(alloc, "error", section, text, number, remark)
+    background_note(alloc, section, text, number, remark, &Background::none())
+}
+
+/// The note on an error, with what is known beside.
+pub(crate) fn background_note(
+    alloc: Global,
+    section: &str,
+    text: &str,
+    number: usize,
+    remark: &Remark,
+    background: &Background,
+) -> Result<String, AllocError>
+    ensures { IfOk result
+        (λ note. IsNote section.now number (lines_by_feed text.now) (string_bytes note)) }
+{
+    made(alloc, "error", section, text, number, remark, background)
 }
 
 /// The note on what is no error, and may become one.
@@ -104,5 +140,6 @@ pub(crate) fn warning_of(
     ensures { IfOk result (λ note. IsNoteOf (codes "warning") section.now number
         (lines_by_feed text.now) (string_bytes note)) }
 {
-    made(alloc, "warning", section, text, number, remark)
+    let background = Background::none();
+    made(alloc, "warning", section, text, number, remark, &background)
 }

@@ -2,7 +2,7 @@
 
 ghost use Rattle.std.specs.Prelude.{◌≡◌, IfOk};
 ghost use Rattle.texts.specs.Words.{lines_by_feed};
-ghost use Rattle.diagnostics.specs.Places.{has_instruction, place_line};
+ghost use Rattle.diagnostics.specs.Places.{has_instruction, place_line, place_lines};
 
 use seq_program::{label_in, without_comment};
 use std::alloc::{AllocError, Global};
@@ -16,7 +16,24 @@ fn has_instruction(alloc: Global, line: &str) -> Result<bool, AllocError>
     Ok(!words.is_empty() && label_in(&words).is_none())
 }
 
-/// The number of the line with the instruction of a place, counted from 1.
+/// The numbers of the lines with the instructions of all places, counted from 1.
+pub(crate) fn place_lines(alloc: Global, text: &str) -> Result<Vec<usize>, AllocError>
+    ensures { IfOk result (λ lines. lines.items ≡ place_lines (lines_by_feed text.now)) }
+{
+    let mut lines = Vec::new(alloc);
+    let mut number = 1;
+    let mut rest = text;
+    while let Some((line, below)) = first_by_feed(rest) {
+        if has_instruction(alloc, line)? {
+            lines.push(number)?;
+        }
+        number += 1;
+        rest = below;
+    }
+    Ok(lines)
+}
+
+/// The number of the line with the instruction of a place.
 pub(crate) fn place_line(
     alloc: Global,
     text: &str,
@@ -24,18 +41,5 @@ pub(crate) fn place_line(
 ) -> Result<Option<usize>, AllocError>
     ensures { IfOk result (λ number. number ≡ place_line place (lines_by_feed text.now)) }
 {
-    let mut left = place;
-    let mut number = 1;
-    let mut rest = text;
-    while let Some((line, below)) = first_by_feed(rest) {
-        if has_instruction(alloc, line)? {
-            if left == 0 {
-                return Ok(Some(number));
-            }
-            left -= 1;
-        }
-        number += 1;
-        rest = below;
-    }
-    Ok(None)
+    Ok(place_lines(alloc, text)?.get(place).copied())
 }

@@ -4,7 +4,8 @@ ghost use Rattle.std.specs.Prelude.{codes, IfOk};
 ghost use Rattle.texts.specs.Words.{lines_by_feed};
 ghost use Rattle.diagnostics.specs.ProgramPlaces.{IsOnPlace};
 
-use crate::note::note_of;
+use crate::cause::Cause;
+use crate::note::background_note;
 use crate::place::place_line;
 use crate::remark::{Remark, help_of};
 use facts::Rule;
@@ -75,7 +76,11 @@ pub(crate) fn help_on(refusal: Refusal) -> Option<&'static str> {
 }
 
 /// What is said of a refusal, and what is to blame for it, if that is known.
-fn remark_on(alloc: Global, refusal: Refusal, detail: Option<&str>) -> Result<Remark, AllocError> {
+fn remark_on(
+    alloc: Global,
+    refusal: Refusal,
+    detail: &Option<String>,
+) -> Result<Remark, AllocError> {
     let sentence = message_of(refusal);
     let message = match detail {
         Some(detail) => format!(in alloc; "{sentence}: {detail}")?,
@@ -93,15 +98,16 @@ pub(crate) fn detailed_note(
     text: &str,
     place: usize,
     refusal: Refusal,
-    detail: Option<&str>,
+    cause: &Cause,
 ) -> Result<Option<String>, AllocError>
     ensures { IfOk result (IsOnPlace (codes "error") (lines_by_feed text.now) place) }
 {
     let Some(number) = place_line(alloc, text, place)? else {
         return Ok(None);
     };
-    let remark = remark_on(alloc, refusal, detail)?;
-    Ok(Some(note_of(alloc, "%program", text, number, &remark)?))
+    let remark = remark_on(alloc, refusal, &cause.detail)?;
+    let note = background_note(alloc, "%program", text, number, &remark, &cause.background)?;
+    Ok(Some(note))
 }
 
 /// What a person needs to mend a program that is refused at a place: the place's line with its
@@ -114,5 +120,5 @@ pub fn refusal_note(
 ) -> Result<Option<String>, AllocError>
     ensures { IfOk result (IsOnPlace (codes "error") (lines_by_feed text.now) place) }
 {
-    detailed_note(alloc, text, place, refusal, None)
+    detailed_note(alloc, text, place, refusal, &Cause::none())
 }

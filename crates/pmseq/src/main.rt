@@ -1,9 +1,9 @@
 //! Reads a bundle from standard input and answers it on standard output. Where it is refused or has
-//! a fault, a note on standard error says what to mend; where a run does what a checked program
-//! never does, a warning says so.
+//! a fault, a note on standard error says what to mend; warnings say where a board may be meant
+//! otherwise, and where a run does what a checked program never does.
 #![tactic(auto)]
 
-use diagnostics::{Keeping, note_on, warning_on};
+use diagnostics::{Keeping, board_warnings, note_on, warning_on};
 use session::{Status, session};
 use std::alloc::{AllocError, Global};
 use std::io::{Stderr, Write};
@@ -14,7 +14,8 @@ use texts::send;
 #[derive(Drop)]
 struct Notes {
     error: Option<String>,
-    warning: Option<String>,
+    of_board: Vec<String>,
+    of_run: Option<String>,
 }
 
 /// The note on a text that was answered so, if it has a fault or is refused.
@@ -33,13 +34,14 @@ fn notes_on(alloc: Global, status: Status, input: Option<&[u8]>) -> Result<Notes
     };
     Ok(Notes {
         error: error_on(alloc, status, text)?,
-        warning: warning_on(alloc, text)?,
+        of_board: board_warnings(alloc, text)?,
+        of_run: warning_on(alloc, text)?,
     })
 }
 
-/// Writes a note, if there is one. What becomes of it changes nothing.
-fn tell(errors: &mut Stderr, note: Option<String>) {
-    if let Some(note) = note {
+/// Writes notes. What becomes of them changes nothing.
+fn tell(errors: &mut Stderr, notes: &[String]) {
+    for note in notes {
         let _written = errors.write_all(note.as_bytes());
     }
 }
@@ -60,8 +62,9 @@ fn answer_all(rt: &HostRuntime) -> Status {
         return Status::DeviceFault;
     }
     let mut errors = rt.stderr();
-    tell(&mut errors, notes.error);
-    tell(&mut errors, notes.warning);
+    tell(&mut errors, notes.error.as_slice());
+    tell(&mut errors, &notes.of_board);
+    tell(&mut errors, notes.of_run.as_slice());
     status
 }
 

@@ -37,7 +37,7 @@ pub(crate) struct Draft<'a> {
 }
 
 /// The lines of a text. A growth that is refused isn't tried again with less, as by `collect`.
-fn lines_of(alloc: Global, text: &str) -> Result<Vec<&str>, AllocError> {
+pub(crate) fn lines_of(alloc: Global, text: &str) -> Result<Vec<&str>, AllocError> {
     let mut lines = Vec::new(alloc);
     for line in text.lines() {
         lines.push(line)?;

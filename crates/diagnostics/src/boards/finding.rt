@@ -101,7 +101,7 @@ pub(crate) fn finding_in(alloc: Global, draft: &Draft<'_>) -> Result<Finding, Al
         None => table_remark(alloc, draft, site, table)?,
     };
     Ok(Finding {
-        number: number_of(draft, site, key),
+        number: number_of(&draft.lines, site, key),
         remark,
     })
 }

@@ -1,7 +1,7 @@
 //! The lines of a board file at which its tables and keys stand. They are found by their looks, not
 //! by TOML's rules: where a file is written in another way, a line above is named.
 
-use crate::boards::draft::{Draft, Site};
+use crate::boards::draft::Site;
 
 /// Which quotation mark a text began with, while it lasts.
 #[derive(Clone, Copy)]
@@ -174,8 +174,7 @@ fn site_line(lines: &[&str], site: Site) -> Option<usize> {
 
 /// The number of the line of a table, or of a key in it, counted from 1. Where that isn't found, it
 /// is a line above.
-pub(crate) fn number_of(draft: &Draft<'_>, site: Site, key: Option<&str>) -> usize {
-    let lines = draft.lines.as_slice();
+pub(crate) fn number_of(lines: &[&str], site: Site, key: Option<&str>) -> usize {
     let Some(place) = site_line(lines, site) else {
         return 1;
     };

@@ -65,7 +65,7 @@ pub(crate) fn place_help(
     other: Site,
     key: Option<&str>,
 ) -> Result<Option<String>, AllocError> {
-    let number = number_of(draft, other, key);
+    let number = number_of(&draft.lines, other, key);
     let name = match (key, other) {
         (Some("name"), Site::Target(index)) => numbered(alloc, "target", index)?,
         (Some("name"), Site::Rail(index)) => numbered(alloc, "rail", index)?,

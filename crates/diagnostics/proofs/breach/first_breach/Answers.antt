@@ -1,4 +1,4 @@
-use Rattle.std.proofs.Common.{◌≡◌, ◌∙◌, length, ap}
+use Rattle.std.proofs.Common.{◌≡◌, ◌∙◌, ap}
 use Rattle.targets.specs.States.{IsStart}
 use Rattle.simulator.specs.Machines.{Machine, Entry, start_at}
 use Rattle.bundles.specs.Answers.{Answers}

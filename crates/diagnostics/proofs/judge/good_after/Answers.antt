@@ -1,4 +1,4 @@
-use Rattle.std.proofs.Common.{◌≡◌, ◌<◌, ◌≤◌, ◌∙◌, ℕ, Bool, false, length, Some, subst, sym, ap}
+use Rattle.std.proofs.Common.{◌≡◌, ℕ, Bool, false, length, Some, subst, ap}
 use Rattle.std.proofs.Common.{arith}
 use Rattle.facts.specs.Sets.{Set, rails_in}
 use Rattle.diagnostics.specs.Telling.{TellsAfter}

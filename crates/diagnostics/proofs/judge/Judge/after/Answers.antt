@@ -1,4 +1,4 @@
-use Rattle.std.proofs.Common.{◌≡◌, ◌<◌, ◌∙◌, ℕ, length, Some, None, ap, sym, subst}
+use Rattle.std.proofs.Common.{◌<◌, ◌∙◌, ℕ, length, Some, ap, sym, subst}
 use Rattle.seq_program.specs.Messages.{message_of}
 use Rattle.simulator.specs.Machines.{Machine}
 use Rattle.facts.specs.Sets.{rails_in}

@@ -1,0 +1,13 @@
+use Rattle.std.proofs.Common.{All, subst, sym}
+use Rattle.std.proofs.lemmas.List.Elements.{All-push}
+use Rattle.texts.specs.Words.{lines_by_feed}
+use Rattle.diagnostics.specs.Boards.{IsBoardWarning}
+use Rattle.diagnostics.proofs.board_warning.notes_of.Goals as goal
+
+pub loop-doubt-preserved : goal.loop-doubt-preserved
+loop-doubt-preserved c =
+    let lines = lines_by_feed c.args.text.now in
+    subst (All (IsBoardWarning lines)) (sym c.in_ok-push.ensures.items)
+    (All-push (IsBoardWarning lines) c.loop-doubt.notes.items c.in_ok-warning_of.field-0
+    c.loop-doubt.invariant
+    (c.number_within-number.result, (c.number_within-number.ensures, c.in_ok-warning_of.ensures)))

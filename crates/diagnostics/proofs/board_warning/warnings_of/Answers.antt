@@ -1,0 +1,10 @@
+use Rattle.std.proofs.Common.{All, IfOk, List, ℕ, subst}
+use Rattle.texts.specs.Words.{lines_by_feed}
+use Rattle.diagnostics.specs.Boards.{IsBoardWarning}
+use Rattle.diagnostics.proofs.board_warning.warnings_of.Goals as goal
+
+pub returns : goal.returns
+returns c =
+    let P : List ℕ → Type 0 = λ text. IfOk c.notes_of.result
+    (λ notes. All (IsBoardWarning (lines_by_feed text)) notes.items) in
+    subst P c.in_ok-text.ensures (subst P c.deref.ensures c.notes_of.ensures)

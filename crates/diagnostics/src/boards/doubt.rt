@@ -1,0 +1,52 @@
+//! What of a board without faults may be meant otherwise.
+
+use crate::boards::circle::push_circles;
+use crate::boards::draft::Site;
+use crate::boards::idle::push_idle_rails;
+use crate::boards::loose::push_loose_limits;
+use crate::boards::unready::push_unready_targets;
+use crate::remark::{Remark, help_of};
+use board::Board;
+use seq_program::Program;
+use std::alloc::{AllocError, Global};
+
+/// A table of a board file, a key of it, and what is said of it.
+#[derive(Debug, Drop)]
+pub(crate) struct Doubt {
+    pub site: Site,
+    pub key: Option<&'static str>,
+    pub remark: Remark,
+}
+
+impl Doubt {
+    pub(crate) fn new(
+        alloc: Global,
+        site: Site,
+        key: &'static str,
+        message: String,
+        help: &str,
+    ) -> Result<Doubt, AllocError> {
+        Ok(Doubt {
+            site,
+            key: Some(key),
+            remark: Remark {
+                message,
+                help: help_of(alloc, Some(help))?,
+            },
+        })
+    }
+}
+
+/// All doubts about a board and a program on it.
+pub(crate) fn doubts_on(
+    alloc: Global,
+    board: &Board,
+    program: &Program,
+) -> Result<Vec<Doubt>, AllocError> {
+    let mut doubts = Vec::new(alloc);
+    push_unready_targets(alloc, &mut doubts, board, program)?;
+    push_circles(alloc, &mut doubts, board)?;
+    push_idle_rails(alloc, &mut doubts, board)?;
+    push_loose_limits(alloc, &mut doubts, board)?;
+    Ok(doubts)
+}

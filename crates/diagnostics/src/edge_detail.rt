@@ -1,0 +1,235 @@
+//! K6 and K7: what isn't covered where a place leads, or why the ticks don't fall.
+
+use crate::facts_here::{has_rail, pages_text, protects_text, span_text};
+use crate::quote::Quoted;
+use crate::roads::{Edge, Judged};
+use board::Board;
+use facts::{Part, Row, Source, Span};
+use seq_program::Instr;
+use std::alloc::{AllocError, Global};
+
+/// The first target whose pages aren't covered.
+fn pages_detail(
+    alloc: Global,
+    board: &Board,
+    known: &Row,
+    claimed: &Row,
+) -> Result<Option<String>, AllocError> {
+    for (target, (pages, more)) in claimed.pages.iter().zip(&known.pages).enumerate() {
+        if !pages.covers(more) {
+            let name = Quoted(board.target_name(target).unwrap_or(""));
+            let (pages, more) = (pages_text(alloc, *pages)?, pages_text(alloc, *more)?);
+            return Ok(Some(format!(in alloc;
+                "PAGE of {name} may be {more}, and the row there has {pages}"
+            )?));
+        }
+    }
+    Ok(None)
+}
+
+/// The first target whose protections aren't covered.
+fn protects_detail(
+    alloc: Global,
+    board: &Board,
+    known: &Row,
+    claimed: &Row,
+) -> Result<Option<String>, AllocError> {
+    for (target, (protects, more)) in claimed.protects.iter().zip(&known.protects).enumerate() {
+        if !protects.covers(more) {
+            let name = Quoted(board.target_name(target).unwrap_or(""));
+            let (protects, more) = (
+                protects_text(alloc, *protects)?,
+                protects_text(alloc, *more)?,
+            );
+            return Ok(Some(format!(in alloc;
+                "WRITE_PROTECT of {name} may be {more}, and the row there has {protects}"
+            )?));
+        }
+    }
+    Ok(None)
+}
+
+/// The first rail that a row has for good, and that isn't known to be.
+fn good_detail(
+    alloc: Global,
+    board: &Board,
+    known: &Row,
+    claimed: &Row,
+) -> Result<Option<String>, AllocError> {
+    for index in 0..board.rails().len() {
+        if has_rail(claimed.good, index) && !has_rail(known.good, index) {
+            let name = Quoted(board.rail_name(index).unwrap_or(""));
+            return Ok(Some(format!(in alloc;
+                "{name} isn't known to be good, and the row there has it for good"
+            )?));
+        }
+    }
+    Ok(None)
+}
+
+/// The first register, or counter, whose numbers aren't covered.
+fn spans_detail(
+    alloc: Global,
+    letter: char,
+    known: &[Span],
+    claimed: &[Span],
+) -> Result<Option<String>, AllocError> {
+    for (index, (span, more)) in claimed.iter().zip(known).enumerate() {
+        if !span.covers(more) {
+            let (span, more) = (span_text(alloc, *span)?, span_text(alloc, *more)?);
+            return Ok(Some(format!(in alloc;
+                "{letter}{index} may be {more}, and the row there has {span}"
+            )?));
+        }
+    }
+    Ok(None)
+}
+
+/// The first register whose source isn't known.
+fn sources_detail(
+    alloc: Global,
+    known: &[Source; 8],
+    claimed: &[Source; 8],
+) -> Result<Option<String>, AllocError> {
+    for (index, (source, other)) in claimed.iter().zip(known).enumerate() {
+        if !source.covers(other) {
+            return Ok(Some(format!(in alloc;
+                "r{index} isn't known to have the source that the row there has"
+            )?));
+        }
+    }
+    Ok(None)
+}
+
+/// What a row says that isn't known.
+fn uncovered(
+    alloc: Global,
+    board: &Board,
+    known: &Row,
+    claimed: &Row,
+) -> Result<Option<String>, AllocError> {
+    if let Some(detail) = pages_detail(alloc, board, known, claimed)? {
+        return Ok(Some(detail));
+    }
+    if let Some(detail) = protects_detail(alloc, board, known, claimed)? {
+        return Ok(Some(detail));
+    }
+    if let Some(detail) = good_detail(alloc, board, known, claimed)? {
+        return Ok(Some(detail));
+    }
+    if let Some(detail) = spans_detail(alloc, 'r', &known.regs, &claimed.regs)? {
+        return Ok(Some(detail));
+    }
+    if let Some(detail) = sources_detail(alloc, &known.sources, &claimed.sources)? {
+        return Ok(Some(detail));
+    }
+    spans_detail(alloc, 'c', &known.counters, &claimed.counters)
+}
+
+/// What a row leaves at some counters.
+fn ticks_at(row: &Row, counters: &[u16; 4]) -> u128 {
+    let mut ticks = u128::from(row.base);
+    for (coeff, counter) in row.coeffs.iter().zip(counters) {
+        let more = u128::from(*coeff).saturating_mul(u128::from(*counter));
+        ticks = ticks.saturating_add(more);
+    }
+    ticks
+}
+
+/// The counters of a row at which it leaves least, beside another row.
+fn worst_counters(row: &Row, next: &[u64; 4]) -> [u16; 4] {
+    let mut counters = [0; 4];
+    for (index, counter) in counters.iter_mut().enumerate() {
+        let grows = next[index] > row.coeffs[index];
+        let span = row.counters[index];
+        *counter = if grows { span.hi } else { span.lo };
+    }
+    counters
+}
+
+/// The counters that count, if some do.
+fn counters_text(
+    alloc: Global,
+    counters: &[u16; 4],
+    row: &Row,
+    next: &[u64; 4],
+) -> Result<String, AllocError> {
+    let mut text = String::new(alloc);
+    for (index, counter) in counters.iter().enumerate() {
+        if row.coeffs[index] > 0 || next[index] > 0 {
+            let joint = if text.is_empty() { ", with" } else { " and" };
+            write!(text, "{joint} c{index} at {counter}")?;
+        }
+    }
+    Ok(text)
+}
+
+/// Both sums, where the ticks that are left don't pay for what follows.
+fn ticks_detail(
+    alloc: Global,
+    place: usize,
+    edge: &Edge,
+    next: &Row,
+) -> Result<Option<String>, AllocError> {
+    let (to, row, worst) = edge;
+    let counters = worst_counters(row, &next.coeffs);
+    let (before, after) = (ticks_at(row, &counters), ticks_at(next, &counters));
+    let needed = u128::from(*worst).saturating_add(after);
+    if needed <= before {
+        return Ok(None);
+    }
+    let unit = if *worst == 1 { "tick" } else { "ticks" };
+    let counters = counters_text(alloc, &counters, row, &next.coeffs)?;
+    Ok(Some(format!(in alloc;
+        "{worst} {unit} at most and the {after} of row {to} are {needed}, and row {place} leaves \
+         {before} for them{counters}"
+    )?))
+}
+
+/// What an edge breaks.
+fn broken_by(
+    alloc: Global,
+    judged: Judged<'_>,
+    place: usize,
+    edge: &Edge,
+) -> Result<Option<String>, AllocError> {
+    let (to, known, _) = edge;
+    let Some(next) = judged.row(*to) else {
+        return Ok(Some(format!(in alloc; "the table has no row for place {to}")?));
+    };
+    if next.covers(known) {
+        ticks_detail(alloc, place, edge, next)
+    } else {
+        uncovered(alloc, judged.board, known, next)
+    }
+}
+
+/// What is broken where no edge is: an end takes a tick.
+fn end_detail(
+    alloc: Global,
+    judged: Judged<'_>,
+    place: usize,
+) -> Result<Option<String>, AllocError> {
+    match judged.program.at(place) {
+        Some(Instr::End | Instr::Fail) => Ok(Some(format!(in alloc;
+            "the end takes a tick, and row {place} may leave none"
+        )?)),
+        _ => Ok(None),
+    }
+}
+
+/// What the first edge breaks that breaks something, with the line to which it leads.
+pub(crate) fn edge_detail(
+    alloc: Global,
+    judged: Judged<'_>,
+    lines: &[usize],
+    place: usize,
+) -> Result<Option<String>, AllocError> {
+    for edge in &judged.edges(alloc, place)? {
+        if let Some(detail) = broken_by(alloc, judged, place, edge)? {
+            let line = lines.get(edge.0).copied().unwrap_or(0);
+            return Ok(Some(format!(in alloc; "on the way to line {line}, {detail}")?));
+        }
+    }
+    end_detail(alloc, judged, place)
+}

@@ -1,0 +1,147 @@
+//! Where a place leads.
+
+ghost use Rattle.std.specs.Prelude.{IsTrue};
+ghost use Rattle.facts.specs.Duties.{Meets};
+ghost use Rattle.facts.specs.Rows.{row_view};
+ghost use Rattle.facts.specs.declared.rule.Rule.TheVariants.{K1};
+
+use board::Board;
+use facts::{Row, Rule, duty, edges};
+use seq_program::{Instr, Program};
+use std::alloc::{AllocError, Global};
+use table_check::Table;
+
+/// An edge of a place: where it leads, the row there, and the most ticks on the way.
+pub(crate) type Edge = (usize, Row, u64);
+
+/// A board, a program on it, and a table of what is known at its places.
+#[derive(Clone, Copy)]
+pub(crate) struct Judged<'a> {
+    pub board: &'a Board,
+    pub program: &'a Program,
+    pub table: &'a Table,
+}
+
+/// Whether a target allows what an instruction may send.
+fn may_be_sent(board: &Board, instr: &Instr, row: &Row) -> bool
+    ensures { IsTrue result → Meets board.now (row_view row.now) instr.now K1 }
+{
+    duty(board, instr, row) != Some(Rule::K1)
+}
+
+impl<'a> Judged<'a> {
+    /// What is known at a place.
+    pub(crate) fn row(self, place: usize) -> Option<&'a Row> {
+        match self.table.rows.get(place) {
+            Some(Some(row)) => Some(row),
+            _ => None,
+        }
+    }
+
+    /// The edges of a place, by what is known there. None where the table has no row of the board
+    /// for it, or its message may not be sent.
+    pub(crate) fn edges(self, alloc: Global, place: usize) -> Result<Vec<Edge>, AllocError> {
+        let (Some(instr), Some(row)) = (self.program.at(place), self.row(place)) else {
+            return Ok(Vec::new(alloc));
+        };
+        if !row.is_of(self.board) || !may_be_sent(self.board, instr, row) {
+            return Ok(Vec::new(alloc));
+        }
+        edges(alloc, self.board, self.program, place, row)
+    }
+
+    /// Where those edges lead.
+    fn next_places(self, alloc: Global, place: usize) -> Result<Vec<usize>, AllocError> {
+        let mut places = Vec::new(alloc);
+        for (to, _, _) in &self.edges(alloc, place)? {
+            places.push(*to)?;
+        }
+        Ok(places)
+    }
+}
+
+/// Where an instruction jumps to, if it may.
+fn jump_of(instr: &Instr) -> Option<usize> {
+    match instr {
+        Instr::Quick { otherwise, .. }
+        | Instr::Send { otherwise, .. }
+        | Instr::Receive { otherwise, .. }
+        | Instr::Write { otherwise, .. }
+        | Instr::Read { otherwise, .. }
+        | Instr::Call { otherwise, .. }
+        | Instr::BlockWrite { otherwise, .. }
+        | Instr::BlockRead { otherwise, .. }
+        | Instr::BlockCall { otherwise, .. }
+        | Instr::Alert { otherwise, .. } => Some(*otherwise),
+        Instr::IfAlert { jump }
+        | Instr::If { jump, .. }
+        | Instr::Above { jump, .. }
+        | Instr::Again { jump, .. }
+        | Instr::Goto { jump } => Some(*jump),
+        _ => None,
+    }
+}
+
+/// Whether an instruction may be followed by the next place's.
+fn goes_on(instr: &Instr) -> bool {
+    !matches!(instr, Instr::Goto { .. } | Instr::End | Instr::Fail)
+}
+
+/// Where a place's instruction may lead, whatever is known there.
+fn written_places(
+    alloc: Global,
+    program: &Program,
+    place: usize,
+) -> Result<Vec<usize>, AllocError> {
+    let mut places = Vec::new(alloc);
+    let Some(instr) = program.at(place) else {
+        return Ok(places);
+    };
+    if let Some(jump) = jump_of(instr) {
+        places.push(jump)?;
+    }
+    if goes_on(instr) {
+        places.push(place.saturating_add(1))?;
+    }
+    Ok(places)
+}
+
+/// What a rail needs.
+fn needs_of(alloc: Global, board: &Board, rail: usize) -> Result<Vec<usize>, AllocError> {
+    let mut needs = Vec::new(alloc);
+    if let Some(rail) = board.rail(rail) {
+        needs.extend_from_slice(rail.needs())?;
+    }
+    Ok(needs)
+}
+
+/// The roads that count.
+#[derive(Clone, Copy)]
+pub(crate) enum Roads<'a> {
+    /// Those that may be taken, by a table of what is known.
+    Known(Judged<'a>),
+    /// Those that a program has.
+    Written(&'a Program),
+    /// From each rail of a board to those that it needs.
+    Needs(&'a Board),
+}
+
+impl Roads<'_> {
+    /// How many places there are.
+    pub(crate) fn places(self) -> usize {
+        match self {
+            Roads::Known(judged) => judged.program.places(),
+            Roads::Written(program) => program.places(),
+            Roads::Needs(board) => board.rails().len(),
+        }
+    }
+
+    /// Where a place leads.
+    pub(crate) fn from(self, alloc: Global, place: usize) -> Result<Vec<usize>, AllocError> {
+        match self {
+            Roads::Known(judged) => judged.next_places(alloc, place),
+            Roads::Written(program) => written_places(alloc, program, place),
+            Roads::Needs(board) => needs_of(alloc, board, place),
+        }
+    }
+}
