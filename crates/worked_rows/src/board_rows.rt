@@ -2,27 +2,9 @@ use crate::boards::{TWO, alert_board, two_board};
 use board::{Board, BoardFault, Range, read_board};
 use pmbus_table::{Command, by_name};
 use smbus::Form;
-use std::alloc::{AllocError, Global};
+use std::alloc::Global;
 use std::process::Abort;
 use std::test::Fail;
-
-/// A text of TWO, what stands in its place, and the fault of the changed board.
-pub(crate) type Change = (&'static str, &'static str, Option<BoardFault>);
-
-/// The part of an entry of TWO in whose place others stand.
-pub(crate) const READ_PAGE: &str = "\"readbyte\", command = \"PAGE\"";
-
-fn fault(alloc: Global, old: &str, new: &str) -> Result<Option<BoardFault>, BoardFault> {
-    let text = TWO.replace(alloc, old, new)?;
-    Ok(read_board(alloc, &text).err())
-}
-
-/// Makes each change to TWO alone, and tries the fault.
-pub(crate) fn compare(rt: &impl Abort, alloc: Global, changes: &[Change]) {
-    for (old, new, want) in changes {
-        assert!(rt; fault(alloc, old, new) == Ok(*want), "{old} {new}");
-    }
-}
 
 fn compare_targets(rt: &impl Abort, board: &Board) {
     assert!(rt; board.targets().len() == 2);
@@ -149,68 +131,6 @@ fn alerts(rt: HostRuntime) -> Result<(), Fail> {
     Ok(())
 }
 
-/// The fault of so many targets with no key.
-fn fault_of_count(alloc: Global, count: usize) -> Result<Option<BoardFault>, AllocError> {
-    let text = "[[target]]\n".repeat(alloc, count)?;
-    Ok(read_board(alloc, &text).err())
-}
-
-/// Ten thousand lists in one another are no TOML document.
-#[test]
-fn deep_lists(rt: HostRuntime) -> Result<(), Fail> {
-    let text = "[".repeat(rt.alloc(), 10_000)?;
-    let fault = read_board(rt.alloc(), &text).err();
-    assert!(rt; fault == Some(BoardFault::Toml));
-    Ok(())
-}
-
-const NO_BOARDS: [(&str, BoardFault); 3] = [
-    ("target = []", BoardFault::MissingKey),
-    ("", BoardFault::MissingKey),
-    ("[[target", BoardFault::Toml),
-];
-
-/// Seventeen targets are too many, and none too few.
-#[test]
-fn counts(rt: HostRuntime) {
-    for (count, want) in [(16, BoardFault::MissingKey), (17, BoardFault::TooMany)] {
-        assert!(rt; fault_of_count(rt.alloc(), count) == Ok(Some(want)));
-    }
-    for (text, want) in NO_BOARDS {
-        assert!(rt; read_board(rt.alloc(), text).err() == Some(want), "{text}");
-    }
-}
-
-const BARE: [Change; 6] = [
-    (
-        READ_PAGE,
-        "\"blockread\", command = \"MFR_ID\", length = [1, 9]",
-        None,
-    ),
-    (
-        READ_PAGE,
-        "\"blockread\", command = \"MFR_ID\", length = [0, 9]",
-        Some(BoardFault::BadRange),
-    ),
-    (
-        READ_PAGE,
-        "\"blockread\", command = \"MFR_ID\", length = [1, 256]",
-        Some(BoardFault::BadRange),
-    ),
-    (READ_PAGE, "\"receive\", values = [7, 9]", None),
-    (READ_PAGE, "\"quickwrite\"", None),
-    (
-        READ_PAGE,
-        "\"call\", command = \"D5\", values = [0, 65535]",
-        None,
-    ),
-];
-
-#[test]
-fn blocks_and_bare_forms(rt: HostRuntime) {
-    compare(&rt, rt.alloc(), &BARE);
-}
-
 /// The example of docs/BOARD.md.
 const WHOLE: &str = r#"
 [[target]]
@@ -283,5 +203,7 @@ fn numbers_and_names_of_faults(rt: HostRuntime) -> Result<(), Fail> {
     assert!(rt; BoardFault::SelfNeed.name() == "SelfNeed");
     let text = format!(in rt.alloc(); "{}", BoardFault::Toml)?;
     assert!(rt; text.as_str() == "no TOML document");
+    let fault = read_board(rt.alloc(), "[[target").err();
+    assert!(rt; fault == Some(BoardFault::Toml));
     Ok(())
 }

@@ -4,8 +4,6 @@
 #[cfg(test)]
 mod bit_bus_rows;
 #[cfg(test)]
-mod board_fault_rows;
-#[cfg(test)]
 mod board_rows;
 #[cfg(test)]
 mod boards;

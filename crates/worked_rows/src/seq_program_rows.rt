@@ -6,59 +6,6 @@ use std::alloc::Global;
 use std::process::Abort;
 use std::test::*;
 
-/// The number and the line of a text's fault; 0 where it is a program.
-fn fault_on(alloc: Global, board: &Board, text: &str) -> (u8, Option<usize>) {
-    match read_program(alloc, board, text) {
-        Ok(_) => (0, None),
-        Err(fault) => (fault.number(), fault.line()),
-    }
-}
-
-fn fault_in(alloc: Global, text: &str) -> Result<(u8, Option<usize>), BoardFault> {
-    let board = two_board(alloc)?;
-    Ok(fault_on(alloc, &board, text))
-}
-
-/// Tries the number and the line of each text's fault.
-fn compare_faults(rt: &impl Abort, alloc: Global, faults: &[(&str, u8, usize)]) {
-    for (text, number, line) in faults {
-        let want = (*number, Some(*line));
-        assert!(rt; fault_in(alloc, text) == Ok(want), "{text}");
-    }
-}
-
-const BAD_LINES: [(&str, u8, usize); 8] = [
-    ("end\r\n", 2, 1),
-    ("end # a comment\r\nend\r", 2, 2),
-    ("jump x", 2, 1),
-    ("wait 0", 3, 1),
-    ("set r0 07", 3, 1),
-    ("write z PAGE 0 else x", 4, 1),
-    ("write a STATUS_WORD 0 else x", 5, 1),
-    ("set r8 1", 10, 1),
-];
-
-#[test]
-fn faults_of_lines(rt: HostRuntime) {
-    compare_faults(&rt, rt.alloc(), &BAD_LINES);
-}
-
-const BAD_PROGRAMS: [(&str, u8, usize); 5] = [
-    ("goto x\nend", 6, 1),
-    ("x:\nend\nx:\nend", 7, 3),
-    ("wait 1", 8, 1),
-    ("", 8, 0),
-    ("end\nx:\n# the last line", 8, 3),
-];
-
-#[test]
-fn faults_of_programs(rt: HostRuntime) -> Result<(), Fail> {
-    compare_faults(&rt, rt.alloc(), &BAD_PROGRAMS);
-    let long = "end\n".repeat(rt.alloc(), 1025)?;
-    assert!(rt; fault_in(rt.alloc(), &long) == Ok((9, Some(1025))));
-    Ok(())
-}
-
 /// Each line that sends a message, with labels, comments, blank lines and numbers of both kinds.
 const MESSAGES: &str = "start: # the first place
   quick a r else no
@@ -263,14 +210,22 @@ fn plain_lines(rt: HostRuntime) -> Result<(), Fail> {
     Ok(())
 }
 
+/// The fault of a text on TWO.
 fn fault_of(alloc: Global, text: &str) -> Result<Option<ProgramFault>, BoardFault> {
     let board = two_board(alloc)?;
     Ok(read_program(alloc, &board, text).err())
 }
 
+/// A carriage return is a character like any other.
 #[test]
-fn names_of_faults(rt: HostRuntime) {
+fn faults(rt: HostRuntime) {
+    let fault = ProgramFault::UnknownWord(1);
+    assert!(rt; fault_of(rt.alloc(), "end\r\n") == Ok(Some(fault)));
     let fault = ProgramFault::UnknownWord(2);
-    assert!(rt; fault_of(rt.alloc(), "end\nx: end") == Ok(Some(fault)));
+    assert!(rt; fault_of(rt.alloc(), "end # a comment\r\nend\r") == Ok(Some(fault)));
+    assert!(rt; fault.number() == 2);
+    assert!(rt; fault.line() == Some(2));
     assert!(rt; fault.name() == "UnknownWord");
+    let fault = fault_of(rt.alloc(), "");
+    assert!(rt; fault == Ok(Some(ProgramFault::NoEnd(0))));
 }

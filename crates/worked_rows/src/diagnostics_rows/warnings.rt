@@ -1,7 +1,7 @@
-//! Warnings of runs.
+//! Warnings of runs and of boards.
 
 use crate::boards::TWO;
-use diagnostics::warning_on;
+use diagnostics::{board_warnings, warning_on};
 use std::alloc::Global;
 use std::process::Abort;
 use std::test::*;
@@ -79,4 +79,18 @@ fn compare_spared(rt: &impl Abort, alloc: Global, spared: &[(&str, &str)]) -> Re
 fn runs_are_warned_of(rt: HostRuntime) -> Result<(), Fail> {
     compare_warned(&rt, rt.alloc(), &WARNED)?;
     compare_spared(&rt, rt.alloc(), &SPARED)
+}
+
+/// Rails that need each other have a warning at the first one's needs, an input with a fault none.
+#[test]
+fn boards_are_warned_of(rt: HostRuntime) -> Result<(), Fail> {
+    let board = TWO.replace(rt.alloc(), "1100000", "1100000\nneeds = [\"vb\"]")?;
+    let text = format!(in rt.alloc(); "%verify\n%board\n{board}%program\nend\n")?;
+    let warnings = board_warnings(rt.alloc(), &text)?;
+    assert!(rt; warnings.len() == 1);
+    let want =
+        "warning: needs in a circle: \"va\" needs \"vb\" needs \"va\"\n    needs = [\"vb\"]\n";
+    assert!(rt; warnings.iter().any(|warning| warning.contains(want)));
+    assert!(rt; board_warnings(rt.alloc(), "%verify\n")?.is_empty());
+    Ok(())
 }
