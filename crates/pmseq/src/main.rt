@@ -3,7 +3,8 @@
 //! otherwise, and where a run does what a checked program never does.
 #![tactic(auto)]
 
-use diagnostics::{Keeping, board_warnings, note_on, warning_on};
+use bundles::BundleFault;
+use diagnostics::{Keeping, board_warnings, bundle_note, note_on, warning_on};
 use session::{Status, session};
 use std::alloc::{AllocError, Global};
 use std::io::{Stderr, Write};
@@ -26,17 +27,29 @@ fn error_on(alloc: Global, status: Status, text: &str) -> Result<Option<String>,
     }
 }
 
-/// The notes on an input that was answered so, where it was kept and is a text.
-fn notes_on(alloc: Global, status: Status, input: Option<&[u8]>) -> Result<Notes, AllocError> {
-    let text = match input {
-        Some(input) => str::from_utf8(input).unwrap_or(""),
-        None => "",
-    };
+/// The notes on a text that was answered so.
+fn text_notes(alloc: Global, status: Status, text: &str) -> Result<Notes, AllocError> {
     Ok(Notes {
         error: error_on(alloc, status, text)?,
         of_board: board_warnings(alloc, text)?,
         of_run: warning_on(alloc, text)?,
     })
+}
+
+/// The notes on an input that was answered so: none where it wasn't kept, since it is too long.
+fn notes_on(alloc: Global, status: Status, input: Option<&[u8]>) -> Result<Notes, AllocError> {
+    let mut notes = Notes {
+        error: None,
+        of_board: Vec::new(alloc),
+        of_run: None,
+    };
+    if let Some(input) = input {
+        match str::from_utf8(input) {
+            Ok(text) => return text_notes(alloc, status, text),
+            Err(_) => notes.error = Some(bundle_note(alloc, "", BundleFault::NotText)?),
+        }
+    }
+    Ok(notes)
 }
 
 /// Writes notes. What becomes of them changes nothing.
