@@ -1,9 +1,7 @@
 //! Warnings of boards.
 
-ghost use Rattle.std.specs.Prelude.{◌≡◌, [], All, Err, IfOk, string_bytes};
+ghost use Rattle.std.specs.Prelude.{◌≡◌, All, IfOk, string_bytes};
 ghost use Rattle.diagnostics.specs.Boards.{board_lines, board_text, IsBoardWarning};
-ghost use Rattle.session.specs.Commands.{task_in};
-ghost use Rattle.session.specs.declared.fault.InputFault.{InputFault as AnyFault};
 ghost use Rattle.texts.specs.Words.{lines_by_feed};
 
 use crate::boards::{Doubt, doubts_on, lines_of, number_of, number_within};
@@ -11,9 +9,8 @@ use crate::note::warning_of;
 use crate::part::section_of;
 use board::Board;
 use seq_program::Program;
-use session::{Task, read_task};
+use session::Task;
 use std::alloc::{AllocError, Global};
-use texts::ReadError;
 
 /// The warnings of doubts about a board file, each on a line of it.
 fn notes_of(alloc: Global, text: &str, doubts: &[Doubt]) -> Result<Vec<String>, AllocError>
@@ -38,7 +35,8 @@ fn board_text(alloc: Global, text: &str) -> Result<String, AllocError>
     }
 }
 
-/// The warnings of the board of a bundle, on which the program is one.
+/// The warnings of the board of a bundle, on which the program is one. The bundle is looked at again
+/// only where there are some.
 fn warnings_of(
     alloc: Global,
     text: &str,
@@ -48,12 +46,21 @@ fn warnings_of(
     ensures { IfOk result (λ notes. All (IsBoardWarning (board_lines text.now)) notes.items) }
 {
     let doubts = doubts_on(alloc, board, program)?;
+    if doubts.is_empty() {
+        return Ok(Vec::new(alloc));
+    }
     let text = board_text(alloc, text)?;
     notes_of(alloc, &text, &doubts)
 }
 
-/// The warnings of the board of what is asked for.
-fn task_warnings(alloc: Global, text: &str, task: &Task<'_>) -> Result<Vec<String>, AllocError>
+/// What of the board of what is asked for may be meant otherwise, each with its line: needs that go
+/// round in a circle, a rail that no entry of its target can turn on, a limit that no voltage can
+/// break, and start values with which a target doesn't take what the program sends it.
+pub(crate) fn board_warnings(
+    alloc: Global,
+    text: &str,
+    task: &Task<'_>,
+) -> Result<Vec<String>, AllocError>
     ensures { IfOk result (λ notes. All (IsBoardWarning (board_lines text.now)) notes.items) }
 {
     match task {
@@ -65,22 +72,5 @@ fn task_warnings(alloc: Global, text: &str, task: &Task<'_>) -> Result<Vec<Strin
         Task::Find(sequence) | Task::Verify(sequence) => {
             warnings_of(alloc, text, &sequence.board, &sequence.program)
         }
-    }
-}
-
-/// What of the board of an input may be meant otherwise, each with its line: needs that go round in
-/// a circle, a rail that no entry of its target can turn on, a limit that no voltage can break, and
-/// start values with which a target doesn't take what the program sends it. An input with a fault
-/// has none.
-pub fn board_warnings(alloc: Global, text: &str) -> Result<Vec<String>, AllocError>
-    ensures lines { IfOk result
-        (λ notes. All (IsBoardWarning (board_lines text.now)) notes.items) }
-    ensures faults { IfOk result
-        (λ notes. (fault : AnyFault) → task_in text.now ≡ Err fault → notes.items ≡ []) }
-{
-    match read_task(alloc, text) {
-        Ok(task) => task_warnings(alloc, text, &task),
-        Err(ReadError::Memory) => Err(AllocError),
-        Err(ReadError::Fault(_)) => Ok(Vec::new(alloc)),
     }
 }

@@ -60,7 +60,6 @@ mod unknown_word;
 mod warning;
 mod way;
 
-pub use board_warning::board_warnings;
 pub use boards::board_note;
 pub use bundle::bundle_note;
 pub use input::note_on;
@@ -68,4 +67,4 @@ pub use keeping::Keeping;
 pub use law::{accepted_runs_keep_rules, answers_are_found};
 pub use program::program_note;
 pub use refusal::{Refusal, refusal_note};
-pub use warning::warning_on;
+pub use warning::{Warnings, warnings_on};

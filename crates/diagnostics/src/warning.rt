@@ -1,17 +1,21 @@
-//! Warnings of runs.
+//! Warnings of boards and of runs.
 
-ghost use Rattle.std.specs.Prelude.{◌≡◌, false, None, is_some, string_bytes, IfOk};
+ghost use Rattle.std.specs.Prelude.{◌≡◌, [], false, None, is_some, string_bytes, All, Err};
+ghost use Rattle.std.specs.Prelude.{IfOk};
 ghost use Rattle.facts.specs.Requests.{sent_in};
 ghost use Rattle.table_check.specs.Obligations.{IsInductive};
 ghost use Rattle.table_check.specs.Tables.{Table};
-ghost use Rattle.session.specs.Commands.{task_view, IsReady};
+ghost use Rattle.session.specs.Commands.{task_in, task_view, IsReady};
+ghost use Rattle.session.specs.declared.fault.InputFault.{InputFault as AnyFault};
 ghost use Rattle.session.specs.Scenarios.{IsOnItsBoard};
+ghost use Rattle.diagnostics.specs.Boards.{board_lines, IsBoardWarning};
 ghost use Rattle.diagnostics.specs.Breaches.{IsFirstBreach};
 ghost use Rattle.diagnostics.specs.ProgramPlaces.{IsWarningAt};
 ghost use Rattle.diagnostics.specs.Runs.{SendsNothing};
 ghost use Rattle.diagnostics.specs.Warnings.{SparesAccepted, WarnsOfRun};
 ghost use Rattle.diagnostics.specs.Warnings.{WarnsOfTask, WarnsOfRuns};
 
+use crate::board_warning::board_warnings;
 use crate::breach::{Breach, first_breach};
 use crate::note::warning_of;
 use crate::part::section_of;
@@ -136,18 +140,51 @@ fn task_warning(alloc: Global, text: &str, task: &Task<'_>) -> Result<Option<Str
     }
 }
 
-/// A warning of the first step of a run that breaks what programs are checked by: a message that no
-/// entry allows, a write that is protected, a voltage over its limit, a rail that is turned on
-/// before its needs reported good. It is on the line of the step's place. `None` where there is
-/// no such step: a run ends where an answer doesn't fit.
+/// What is warned of.
+#[derive(Debug, Drop)]
+pub struct Warnings {
+    /// What of a board may be meant otherwise.
+    pub of_board: Vec<String>,
+    /// The first step of a run that breaks a rule.
+    pub of_run: Option<String>,
+}
+
+/// The warnings of what is asked for.
+fn task_warnings(alloc: Global, text: &str, task: &Task<'_>) -> Result<Warnings, AllocError>
+    requires { IsReady (task_view task.now) }
+    ensures lines { IfOk result
+        (λ warnings. All (IsBoardWarning (board_lines text.now)) warnings.of_board.items) }
+    ensures run { IfOk result
+        (λ warnings. WarnsOfTask text.now (task_view task.now) warnings.of_run) }
+{
+    let of_board = board_warnings(alloc, text, task)?;
+    let of_run = task_warning(alloc, text, task)?;
+    Ok(Warnings { of_board, of_run })
+}
+
+/// What is warned of an input, which has none where it has a fault.
 ///
-/// The run of a program that is accepted has no warning.
-pub fn warning_on(alloc: Global, text: &str) -> Result<Option<String>, AllocError>
-    ensures { IfOk result (WarnsOfRuns text.now) }
+/// Of its board: needs that go round in a circle, a rail that no entry of its target can turn on, a
+/// limit that no voltage can break, and start values with which a target doesn't take what the
+/// program sends it. Each is on a line of the board.
+///
+/// Of a run: the first step that breaks what programs are checked by, a message that no entry
+/// allows, a write that is protected, a voltage over its limit, a rail that is turned on before its
+/// needs reported good. It is on the line of the step's place. A run ends where an answer doesn't
+/// fit. The run of a program that is accepted has no warning.
+pub fn warnings_on(alloc: Global, text: &str) -> Result<Warnings, AllocError>
+    ensures lines { IfOk result
+        (λ warnings. All (IsBoardWarning (board_lines text.now)) warnings.of_board.items) }
+    ensures run { IfOk result (λ warnings. WarnsOfRuns text.now warnings.of_run) }
+    ensures faults { IfOk result (λ warnings. (fault : AnyFault) → task_in text.now ≡ Err fault
+        → (warnings.of_board.items ≡ []) × (warnings.of_run ≡ None)) }
 {
     match read_task(alloc, text) {
-        Ok(task) => task_warning(alloc, text, &task),
+        Ok(task) => task_warnings(alloc, text, &task),
         Err(ReadError::Memory) => Err(AllocError),
-        Err(ReadError::Fault(_)) => Ok(None),
+        Err(ReadError::Fault(_)) => Ok(Warnings {
+            of_board: Vec::new(alloc),
+            of_run: None,
+        }),
     }
 }

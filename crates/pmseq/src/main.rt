@@ -4,7 +4,7 @@
 #![tactic(auto)]
 
 use bundles::BundleFault;
-use diagnostics::{Keeping, board_warnings, bundle_note, note_on, warning_on};
+use diagnostics::{Keeping, Warnings, bundle_note, note_on, warnings_on};
 use session::{Status, session};
 use std::alloc::{AllocError, Global};
 use std::io::{Stderr, Write};
@@ -15,8 +15,7 @@ use texts::send;
 #[derive(Drop)]
 struct Notes {
     error: Option<String>,
-    of_board: Vec<String>,
-    of_run: Option<String>,
+    warnings: Warnings,
 }
 
 /// The note on a text that was answered so, if it has a fault or is refused.
@@ -31,8 +30,7 @@ fn error_on(alloc: Global, status: Status, text: &str) -> Result<Option<String>,
 fn text_notes(alloc: Global, status: Status, text: &str) -> Result<Notes, AllocError> {
     Ok(Notes {
         error: error_on(alloc, status, text)?,
-        of_board: board_warnings(alloc, text)?,
-        of_run: warning_on(alloc, text)?,
+        warnings: warnings_on(alloc, text)?,
     })
 }
 
@@ -40,8 +38,10 @@ fn text_notes(alloc: Global, status: Status, text: &str) -> Result<Notes, AllocE
 fn notes_on(alloc: Global, status: Status, input: Option<&[u8]>) -> Result<Notes, AllocError> {
     let mut notes = Notes {
         error: None,
-        of_board: Vec::new(alloc),
-        of_run: None,
+        warnings: Warnings {
+            of_board: Vec::new(alloc),
+            of_run: None,
+        },
     };
     if let Some(input) = input {
         match str::from_utf8(input) {
@@ -76,8 +76,8 @@ fn answer_all(rt: &HostRuntime) -> Status {
     }
     let mut errors = rt.stderr();
     tell(&mut errors, notes.error.as_slice());
-    tell(&mut errors, &notes.of_board);
-    tell(&mut errors, notes.of_run.as_slice());
+    tell(&mut errors, &notes.warnings.of_board);
+    tell(&mut errors, notes.warnings.of_run.as_slice());
     status
 }
 

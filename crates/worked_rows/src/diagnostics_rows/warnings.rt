@@ -1,7 +1,7 @@
 //! Warnings of runs and of boards.
 
 use crate::boards::TWO;
-use diagnostics::{board_warnings, warning_on};
+use diagnostics::warnings_on;
 use std::alloc::Global;
 use std::process::Abort;
 use std::test::*;
@@ -58,7 +58,7 @@ fn compare_warned(
     warned: &[(&str, &str, &str)],
 ) -> Result<(), Fail> {
     for (program, answers, want) in warned {
-        let warning = warning_on(alloc, &input_of(alloc, program, answers)?)?;
+        let warning = warnings_on(alloc, &input_of(alloc, program, answers)?)?.of_run;
         assert!(rt;
             warning.is_some_and(|warning| warning.starts_with(*want)),
             "{want}"
@@ -69,7 +69,7 @@ fn compare_warned(
 
 fn compare_spared(rt: &impl Abort, alloc: Global, spared: &[(&str, &str)]) -> Result<(), Fail> {
     for (program, answers) in spared {
-        let warning = warning_on(alloc, &input_of(alloc, program, answers)?)?;
+        let warning = warnings_on(alloc, &input_of(alloc, program, answers)?)?.of_run;
         assert!(rt; warning.is_none(), "{program}");
     }
     Ok(())
@@ -86,11 +86,11 @@ fn runs_are_warned_of(rt: HostRuntime) -> Result<(), Fail> {
 fn boards_are_warned_of(rt: HostRuntime) -> Result<(), Fail> {
     let board = TWO.replace(rt.alloc(), "1100000", "1100000\nneeds = [\"vb\"]")?;
     let text = format!(in rt.alloc(); "%verify\n%board\n{board}%program\nend\n")?;
-    let warnings = board_warnings(rt.alloc(), &text)?;
+    let warnings = warnings_on(rt.alloc(), &text)?.of_board;
     assert!(rt; warnings.len() == 1);
     let want =
         "warning: needs in a circle: \"va\" needs \"vb\" needs \"va\"\n    needs = [\"vb\"]\n";
     assert!(rt; warnings.iter().any(|warning| warning.contains(want)));
-    assert!(rt; board_warnings(rt.alloc(), "%verify\n")?.is_empty());
+    assert!(rt; warnings_on(rt.alloc(), "%verify\n")?.of_board.is_empty());
     Ok(())
 }
