@@ -35,8 +35,8 @@ fn board_text(alloc: Global, text: &str) -> Result<String, AllocError>
     }
 }
 
-/// The warnings of the board of a bundle, on which the program is one. The bundle is read again only
-/// where there are some.
+/// The warnings of the board of a bundle, on which the program is one. The bundle is read again
+/// only where there are some.
 fn warnings_of(
     alloc: Global,
     text: &str,
