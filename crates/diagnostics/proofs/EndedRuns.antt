@@ -34,7 +34,7 @@ use Rattle.diagnostics.specs.Runs.{GoesOn, SendsNothing}
 use Rattle.diagnostics.proofs.JudgedRuns.{IsJudged, IsTold, kept_here, kept_at}
 use Rattle.diagnostics.proofs.Replayed.{IsReplayed, next_is}
 
-same_some : {X : Type 0} (x y : X) → Some x ≡ Some y → x ≡ y
+pub same_some : {X : Type 0} (x y : X) → Some x ≡ Some y → x ≡ y
 same_some x y e = cc
 
 -- the step of a run under an answer of an index

@@ -11,7 +11,7 @@ use Rattle.std.proofs.lemmas.Option.{slice_get-map}
 use Rattle.std.proofs.lemmas.Bool.Decides.{nat_tests}
 use Rattle.texts.specs.Reading.{◌>>=◌, some_or}
 use Rattle.texts.specs.Words.{words_of}
-use Rattle.table_check.proofs.Text.Options.{same_some}
+use Rattle.diagnostics.proofs.EndedRuns.{same_some}
 use Rattle.smbus.specs.Answered.{Answered}
 use Rattle.bundles.specs.declared.fault.BundleFault.{BundleFault}
 use Rattle.bundles.specs.AnswerLines.{answer_line_of, bad_answer}

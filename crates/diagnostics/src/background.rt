@@ -1,5 +1,5 @@
 /// What is known beside a fault, each in one line: the facts at its place, and how that is reached.
-#[derive(Debug, Drop)]
+#[derive(Drop)]
 pub(crate) struct Background {
     pub known: Option<String>,
     pub way: Option<String>,

@@ -31,7 +31,7 @@ fn range_of(operand: Operand, command: Option<&str>) -> Option<(u32, u32)> {
 }
 
 /// A word in the place of a number, and the range of that place.
-#[derive(Clone, Copy, Debug)]
+#[derive(Clone, Copy)]
 struct Misplaced<'a> {
     word: &'a str,
     low: u32,

@@ -7,7 +7,7 @@ use session::Scenario;
 use std::alloc::{AllocError, Global};
 
 /// What each target starts with.
-#[derive(Clone, Copy, Debug)]
+#[derive(Clone, Copy)]
 enum Kept {
     Page,
     Protect,

@@ -31,14 +31,19 @@ use board::BoardFault;
 pub(crate) use doubt::{Doubt, doubts_on};
 use draft::Draft;
 pub(crate) use draft::lines_of;
-use finding::{Finding, finding_in};
+use finding::{Finding, finding_in, unsearched};
 use not_toml::not_toml;
 pub(crate) use scan::number_of;
 use std::alloc::{AllocError, Global};
 
+/// The longest board file in which a fault is looked for, in bytes, since that takes many times its
+/// size in memory. Of a longer one the fault alone is told.
+const MOST_SEARCHED: usize = 1 << 18;
+
 /// The line that a fault is told on, and what is said of it.
 fn finding_on(alloc: Global, text: &str, fault: BoardFault) -> Result<Finding, AllocError> {
     match toml::table_from_str(alloc, text) {
+        Ok(_) if text.len() > MOST_SEARCHED => unsearched(alloc, fault),
         Ok(tree) => {
             let draft = Draft::new(alloc, text, &tree, fault)?;
             finding_in(alloc, &draft)
@@ -63,7 +68,8 @@ pub(crate) fn number_within(text: &str, number: usize) -> usize
 ///
 /// The fault is to be the one that `read_board` answers for the text. Which line it is on is found
 /// by asking `read_board` about parts of the text, and then by the looks of its lines: where a file
-/// is laid out in an unusual way, a line above may be named.
+/// is laid out in an unusual way, a line above may be named, and for a text of over 256 KiB the
+/// first.
 pub fn board_note(
     alloc: Global,
     text: &str,

@@ -1,6 +1,7 @@
 //! What a run does that its targets or rails aren't made for.
 
-ghost use Rattle.std.specs.Prelude.{◌≡◌, ◌≤◌, None, Some, All, IfOk, IfSome, length, slice_get};
+ghost use Rattle.std.specs.Prelude.{◌≡◌, ◌≤◌, None, Some, All, IfOk, IfSome, length, option_map};
+ghost use Rattle.std.specs.Prelude.{slice_get};
 ghost use Rattle.facts.specs.Sets.{rails_in};
 ghost use Rattle.seq_program.specs.Valid.{IsOnBoard};
 ghost use Rattle.seq_program.specs.declared.instr.Instr.{Instr};
@@ -17,7 +18,7 @@ ghost use Rattle.table_check.specs.Obligations.{IsInductive};
 use crate::judge::Judge;
 use crate::law::accepted_runs_keep_rules;
 use board::Board;
-use facts::Rule;
+use facts::{Row, Rule};
 use seq_program::Program;
 use session::Scenario;
 use simulator::{Ending, Entry, Machine, RunFault, runs_are_one, start, step_at, steps_are_seen};
@@ -26,12 +27,19 @@ use std::alloc::{AllocError, Global};
 use table_check::accepted_runs_are_admitted;
 
 /// A rule that an instruction breaks where a run reaches it.
-#[derive(Clone, Copy, Debug, PartialEq, Eq)]
+#[derive(Clone, Copy, PartialEq, Eq)]
 pub struct Breach {
     /// The index of the answer to the instruction.
     pub index: usize,
     pub place: usize,
     pub rule: Rule,
+}
+
+/// A breach, and what was known where the run reached it.
+#[derive(Drop)]
+pub(crate) struct Reached {
+    pub breach: Breach,
+    pub row: Row,
 }
 
 /// The step of a machine under an answer, if there is one.
@@ -79,9 +87,13 @@ fn rule_broken(
 
 /// The first instruction of a run that breaks one of the rules K1 to K5, as its machine is and as
 /// the rails reported. A run ends where it has a fault.
-pub fn first_breach(alloc: Global, scenario: &Scenario<'_>) -> Result<Option<Breach>, AllocError>
+pub(crate) fn first_breach(
+    alloc: Global,
+    scenario: &Scenario<'_>,
+) -> Result<Option<Reached>, AllocError>
     requires { IsOnItsBoard scenario.now }
-    ensures first { IfOk result (λ found. IsFirstBreach scenario.now found) }
+    ensures first { IfOk result
+        (λ found. IsFirstBreach scenario.now (option_map (λ x. x.breach) found)) }
     // A program that is accepted with some table breaks none.
     ensures spares { IfOk result (λ found. (t : Table)
         → IsInductive scenario.now.board scenario.now.program t → found ≡ None) }
@@ -106,8 +118,10 @@ pub fn first_breach(alloc: Global, scenario: &Scenario<'_>) -> Result<Option<Bre
     let mut ticks = 0;
     while let Some(answer) = answers.next(alloc)? {
         if let Some(rule) = rule_broken(alloc, board, program, &machine, &judge)? {
+            let row = judge.row(alloc, board, &machine)?;
             let place = machine.place;
-            return Ok(Some(Breach { index, place, rule }));
+            let breach = Breach { index, place, rule };
+            return Ok(Some(Reached { breach, row }));
         }
         judge.after(alloc, board, program, &machine, &answer)?;
         let before = (machine, spare);

@@ -59,11 +59,32 @@ fn section_note(
     }
 }
 
+/// The number of the line that a text ends in.
+fn last_line(text: &str) -> usize {
+    let feeds = text.bytes().filter(|byte| *byte == b'\n').count();
+    feeds.saturating_add(1)
+}
+
+/// What is said of an input that is cut where it is no text, or too large.
+fn no_text(alloc: Global, text: &str, fault: BundleFault) -> Result<Remark, AllocError> {
+    let message = match fault {
+        BundleFault::NotText if !text.is_empty() => {
+            let line = last_line(text);
+            format!(in alloc; "{fault}: line {line} goes on with a byte that isn't UTF-8")?
+        }
+        _ => format!(in alloc; "{fault}")?,
+    };
+    Remark::plain(alloc, &message)
+}
+
 /// What is said of an input without a line.
 fn no_command(alloc: Global) -> Result<Remark, AllocError> {
     Ok(Remark {
         message: String::from_str(alloc, "the input is empty")?,
-        help: help_of(alloc, Some("the first line is a command, as %verify"))?,
+        help: help_of(
+            alloc,
+            Some("the first line is a command, as %verify, and its sections follow, as %board"),
+        )?,
     })
 }
 
@@ -72,7 +93,8 @@ fn no_command(alloc: Global) -> Result<Remark, AllocError> {
 /// What has no line is told at the first, which has the command.
 ///
 /// The fault is to be the one that the bundle's readers answer for the text. Of another fault the
-/// note still names its line, and quotes it if the text has it.
+/// note still names its line, and quotes it if the text has it. For `NotText` the text is what
+/// stands before the first byte that is none.
 pub fn bundle_note(alloc: Global, text: &str, fault: BundleFault) -> Result<String, AllocError>
     ensures { IfOk result (λ note. IsOnFault text.now fault (string_bytes note)) }
 {
@@ -90,10 +112,7 @@ pub fn bundle_note(alloc: Global, text: &str, fault: BundleFault) -> Result<Stri
         BundleFault::NoCommand => no_command(alloc)?,
         BundleFault::UnknownCommand => unknown_command(alloc, line_at(text, 1).unwrap_or(""))?,
         BundleFault::MissingSection(header) => missing_section(alloc, text, header)?,
-        BundleFault::NotText | BundleFault::TooLarge => {
-            let message = format!(in alloc; "{fault}")?;
-            Remark::plain(alloc, &message)?
-        }
+        BundleFault::NotText | BundleFault::TooLarge => no_text(alloc, text, fault)?,
     };
     bundle_line_note(alloc, text, 1, &remark)
 }

@@ -1,11 +1,13 @@
 //! What is told of a refusal beside its rule.
 
 use crate::background::Background;
+use crate::remark::Remark;
 
-/// What is to blame for a refusal, with names and numbers, and what is known beside.
-#[derive(Debug, Drop)]
+/// What is to blame for a refusal, with names and numbers, and what may mend just that, and what is
+/// known beside.
+#[derive(Drop)]
 pub(crate) struct Cause {
-    pub detail: Option<String>,
+    pub blame: Option<Remark>,
     pub background: Background,
 }
 
@@ -16,19 +18,19 @@ impl Cause {
     }
 
     /// What is to blame, and what is known at the place.
-    pub(crate) fn of(detail: Option<String>, known: Option<String>) -> Cause {
+    pub(crate) fn of(blame: Option<Remark>, known: Option<String>) -> Cause {
         Cause {
-            detail,
+            blame,
             background: Background { known, way: None },
         }
     }
 
     /// The same, and how the place is reached.
     pub(crate) fn reached_by(self, way: Option<String>) -> Cause {
-        let Cause { detail, background } = self;
+        let Cause { blame, background } = self;
         let Background { known, .. } = background;
         Cause {
-            detail,
+            blame,
             background: Background { known, way },
         }
     }

@@ -5,12 +5,14 @@ use crate::cause::Cause;
 use crate::edge_detail::edge_detail;
 use crate::facts_here::{facts_here, has_rail};
 use crate::quote::Quoted;
+use crate::remark::bare;
 use crate::roads::Judged;
 use crate::sent::{greatest_sent, least_sent, number_of};
 use crate::table_detail::{form_detail, start_detail};
 use board::{Board, Rail};
 use facts::{Row, Rule};
-use pmbus_table::permits;
+use pmbus_table::{by_code, name_of, permits};
+use seq_program::Instr;
 use smbus::Message;
 use std::alloc::{AllocError, Global};
 
@@ -58,6 +60,21 @@ fn need_detail(
         }
     }
     Ok(None)
+}
+
+/// K2: the command that is read at a page.
+fn page_detail(
+    alloc: Global,
+    board: &Board,
+    target: usize,
+    code: u8,
+) -> Result<Option<String>, AllocError> {
+    let Some(command) = by_code(code) else {
+        return Ok(None);
+    };
+    let command = name_of(alloc, command)?;
+    let target = Quoted(board.target_name(target).unwrap_or(""));
+    Ok(Some(format!(in alloc; "{target} has {command} for each page")?))
 }
 
 /// K3: the value that may be stored and forbids a command.
@@ -116,41 +133,52 @@ fn limit_detail(
 /// What is to blame for a message to a target that breaks a rule, and what is known there.
 fn message_cause(
     alloc: Global,
-    judged: Judged<'_>,
+    board: &Board,
     row: &Row,
     rule: Rule,
     least: &Message,
     most: &Message,
 ) -> Result<Cause, AllocError> {
-    let board = judged.board;
     let Some(target) = board.target_at(most.address) else {
         return Ok(Cause::none());
     };
-    let detail = match rule {
+    let blame = match rule {
         Rule::K1 => allowed_detail(alloc, board, target, least, most)?,
-        Rule::K3 => protection_detail(alloc, board, row, target, most.code)?,
-        Rule::K4 => limit_detail(alloc, board, row, target, number_of(&most.out))?,
-        Rule::K5 => need_detail(alloc, board, row, target)?,
+        Rule::K2 => bare(page_detail(alloc, board, target, most.code)?),
+        Rule::K3 => bare(protection_detail(alloc, board, row, target, most.code)?),
+        Rule::K4 => bare(limit_detail(alloc, board, row, target, number_of(&most.out))?),
+        Rule::K5 => bare(need_detail(alloc, board, row, target)?),
         _ => None,
     };
     let known = facts_here(alloc, board, row, target, rule)?;
-    Ok(Cause::of(detail, known))
+    Ok(Cause::of(blame, known))
+}
+
+/// The same of an instruction at a row.
+pub(crate) fn instr_cause(
+    alloc: Global,
+    board: &Board,
+    instr: &Instr,
+    row: &Row,
+    rule: Rule,
+) -> Result<Cause, AllocError> {
+    let least = least_sent(alloc, board, instr, row)?;
+    let most = greatest_sent(alloc, board, instr, row)?;
+    match (least, most) {
+        (Some(least), Some(most)) => message_cause(alloc, board, row, rule, &least, &most),
+        _ => Ok(Cause::none()),
+    }
 }
 
 /// The same of a place's instruction.
-fn instr_cause(
+fn place_cause(
     alloc: Global,
     judged: Judged<'_>,
     place: usize,
     rule: Rule,
 ) -> Result<Cause, AllocError> {
-    let (Some(instr), Some(row)) = (judged.program.at(place), judged.row(place)) else {
-        return Ok(Cause::none());
-    };
-    let least = least_sent(alloc, judged.board, instr, row)?;
-    let most = greatest_sent(alloc, judged.board, instr, row)?;
-    match (least, most) {
-        (Some(least), Some(most)) => message_cause(alloc, judged, row, rule, &least, &most),
+    match (judged.program.at(place), judged.row(place)) {
+        (Some(instr), Some(row)) => instr_cause(alloc, judged.board, instr, row, rule),
         _ => Ok(Cause::none()),
     }
 }
@@ -169,8 +197,8 @@ pub(crate) fn detail_of(
         Rule::K8 => start_detail(alloc, judged)?,
         Rule::K9 => form_detail(alloc, judged, place)?,
         Rule::K1 | Rule::K2 | Rule::K3 | Rule::K4 | Rule::K5 => {
-            return instr_cause(alloc, judged, place, rule);
+            return place_cause(alloc, judged, place, rule);
         }
     };
-    Ok(Cause::of(detail, None))
+    Ok(Cause::of(bare(detail), None))
 }

@@ -20,7 +20,7 @@ fn pages_detail(
             let name = Quoted(board.target_name(target).unwrap_or(""));
             let (pages, more) = (pages_text(alloc, *pages)?, pages_text(alloc, *more)?);
             return Ok(Some(format!(in alloc;
-                "PAGE of {name} may be {more}, and the row there has {pages}"
+                "PAGE of {name} may be {more}, and there the row has only {pages}"
             )?));
         }
     }
@@ -42,7 +42,7 @@ fn protects_detail(
                 protects_text(alloc, *more)?,
             );
             return Ok(Some(format!(in alloc;
-                "WRITE_PROTECT of {name} may be {more}, and the row there has {protects}"
+                "WRITE_PROTECT of {name} may be {more}, and there the row has only {protects}"
             )?));
         }
     }
@@ -60,7 +60,7 @@ fn good_detail(
         if has_rail(claimed.good, index) && !has_rail(known.good, index) {
             let name = Quoted(board.rail_name(index).unwrap_or(""));
             return Ok(Some(format!(in alloc;
-                "{name} isn't known to be good, and the row there has it for good"
+                "{name} isn't known to be good, and there the row has it for good"
             )?));
         }
     }
@@ -78,23 +78,37 @@ fn spans_detail(
         if !span.covers(more) {
             let (span, more) = (span_text(alloc, *span)?, span_text(alloc, *more)?);
             return Ok(Some(format!(in alloc;
-                "{letter}{index} may be {more}, and the row there has {span}"
+                "{letter}{index} may be {more}, and there the row has {span}"
             )?));
         }
     }
     Ok(None)
 }
 
+/// What a register was read from.
+fn source_text(alloc: Global, board: &Board, source: Source) -> Result<String, AllocError> {
+    let (command, name) = match source {
+        Source::None => return String::from_str(alloc, "nothing"),
+        Source::Status(rail) => ("STATUS_WORD", board.rail_name(rail)),
+        Source::Page(target) => ("PAGE", board.target_name(target)),
+        Source::Protect(target) => ("WRITE_PROTECT", board.target_name(target)),
+    };
+    let name = Quoted(name.unwrap_or(""));
+    format!(in alloc; "{command} of {name}")
+}
+
 /// The first register whose source isn't known.
 fn sources_detail(
     alloc: Global,
+    board: &Board,
     known: &[Source; 8],
     claimed: &[Source; 8],
 ) -> Result<Option<String>, AllocError> {
     for (index, (source, other)) in claimed.iter().zip(known).enumerate() {
         if !source.covers(other) {
+            let source = source_text(alloc, board, *source)?;
             return Ok(Some(format!(in alloc;
-                "r{index} isn't known to have the source that the row there has"
+                "it isn't known that r{index} was read from {source}, as there the row has it"
             )?));
         }
     }
@@ -120,7 +134,7 @@ fn uncovered(
     if let Some(detail) = spans_detail(alloc, 'r', &known.regs, &claimed.regs)? {
         return Ok(Some(detail));
     }
-    if let Some(detail) = sources_detail(alloc, &known.sources, &claimed.sources)? {
+    if let Some(detail) = sources_detail(alloc, board, &known.sources, &claimed.sources)? {
         return Ok(Some(detail));
     }
     spans_detail(alloc, 'c', &known.counters, &claimed.counters)
@@ -157,8 +171,8 @@ fn counters_text(
     let mut text = String::new(alloc);
     for (index, counter) in counters.iter().enumerate() {
         if row.coeffs[index] > 0 || next[index] > 0 {
-            let joint = if text.is_empty() { ", with" } else { " and" };
-            write!(text, "{joint} c{index} at {counter}")?;
+            let joint = if text.is_empty() { ", where" } else { " and" };
+            write!(text, "{joint} c{index} is {counter} then")?;
         }
     }
     Ok(text)
@@ -195,12 +209,15 @@ fn broken_by(
 ) -> Result<Option<String>, AllocError> {
     let (to, known, _) = edge;
     let Some(next) = judged.row(*to) else {
-        return Ok(Some(format!(in alloc; "the table has no row for place {to}")?));
+        return Ok(Some(format!(in alloc; "row {to} is none")?));
     };
     if next.covers(known) {
         ticks_detail(alloc, place, edge, next)
     } else {
-        uncovered(alloc, judged.board, known, next)
+        match uncovered(alloc, judged.board, known, next)? {
+            Some(detail) => Ok(Some(format!(in alloc; "{detail} (row {to})")?)),
+            None => Ok(None),
+        }
     }
 }
 
@@ -212,7 +229,7 @@ fn end_detail(
 ) -> Result<Option<String>, AllocError> {
     match judged.program.at(place) {
         Some(Instr::End | Instr::Fail) => Ok(Some(format!(in alloc;
-            "the end takes a tick, and row {place} may leave none"
+            "the end takes a tick, and the `ticks` of row {place} may leave none"
         )?)),
         _ => Ok(None),
     }

@@ -7,7 +7,7 @@ use std::alloc::{AllocError, Global};
 use texts::{first_by_feed, words_of};
 
 /// A line and its number.
-#[derive(Clone, Copy, Debug)]
+#[derive(Clone, Copy)]
 struct Numbered<'a> {
     line: &'a str,
     number: usize,

@@ -11,7 +11,7 @@ use std::alloc::{AllocError, Global};
 use texts::{ReadError, pair_of};
 
 /// A field, and what stands behind its key.
-#[derive(Clone, Copy, Debug)]
+#[derive(Clone, Copy)]
 pub(crate) struct Field {
     pub key: &'static str,
     pub expected: &'static str,

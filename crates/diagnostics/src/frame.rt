@@ -43,10 +43,14 @@ fn bad_block(alloc: Global, message: &Message, returned: usize) -> Result<Remark
     let written = message.out.len();
     let text = match message.form {
         Form::BlockWrite => format!(in alloc; "a block of {written} bytes in \"out=\"")?,
+        Form::BlockRead if returned == 0 => {
+            String::from_str(alloc, "\"bytes=\" is missing, the block that comes back")?
+        }
         Form::BlockRead => format!(in alloc; "a block of {returned} bytes in \"bytes=\"")?,
         _ => format!(in alloc; "{written} bytes in \"out=\" and {returned} in \"bytes=\"")?,
     };
-    let help = "a block has 1 to 255 bytes, and both of a block call have at most 255 together";
+    let help = "a block has 1 to 255 bytes of two digits each, as in \"bytes=4143\", and both of a \
+                block call have at most 255 together";
     Ok(Remark {
         message: text,
         help: help_of(alloc, Some(help))?,

@@ -17,7 +17,9 @@ pub(crate) fn unknown_command(alloc: Global, line: &str) -> Result<Remark, Alloc
         Some(help) => help,
         None => {
             let commands = listed(alloc, &COMMANDS)?;
-            format!(in alloc; "the first line is a command alone: {commands}")?
+            format!(in alloc;
+                "the first line is a command alone, one of {commands}, and its sections follow"
+            )?
         }
     };
     let line = Quoted(line);

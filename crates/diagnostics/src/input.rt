@@ -97,7 +97,7 @@ fn broken_note(
         return Ok(None);
     };
     let cause = cause_of(alloc, judged, &program, place, rule)?;
-    detailed_note(alloc, &program, place, Refusal::Breaks(rule), &cause)
+    detailed_note(alloc, &program, place, Refusal::Breaks(rule), cause)
 }
 
 /// The note on a place at which the search gave up.
@@ -113,7 +113,7 @@ fn gave_up_note(
         return Ok(None);
     };
     let cause = loop_cause(alloc, program, &written, place)?;
-    detailed_note(alloc, &written, place, Refusal::GaveUp, &cause)
+    detailed_note(alloc, &written, place, Refusal::GaveUp, cause)
 }
 
 /// The note on the verdict on a table.

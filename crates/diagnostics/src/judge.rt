@@ -8,7 +8,7 @@ ghost use Rattle.diagnostics.specs.Telling.{TellsAfter};
 use crate::known::known_row;
 use crate::reporting::is_good_after;
 use board::Board;
-use facts::{ByteSet, GoodSet, Rule, duty};
+use facts::{ByteSet, GoodSet, Row, Rule, duty};
 use seq_program::{Instr, Program, message_of};
 use simulator::{Machine, steps_are_seen};
 use smbus::{Answer, Message};
@@ -17,7 +17,7 @@ use targets::BusState;
 
 /// Which rails a run knows to be good: those whose last report was good, and that weren't turned
 /// off since.
-#[derive(Clone, Copy, Debug)]
+#[derive(Clone, Copy)]
 pub struct Judge {
     good: GoodSet,
 }
@@ -85,13 +85,15 @@ impl Judge {
     ghost use Rattle.std.specs.Prelude.{◌≡◌, ◌∷◌, ◌<◌, [], List, IfOk, OnOk, OnErr, Some, length};
     ghost use Rattle.std.specs.Prelude.{slice_get};
     ghost use Rattle.board.specs.Boards.{Board as AnyBoard};
+    ghost use Rattle.facts.specs.Rows.{row_view};
     ghost use Rattle.facts.specs.Sets.{rails_in};
     ghost use Rattle.seq_program.specs.declared.instr.Instr.{Instr};
     ghost use Rattle.simulator.specs.Machines.{IsMachine, Entry};
     ghost use Rattle.simulator.specs.Machines.{Machine as AnyMachine};
     ghost use Rattle.simulator.specs.Steps.{IsStep};
     ghost use Rattle.simulator.specs.StepLaws.{IsReady};
-    ghost use Rattle.diagnostics.specs.Known.{Knows, IsBreach};
+    ghost use Rattle.targets.specs.States.{Belongs};
+    ghost use Rattle.diagnostics.specs.Known.{Knows, IsBreach, known_row};
 
     /// Before the first step: nothing was reported.
     pub fn new() -> Judge
@@ -100,6 +102,15 @@ impl Judge {
         Judge {
             good: GoodSet::empty(),
         }
+    }
+
+    /// What is known of a machine of the board.
+    pub fn row(&self, alloc: Global, board: &Board, machine: &Machine) -> Result<Row, AllocError>
+        requires { Belongs board.now machine.now.bus }
+        ensures { IfOk result
+            (λ row. row_view row ≡ known_row machine.now (rails_in self.now.good)) }
+    {
+        known_row(alloc, board, machine, self.good)
     }
 
     /// The first of the rules K1 to K5 that the instruction at a machine's place breaks there, if
@@ -117,7 +128,7 @@ impl Judge {
             → slice_get program.now machine.now.place ≡ Some i
             → IsBreach board.now (rails_in self.now.good) machine.now i found) }
     {
-        let row = known_row(alloc, board, machine, self.good)?;
+        let row = self.row(alloc, board, machine)?;
         Ok(duty(board, instr_of(program, machine), &row))
     }
 

@@ -16,8 +16,9 @@ pub struct Keeping<R> {
 }
 
 impl<R: Read> Keeping<R> {
-    ghost use Rattle.std.specs.Prelude.{◌≡◌, [], Some, OnOk, option_map};
-    ghost use Rattle.diagnostics.specs.Keeping.{kept_of, reader_of, KeepsMore};
+    ghost use Rattle.std.specs.Prelude.{◌≡◌, ◌≤◌, ◌+◌, [], Some, OnOk, IsTrue, length};
+    ghost use Rattle.std.specs.Prelude.{option_map, vec_len, vec_capacity};
+    ghost use Rattle.diagnostics.specs.Keeping.{kept_of, reader_of, kept_with};
 
     /// Keeps what a reader gives from here on.
     pub fn new(alloc: Global, reader: R) -> Keeping<R>
@@ -46,21 +47,29 @@ impl<R: Read> Keeping<R> {
     fn make_room(&mut self, count: usize) -> Result<(), AllocError>
         ensures reader { reader_of self.new ≡ reader_of self.old }
         ensures kept { kept_of self.new ≡ kept_of self.old }
+        ensures room { OnOk result (IsTrue self.new.is_whole
+            → vec_len self.new.kept + count ≤ vec_capacity self.new.kept) }
     {
         if self.is_whole {
-            self.kept.reserve(count)?;
+            self.kept.reserve(count)
+        } else {
+            Ok(())
         }
-        Ok(())
     }
 
-    /// Keeps some bytes more, or forgets all.
+    /// Keeps some bytes more, for which there is room, or forgets all where it would be too much.
     fn keep(&mut self, bytes: &[u8])
+        requires room { IsTrue self.old.is_whole
+            → vec_len self.old.kept + length bytes.now ≤ vec_capacity self.old.kept }
         ensures reader { reader_of self.new ≡ reader_of self.old }
-        ensures keeps { KeepsMore (kept_of self.old) bytes.now (kept_of self.new) }
+        ensures keeps { kept_of self.new ≡ kept_with (kept_of self.old) bytes.now }
     {
-        let fits = bytes.len() <= MOST_KEPT - self.kept.len().min(MOST_KEPT);
-        if self.is_whole && fits && self.kept.extend_from_slice(bytes).is_ok() {
-            return;
+        let count = bytes.len();
+        if self.is_whole && count <= MOST_KEPT && self.kept.len() <= MOST_KEPT - count {
+            match self.kept.extend_from_slice(bytes) {
+                Ok(()) => return,
+                Err(AllocError) => unreachable!(),
+            }
         }
         self.is_whole = false;
         self.kept.clear();
@@ -68,10 +77,10 @@ impl<R: Read> Keeping<R> {
 }
 
 impl<R: Read> Read for Keeping<R> {
-    ghost use Rattle.std.specs.Prelude.{IfOk, take};
+    ghost use Rattle.std.specs.Prelude.{◌≡◌, IfOk, OnErr, take};
     ghost use Rattle.std.specs.Io.{ReadsAtMost};
     ghost use Rattle.std.specs.Io.KnownBytes.{ReadConsumes};
-    ghost use Rattle.diagnostics.specs.Keeping.{kept_of, reader_of, KeepsMore};
+    ghost use Rattle.diagnostics.specs.Keeping.{kept_of, reader_of, kept_with};
 
     ghost remaining = { λ k. R.remaining k.reader };
 
@@ -81,7 +90,8 @@ impl<R: Read> Read for Keeping<R> {
         ensures bytes { ReadConsumes (R.remaining (reader_of self.old))
             (R.remaining (reader_of self.new)) result buffer.new }
         ensures keeps { IfOk result
-            (λ count. KeepsMore (kept_of self.old) (take count buffer.new) (kept_of self.new)) }
+            (λ count. kept_of self.new ≡ kept_with (kept_of self.old) (take count buffer.new)) }
+        ensures failed { OnErr result (kept_of self.new ≡ kept_of self.old) }
     {
         self.make_room(buffer.len())?;
         let count = self.reader.read(buffer)?;

@@ -10,7 +10,7 @@ use std::alloc::{AllocError, Global};
 use targets::BusState;
 
 /// The part of an answer that doesn't fit.
-#[derive(Clone, Copy, Debug)]
+#[derive(Clone, Copy)]
 enum Part {
     /// `value` or `bytes`.
     Returned,
@@ -66,7 +66,9 @@ fn alerts_misfit(alloc: Global, board: &Board, alerts: u16) -> Result<String, Al
     match board.target_name(index) {
         Some(name) => {
             let name = Quoted(name);
-            format!(in alloc; "{name} alerts by alerts={alerts:X}, which it can't on this board")
+            format!(in alloc;
+                "{name} alerts by bit {index} of alerts={alerts:X}, which it can't on this board"
+            )
         }
         None => {
             let count = board.targets().len();
@@ -139,7 +141,7 @@ fn silent_misfit(alloc: Global, step: &Step, part: Part) -> Result<String, Alloc
         Part::Holds => "holds=",
         Part::Took => "took=1",
     };
-    format!(in alloc; "\"{word}\" for a step that sends nothing")
+    format!(in alloc; "\"{word}\" for a step that sends nothing, whose answer is \"-\"")
 }
 
 /// What is wrong with an answer that doesn't fit, where the targets keep this before the step, and

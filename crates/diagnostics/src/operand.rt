@@ -4,7 +4,7 @@ use smbus::Form;
 use std::alloc::{AllocError, Global};
 
 /// What stands in one place of a line.
-#[derive(Clone, Copy, Debug, PartialEq, Eq)]
+#[derive(Clone, Copy, PartialEq, Eq)]
 pub(crate) enum Operand {
     Target,
     /// A command that has a form.

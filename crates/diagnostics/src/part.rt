@@ -11,7 +11,7 @@ use std::alloc::{AllocError, Global};
 use texts::ReadError;
 
 /// The text of a section, and how many lines of the bundle stand above it.
-#[derive(Debug, Drop)]
+#[derive(Drop)]
 pub(crate) struct Part {
     pub text: String,
     pub above: usize,

@@ -7,7 +7,7 @@ use std::fmt;
 const MOST_SHOWN: usize = 40;
 
 /// A word in quotes. Of a long one the beginning is shown, and two dots.
-#[derive(Clone, Copy, Debug)]
+#[derive(Clone, Copy)]
 pub(crate) struct Quoted<'a>(pub &'a str);
 
 /// The beginning of a word that is too long to be shown.

@@ -46,49 +46,66 @@ fn message_of(refusal: Refusal) -> &'static str {
             "K7: this may take more ticks than the rows leave from here to where it leads"
         }
         Refusal::Breaks(Rule::K8) => "K8: the row of place 0 doesn't hold every start of the board",
-        Refusal::Breaks(Rule::K9) => "K9: the table is none of this program on this board",
+        Refusal::Breaks(Rule::K9) => {
+            "K9: the table doesn't belong to this program on this board"
+        }
         Refusal::GaveUp => "no facts are found: no counter bounds a loop through this line",
     }
 }
 
 /// What may mend it, where there is something to say.
-pub(crate) fn help_on(refusal: Refusal) -> Option<&'static str> {
+fn help_on(refusal: Refusal) -> Option<&'static str> {
     match refusal {
         Refusal::Breaks(Rule::K1) => {
-            Some("if the data sheet allows it, add an entry or widen its `values`")
+            Some("send what an entry permits, or, if the data sheet allows it, add an entry")
         }
         Refusal::Breaks(Rule::K2) => Some("write the page that is meant before this line"),
         Refusal::Breaks(Rule::K3) => Some(
-            "where the write of WRITE_PROTECT wasn't done, leave by its `else` label, or read it \
-             back and test the register",
+            "write a value to WRITE_PROTECT before that permits this; where that write wasn't \
+             done, leave by its `else` label, or read it back and test the register",
         ),
         Refusal::Breaks(Rule::K4) => Some(
-            "a voltage is its mantissa times two to the target's exponent; pages that PAGE may \
-             have here count all",
+            "a voltage is its mantissa times two to the target's exponent; all pages count that \
+             PAGE may have here: where a write of PAGE wasn't done, leave by its `else` label",
         ),
         Refusal::Breaks(Rule::K5) => Some(
             "read STATUS_WORD of the rails that it needs, each at its page, and come here only \
              behind `if rN 0x0840 0x0000 LABEL`",
         ),
-        Refusal::GaveUp => Some("count its turns: `count c0 N` before it, `again c0 LABEL` in it"),
-        Refusal::Breaks(Rule::K6 | Rule::K7 | Rule::K8 | Rule::K9) => None,
+        Refusal::GaveUp => Some(
+            "count the turns of each loop through it: `count c0 N` before it, `again c0 LABEL` in \
+             it; when they are used up, the line below `again` comes next",
+        ),
+        Refusal::Breaks(Rule::K7) => Some(
+            "of a row's `ticks`, the first are left in any case, and the others for each turn left \
+             of c0 to c3; %find makes a table anew",
+        ),
+        Refusal::Breaks(Rule::K6 | Rule::K8) => Some(
+            "in a row, values stand side by side, as in `page a 00 01`; %find makes a table anew",
+        ),
+        Refusal::Breaks(Rule::K9) => Some("%find makes a table anew"),
     }
 }
 
 /// What is said of a refusal, and what is to blame for it, if that is known.
-fn remark_on(
+pub(crate) fn blaming(
     alloc: Global,
+    sentence: &str,
     refusal: Refusal,
-    detail: &Option<String>,
+    blame: Option<Remark>,
 ) -> Result<Remark, AllocError> {
-    let sentence = message_of(refusal);
-    let message = match detail {
-        Some(detail) => format!(in alloc; "{sentence}: {detail}")?,
-        None => String::from_str(alloc, sentence)?,
+    let Some(blame) = blame else {
+        let message = String::from_str(alloc, sentence)?;
+        let help = help_of(alloc, help_on(refusal))?;
+        return Ok(Remark { message, help });
     };
+    let detail = blame.message;
     Ok(Remark {
-        message,
-        help: help_of(alloc, help_on(refusal))?,
+        message: format!(in alloc; "{sentence}: {detail}")?,
+        help: match blame.help {
+            Some(help) => Some(help),
+            None => help_of(alloc, help_on(refusal))?,
+        },
     })
 }
 
@@ -98,15 +115,16 @@ pub(crate) fn detailed_note(
     text: &str,
     place: usize,
     refusal: Refusal,
-    cause: &Cause,
+    cause: Cause,
 ) -> Result<Option<String>, AllocError>
     ensures { IfOk result (IsOnPlace (codes "error") (lines_by_feed text.now) place) }
 {
     let Some(number) = place_line(alloc, text, place)? else {
         return Ok(None);
     };
-    let remark = remark_on(alloc, refusal, &cause.detail)?;
-    let note = background_note(alloc, "%program", text, number, &remark, &cause.background)?;
+    let Cause { blame, background } = cause;
+    let remark = blaming(alloc, message_of(refusal), refusal, blame)?;
+    let note = background_note(alloc, "%program", text, number, &remark, &background)?;
     Ok(Some(note))
 }
 
@@ -120,5 +138,5 @@ pub fn refusal_note(
 ) -> Result<Option<String>, AllocError>
     ensures { IfOk result (IsOnPlace (codes "error") (lines_by_feed text.now) place) }
 {
-    detailed_note(alloc, text, place, refusal, &Cause::none())
+    detailed_note(alloc, text, place, refusal, Cause::none())
 }

@@ -1,7 +1,7 @@
 use std::alloc::{AllocError, Global};
 
 /// What is said of a fault, in one line, and what may help, in another.
-#[derive(Debug, Drop)]
+#[derive(Drop)]
 pub(crate) struct Remark {
     pub message: String,
     pub help: Option<String>,
@@ -15,6 +15,17 @@ impl Remark {
             message,
             help: None,
         })
+    }
+}
+
+/// What is to blame, where no more may be said to mend it.
+pub(crate) fn bare(message: Option<String>) -> Option<Remark> {
+    match message {
+        Some(message) => Some(Remark {
+            message,
+            help: None,
+        }),
+        None => None,
     }
 }
 

@@ -71,9 +71,9 @@ fn nothing_misfit(alloc: Global, form: Form, answer: &Answer) -> Result<String, 
     let value = answer.value;
     let text = form_text(form);
     if value != 0 {
-        return format!(in alloc; "value {value:04X} for {text}");
+        return format!(in alloc; "value {value:04X} for {text}, whose answer is \"-\"");
     }
-    format!(in alloc; "a block for {text}")
+    format!(in alloc; "a block for {text}, whose answer is \"-\"")
 }
 
 /// What is wrong with a value that isn't the one that a target stores.

@@ -6,7 +6,7 @@ use std::alloc::{AllocError, Global};
 const MOST_TOLD: usize = 6;
 
 /// Places one after the other, from the first to the last.
-#[derive(Clone, Copy, Debug)]
+#[derive(Clone, Copy)]
 struct Stretch {
     first: usize,
     last: usize,

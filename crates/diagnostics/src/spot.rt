@@ -11,7 +11,7 @@ use std::alloc::{AllocError, Global};
 use texts::words_of;
 
 /// A line of a section, by the section's text and the line's number in it.
-#[derive(Clone, Copy, Debug)]
+#[derive(Clone, Copy)]
 pub(crate) struct Spot<'a> {
     pub text: &'a str,
     pub number: usize,
@@ -25,7 +25,9 @@ impl Spot<'_> {
 }
 
 /// How the first line of answers looks.
-const START: &str = "the first line says how the targets start, as in \"start 00,00 00,00\"";
+const START: &str =
+    "the first line says how the targets start, PAGE of each and then WRITE_PROTECT of each, as in \
+     \"start 00,00 00,00\"";
 
 /// What is said of a first line that doesn't say how the targets start.
 fn bad_start_line(alloc: Global, words: &[&str]) -> Result<Remark, AllocError> {
@@ -82,7 +84,7 @@ fn whole_message(words: &[&str]) -> &'static str {
     }
     let has_code = form_named(form).is_some_and(|form| carries_code(form));
     match value_of(words, "code=") {
-        None if has_code => "\"code=\" is missing, which this form has",
+        None if has_code => "\"code=\" is missing, as in \"form=readword address=40 code=79\"",
         Some(_) if !has_code => "\"code=\" stands here, which this form hasn't",
         _ => "the address 0C is for the form alert, which has no other",
     }

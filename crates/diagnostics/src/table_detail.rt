@@ -16,7 +16,9 @@ const MOST_TICKS: u64 = 1 << 40;
 fn empty_span(alloc: Global, letter: char, spans: &[Span]) -> Result<Option<String>, AllocError> {
     for (index, Span { lo, hi }) in spans.iter().enumerate() {
         if lo > hi {
-            return Ok(Some(format!(in alloc; "{letter}{index} has {lo} to {hi}")?));
+            return Ok(Some(format!(in alloc;
+                "{letter}{index} is from {lo} to {hi}, in no order"
+            )?));
         }
     }
     Ok(None)
@@ -45,11 +47,11 @@ fn row_detail(alloc: Global, board: &Board, row: &Row) -> Result<Option<String>,
     if let Some(detail) = empty_span(alloc, 'c', &row.counters)? {
         return Ok(Some(detail));
     }
-    if row.counters.iter().any(|span| span.hi > MOST_TURNS) {
-        return Ok(Some(format!(in alloc; "a counter is over {MOST_TURNS}")?));
+    if let Some(index) = row.counters.iter().position(|span| span.hi > MOST_TURNS) {
+        return Ok(Some(format!(in alloc; "c{index} is over {MOST_TURNS}")?));
     }
     if row.base > MOST_TICKS || row.coeffs.iter().any(|coeff| *coeff > MOST_TICKS) {
-        return Ok(Some(format!(in alloc; "it has over {MOST_TICKS} ticks")?));
+        return Ok(Some(format!(in alloc; "a number of `ticks` is over {MOST_TICKS}")?));
     }
     Ok(None)
 }
@@ -62,8 +64,9 @@ pub(crate) fn form_detail(
 ) -> Result<Option<String>, AllocError> {
     let (rows, places) = (judged.table.rows.len(), judged.program.places());
     if rows != places {
+        let unit = if rows == 1 { "row" } else { "rows" };
         return Ok(Some(format!(in alloc;
-            "it has {rows} rows, and the program has {places} instructions"
+            "it has {rows} {unit}, and the program has {places} instructions"
         )?));
     }
     let Some(row) = judged.row(place) else {
@@ -167,7 +170,7 @@ pub(crate) fn start_detail(
 ) -> Result<Option<String>, AllocError> {
     let board = judged.board;
     let Some(row) = judged.row(0) else {
-        return Ok(Some(String::from_str(alloc, "the table has no row for place 0")?));
+        return Ok(Some(String::from_str(alloc, "row 0 is none")?));
     };
     if let Some(detail) = targets_start(alloc, board, row)? {
         return Ok(Some(detail));

@@ -1,7 +1,7 @@
 //! Warnings of boards and of runs.
 
-ghost use Rattle.std.specs.Prelude.{◌≡◌, [], false, None, is_some, string_bytes, All, Err};
-ghost use Rattle.std.specs.Prelude.{IfOk};
+ghost use Rattle.std.specs.Prelude.{◌≡◌, [], false, None, is_some, option_map, string_bytes};
+ghost use Rattle.std.specs.Prelude.{All, Err, IfOk};
 ghost use Rattle.facts.specs.Requests.{sent_in};
 ghost use Rattle.table_check.specs.Obligations.{IsInductive};
 ghost use Rattle.table_check.specs.Tables.{Table};
@@ -16,13 +16,16 @@ ghost use Rattle.diagnostics.specs.Warnings.{SparesAccepted, WarnsOfRun};
 ghost use Rattle.diagnostics.specs.Warnings.{WarnsOfTask, WarnsOfRuns};
 
 use crate::board_warning::board_warnings;
-use crate::breach::{Breach, first_breach};
+use crate::breach::{Breach, Reached, first_breach};
+use crate::cause::Cause;
+use crate::detail::instr_cause;
 use crate::note::warning_of;
 use crate::part::section_of;
 use crate::place::place_line;
-use crate::refusal::{Refusal, help_on};
-use crate::remark::{Remark, help_of};
-use facts::Rule;
+use crate::refusal::{Refusal, blaming};
+use crate::remark::Remark;
+use board::Board;
+use facts::{Row, Rule};
 use seq_program::{Instr, Program};
 use session::{Scenario, Task, read_task};
 use std::alloc::{AllocError, Global};
@@ -43,18 +46,42 @@ fn sentence_of(rule: Rule) -> &'static str {
     }
 }
 
+/// What is to blame for a breach.
+fn cause_of(
+    alloc: Global,
+    board: &Board,
+    program: &Program,
+    breach: Breach,
+    row: &Row,
+) -> Result<Cause, AllocError> {
+    match program.at(breach.place) {
+        Some(instr) => instr_cause(alloc, board, instr, row, breach.rule),
+        None => Ok(Cause::none()),
+    }
+}
+
 /// What is said of a breach.
-fn remark_on(alloc: Global, breach: Breach) -> Result<Remark, AllocError> {
-    let sentence = sentence_of(breach.rule);
-    let index = breach.index;
-    Ok(Remark {
-        message: format!(in alloc; "{sentence} (answer {index} of the run)")?,
-        help: help_of(alloc, help_on(Refusal::Breaks(breach.rule)))?,
-    })
+fn remark_on(
+    alloc: Global,
+    scenario: &Scenario<'_>,
+    breach: Breach,
+    row: &Row,
+) -> Result<Remark, AllocError> {
+    let Breach { index, rule, .. } = breach;
+    let cause = cause_of(alloc, &scenario.board, &scenario.program, breach, row)?;
+    let sentence = sentence_of(rule);
+    let sentence = format!(in alloc; "{sentence} (answer {index} of the run)")?;
+    blaming(alloc, &sentence, Refusal::Breaks(rule), cause.blame)
 }
 
 /// The warning of a breach, on its place's line.
-fn breach_warning(alloc: Global, text: &str, breach: Breach) -> Result<String, AllocError>
+fn breach_warning(
+    alloc: Global,
+    text: &str,
+    scenario: &Scenario<'_>,
+    breach: Breach,
+    row: &Row,
+) -> Result<String, AllocError>
     ensures { IfOk result (λ note. IsWarningAt text.now breach.place (string_bytes note)) }
 {
     let program = section_of(alloc, text, 1)?;
@@ -63,7 +90,7 @@ fn breach_warning(alloc: Global, text: &str, breach: Breach) -> Result<String, A
         None => "",
     };
     let number = place_line(alloc, program, breach.place)?.unwrap_or(1);
-    let remark = remark_on(alloc, breach)?;
+    let remark = remark_on(alloc, scenario, breach, row)?;
     warning_of(alloc, "%program", program, number, &remark)
 }
 
@@ -100,9 +127,10 @@ fn sends_something(program: &Program) -> bool
 
 /// The first breach of a run. Where nothing is sent to a target, there is none, and the run isn't
 /// gone through.
-fn breach_in(alloc: Global, scenario: &Scenario<'_>) -> Result<Option<Breach>, AllocError>
+fn breach_in(alloc: Global, scenario: &Scenario<'_>) -> Result<Option<Reached>, AllocError>
     requires { IsOnItsBoard scenario.now }
-    ensures first { IfOk result (λ found. IsFirstBreach scenario.now found) }
+    ensures first { IfOk result
+        (λ found. IsFirstBreach scenario.now (option_map (λ x. x.breach) found)) }
     ensures spares { IfOk result (λ found. (t : Table)
         → IsInductive scenario.now.board scenario.now.program t → found ≡ None) }
 {
@@ -124,7 +152,9 @@ fn run_warning(
     ensures spares { IfOk result (SparesAccepted scenario.now.board scenario.now.program) }
 {
     match breach_in(alloc, scenario)? {
-        Some(breach) => Ok(Some(breach_warning(alloc, text, breach)?)),
+        Some(Reached { breach, row }) => {
+            Ok(Some(breach_warning(alloc, text, scenario, breach, &row)?))
+        }
         None => Ok(None),
     }
 }

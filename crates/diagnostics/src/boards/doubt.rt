@@ -11,7 +11,7 @@ use seq_program::Program;
 use std::alloc::{AllocError, Global};
 
 /// A table of a board file, a key of it, and what is said of it.
-#[derive(Debug, Drop)]
+#[derive(Drop)]
 pub(crate) struct Doubt {
     pub site: Site,
     pub key: Option<&'static str>,

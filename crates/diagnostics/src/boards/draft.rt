@@ -7,7 +7,7 @@ use std::alloc::{AllocError, Global};
 use toml::{Table, Value};
 
 /// A table of a board file. Targets, rails and the entries of a target are counted from 0.
-#[derive(Clone, Copy, Debug, PartialEq, Eq)]
+#[derive(Clone, Copy, PartialEq, Eq)]
 pub(crate) enum Site {
     Board,
     Target(usize),

@@ -16,7 +16,7 @@ use std::alloc::{AllocError, Global};
 use toml::{Table, Value};
 
 /// A line of a board file, and what is said of it.
-#[derive(Debug, Drop)]
+#[derive(Drop)]
 pub(crate) struct Finding {
     pub number: usize,
     pub remark: Remark,
@@ -25,6 +25,14 @@ pub(crate) struct Finding {
 /// What is said of a fault of which no more is known.
 fn bare(alloc: Global, fault: BoardFault) -> Result<Remark, AllocError> {
     Remark::plain(alloc, &format!(in alloc; "{fault}")?)
+}
+
+/// A fault that isn't looked for.
+pub(crate) fn unsearched(alloc: Global, fault: BoardFault) -> Result<Finding, AllocError> {
+    Ok(Finding {
+        number: 1,
+        remark: bare(alloc, fault)?,
+    })
 }
 
 /// What is said of a board with too many tables.

@@ -16,6 +16,9 @@ const NO_ENABLE: &str =
     "to turn it on, `allow` needs {form = \"writebyte\", command = \"OPERATION\"} with 0x80 within \
      its `values`";
 
+const NO_VALUE: &str =
+    "to turn it on, the `values` of its target's entry for OPERATION need 0x80 within them";
+
 const NO_PAGE: &str =
     "neither `start_pages` nor an entry {form = \"writebyte\", command = \"PAGE\"} has its page, \
      or 255 for all pages";
@@ -24,11 +27,12 @@ fn has(range: Range, value: u8) -> bool {
     range.low <= u16::from(value) && u16::from(value) <= range.high
 }
 
-/// Whether a value of OPERATION that enables may be written to a target.
-fn may_enable(device: &Target) -> bool {
+/// Why no value of OPERATION that enables may be written to a target, if that is so.
+fn no_enable(device: &Target) -> Option<&'static str> {
     match device.entry(Form::WriteByte, OPERATION) {
-        Some(entry) => (0..=255).any(|value| enables(value) && has(entry.values(), value)),
-        None => false,
+        Some(entry) if (0..=255).any(|value| enables(value) && has(entry.values(), value)) => None,
+        Some(_) => Some(NO_VALUE),
+        None => Some(NO_ENABLE),
     }
 }
 
@@ -46,12 +50,9 @@ fn may_select(device: &Target, page: u8) -> bool {
 
 /// Why nothing can turn a rail on, if that is so.
 fn idle_help(device: &Target, rail: &Rail) -> Option<&'static str> {
-    if !may_enable(device) {
-        Some(NO_ENABLE)
-    } else if !may_select(device, rail.page()) {
-        Some(NO_PAGE)
-    } else {
-        None
+    match no_enable(device) {
+        None if !may_select(device, rail.page()) => Some(NO_PAGE),
+        help => help,
     }
 }
 

@@ -33,9 +33,13 @@ fn missing_name(
 
 /// What is said of a board without targets.
 fn no_target(alloc: Global) -> Result<Remark, AllocError> {
+    let names = Kind::Target.key_names(alloc)?;
+    let names = listed(alloc, &names)?;
     Ok(Remark {
         message: String::from_str(alloc, "the board has no target")?,
-        help: key_help(alloc, Kind::Board, "target")?,
+        help: Some(format!(in alloc;
+            "a target begins with a line [[target]]; its keys are {names}"
+        )?),
     })
 }
 

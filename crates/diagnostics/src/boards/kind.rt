@@ -6,7 +6,7 @@ use std::alloc::{AllocError, Global};
 use toml::{Table, Value};
 
 /// What a table of a board file is.
-#[derive(Clone, Copy, Debug, PartialEq, Eq)]
+#[derive(Clone, Copy, PartialEq, Eq)]
 pub(crate) enum Kind {
     Board,
     Target,
@@ -81,6 +81,9 @@ const RAIL: [Key; 5] = [
     ),
 ];
 
+/// One more table than a list of a board file may have.
+const MOST_LISTED: usize = 65;
+
 const NAME: &str = "a name of 1 to 32 of a to z, 0 to 9 and _, the first a letter";
 
 /// A target without faults.
@@ -94,17 +97,26 @@ fn sample(alloc: Global) -> Result<Table, AllocError> {
     }
 }
 
-/// A value whose tables are empty, where it is a list.
+/// An empty table for a table, and a number for anything else.
+fn hollow_item(alloc: Global, item: &Value) -> Value {
+    match item {
+        Value::Table(_) => Value::Table(Table::new(alloc)),
+        _ => Value::Integer(0),
+    }
+}
+
+/// A small value that a board file takes at a key of its own just where it takes this one: of a
+/// list, only whether it has tables, and how many up to one that is too many.
 fn hollow_value(alloc: Global, value: &Value) -> Result<Value, AllocError> {
     let Value::Array(items) = value else {
-        return value.clone();
+        return Ok(hollow_item(alloc, value));
     };
     let mut copies = Vec::new(alloc);
-    for item in items {
-        copies.push(match item {
-            Value::Table(_) => Value::Table(Table::new(alloc)),
-            other => other.clone()?,
-        })?;
+    for item in items.iter().take(MOST_LISTED) {
+        copies.push(hollow_item(alloc, item))?;
+    }
+    if items.iter().any(|item| !item.is_table()) {
+        copies.push(Value::Integer(0))?;
     }
     Ok(Value::Array(copies))
 }

@@ -9,7 +9,15 @@ use smbus::Form;
 use std::alloc::{AllocError, Global};
 
 const HELP: &str =
-    "a limit is in microvolts, and a voltage is its mantissa times two to `exponent`";
+    "set the highest voltage that is safe, in microvolts, or widen the entry's `values` up to it";
+
+/// A voltage in microvolts, rounded down: its mantissa times two to the exponent.
+fn microvolts(mantissa: u16, exponent: i8) -> u64 {
+    let scaled = u64::from(mantissa) * 1_000_000;
+    scaled
+        .checked_shr(u32::from(exponent.unsigned_abs()))
+        .unwrap_or(0)
+}
 
 /// The greatest voltage that an entry takes, if it takes some.
 fn greatest_of(entry: &Allow) -> Option<u16> {
@@ -61,9 +69,10 @@ pub(crate) fn push_loose_limits(
             let name = Quoted(board.rail_name(index).unwrap_or(""));
             let target = Quoted(board.target_name(rail.target()).unwrap_or(""));
             let limit = rail.limit_uv();
+            let most = microvolts(greatest, device.exponent());
             let text = format!(in alloc;
                 "no voltage that {target} takes is over the limit of rail {name}, {limit} uV: \
-                 it takes up to {greatest}"
+                 it takes up to {greatest}, {most} uV"
             )?;
             doubts.push(Doubt::new(alloc, Site::Rail(index), "limit_uv", text, HELP)?)?;
         }

@@ -7,7 +7,7 @@ use std::alloc::{AllocError, Global};
 use toml::de::Error;
 
 /// The line and the column behind a text, both counted from 1. A column counts characters.
-#[derive(Clone, Copy, Debug)]
+#[derive(Clone, Copy)]
 struct Position {
     line: usize,
     column: usize,
