@@ -34,6 +34,13 @@ fn text_notes(alloc: Global, status: Status, text: &str) -> Result<Notes, AllocE
     })
 }
 
+/// The note on an input that is text up to a place.
+fn no_text_note(alloc: Global, input: &[u8], place: usize) -> Result<String, AllocError> {
+    let above = input.get(..place).unwrap_or_default();
+    let text = str::from_utf8(above).unwrap_or("");
+    bundle_note(alloc, text, BundleFault::NotText)
+}
+
 /// The notes on an input that was answered so: none where it wasn't kept, since it is too long.
 fn notes_on(alloc: Global, status: Status, input: Option<&[u8]>) -> Result<Notes, AllocError> {
     let mut notes = Notes {
@@ -46,7 +53,7 @@ fn notes_on(alloc: Global, status: Status, input: Option<&[u8]>) -> Result<Notes
     if let Some(input) = input {
         match str::from_utf8(input) {
             Ok(text) => return text_notes(alloc, status, text),
-            Err(_) => notes.error = Some(bundle_note(alloc, "", BundleFault::NotText)?),
+            Err(error) => notes.error = Some(no_text_note(alloc, input, error.valid_up_to())?),
         }
     }
     Ok(notes)
