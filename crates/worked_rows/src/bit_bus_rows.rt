@@ -1,72 +1,121 @@
-use bit_bus::{Plan, Slot, drive};
-use std::alloc::Global;
+use crate::expected::{holds, same};
+use bit_bus::{Driven, Plan, Slot, drive};
+use std::alloc::{AllocError, Global};
 use std::process::Abort;
 use std::test::*;
 use wires::{Event, Runs, Sample, events_of};
 
-fn plan_of(alloc: Global, bits: usize, holds: &[u16]) -> Result<Option<Plan>, Fail> {
+fn plan_of(alloc: Global, bits: usize, holds: &[u16]) -> Result<Option<Plan>, AllocError> {
     let mut slots = Vec::new(alloc);
-    for _ in 0..bits {
-        slots.push(Slot::Bit(true))?;
-    }
+    slots.resize(bits, Slot::Bit(true))?;
     slots.push(Slot::End)?;
     Ok(Plan::new(slots, holds.to_vec(alloc)?))
 }
 
-#[test]
-fn limits_of_a_plan(rt: HostRuntime) -> Result<(), Fail> {
-    let alloc = rt.alloc();
-    assert!(rt; plan_of(alloc, 4095, &[])?.is_some());
-    assert!(rt; plan_of(alloc, 4096, &[])?.is_none());
-    assert!(rt; plan_of(alloc, 1, &[6999, 6999])?.is_some());
-    assert!(rt; plan_of(alloc, 1, &[0, 7000])?.is_none());
-    assert!(rt; plan_of(alloc, 1, &[0, 0, 7000])?.is_some());
-    let empty: Vec<Slot> = Vec::new(alloc);
-    assert!(rt; Plan::new(empty, Vec::new(alloc)).is_none());
-    let no_end = vec![in alloc; Slot::Again]?;
-    assert!(rt; Plan::new(no_end, Vec::new(alloc)).is_none());
-    let two_ends = vec![in alloc; Slot::End, Slot::End]?;
-    assert!(rt; Plan::new(two_ends, Vec::new(alloc)).is_none());
-    Ok(())
+/// Numbers of bits, holds, and whether they are a plan.
+const LIMITS: [(usize, &[u16], bool); 5] = [
+    (4095, &[], true),
+    (4096, &[], false),
+    (1, &[6999, 6999], true),
+    (1, &[0, 7000], false),
+    (1, &[0, 0, 7000], true),
+];
+
+/// Tries whether slots and holds are a plan.
+fn is_plan(rt: &impl Abort, plan: Result<Option<Plan>, AllocError>, want: bool) {
+    match plan {
+        Ok(plan) => same(rt, plan.is_some(), want),
+        Err(_) => panic!(rt; "no memory"),
+    }
 }
 
-/// The samples of a frame without bytes whose STOP is held so long, after an idle one.
-fn stop_held(alloc: Global, hold: u16) -> Result<(Runs, Option<usize>), Fail> {
+fn each_is_plan(rt: &impl Abort, alloc: Global, rows: &[(usize, &[u16], bool)]) {
+    for (bits, holds, want) in rows {
+        is_plan(rt, plan_of(alloc, *bits, holds), *want);
+    }
+}
+
+#[test]
+fn limits_of_a_plan(rt: HostRuntime) {
+    each_is_plan(&rt, rt.alloc(), &LIMITS);
+}
+
+fn without_holds(alloc: Global, slots: &[Slot]) -> Result<Option<Plan>, AllocError> {
+    Ok(Plan::new(slots.to_vec(alloc)?, Vec::new(alloc)))
+}
+
+#[test]
+fn plans_end_once(rt: HostRuntime) {
+    is_plan(&rt, without_holds(rt.alloc(), &[]), false);
+    is_plan(&rt, without_holds(rt.alloc(), &[Slot::Again]), false);
+    is_plan(
+        &rt,
+        without_holds(rt.alloc(), &[Slot::End, Slot::End]),
+        false,
+    );
+}
+
+const HIGH: Sample = Sample {
+    scl: true,
+    sda: true,
+    alert: false,
+};
+
+/// A frame without bytes whose STOP is held so long.
+fn stop_held(alloc: Global, hold: u16) -> Result<Driven, Fail> {
     let plan = plan_of(alloc, 0, &[hold])?.ok_or("no plan")?;
-    let driven = drive(alloc, &plan, false)?;
+    Ok(drive(alloc, &plan, false)?)
+}
+
+/// The samples of a short frame, after an idle one.
+fn behind_idle(rt: &impl Abort, alloc: Global, samples: &Runs) -> Result<Runs, AllocError> {
     let mut before = Runs::new(alloc);
-    let idle = Sample {
-        scl: true,
-        sda: true,
-        alert: false,
-    };
-    before.push(idle, 1)?;
-    Ok((Runs::joined(alloc, &before, &driven.samples)?, driven.cut))
+    before.push(HIGH, 1)?;
+    assert!(rt; samples.total() < 10_000);
+    Runs::joined(alloc, &before, samples)
 }
 
 /// The hold of a STOP, the number of samples, and the slot that is cut.
-const HOLDS: [(u16, u64, Option<usize>); 4] = [
+type Held = (u16, u64, Option<usize>);
+
+const HOLDS: [Held; 4] = [
     (0, 4, None),
     (4999, 5003, None),
     (5000, 5004, Some(0)),
     (6999, 7003, Some(0)),
 ];
 
-fn all_end_high(
+const BARE: [Event; 3] = [Event::Start, Event::Rise(false), Event::Stop];
+
+fn none_alerts(rt: &impl Abort, samples: &Runs) {
+    for run in samples.runs() {
+        assert!(rt; !run.sample.alert);
+    }
+}
+
+/// Tries the events of a frame without bytes, and that all is high behind it.
+fn is_bare(rt: &impl Abort, alloc: Global, samples: &Runs, count: u64) {
+    let last = (samples.total().checked_sub(1), samples.sample_at(count));
+    same(rt, last, (Some(count), Some(HIGH)));
+    holds(rt, events_of(alloc, samples), &BARE);
+    none_alerts(rt, samples);
+}
+
+fn ends_high(
     rt: &impl Abort,
     alloc: Global,
-    rows: &[(u16, u64, Option<usize>)],
-) -> Result<(), Fail> {
-    for (hold, count, cut_slot) in rows {
-        let (samples, cut) = stop_held(alloc, *hold)?;
-        assert!(rt; samples.total().checked_sub(1) == Some(*count), "{hold}");
-        assert!(rt; cut == *cut_slot, "{hold}");
-        assert!(rt; samples.runs().iter().all(|run| !run.sample.alert));
-        let seen = events_of(alloc, &samples)?;
-        let wanted = [Event::Start, Event::Rise(false), Event::Stop];
-        assert!(rt; seen.as_slice() == wanted.as_slice(), "{hold}");
-        let last = samples.sample_at(*count).ok_or("no sample")?;
-        assert!(rt; last.scl && last.sda);
+    driven: &Driven,
+    held: Held,
+) -> Result<(), AllocError> {
+    let (hold, count, cut) = held;
+    same(rt, (hold, driven.cut), (hold, cut));
+    is_bare(rt, alloc, &behind_idle(rt, alloc, &driven.samples)?, count);
+    Ok(())
+}
+
+fn all_end_high(rt: &impl Abort, alloc: Global, rows: &[Held]) -> Result<(), Fail> {
+    for held in rows {
+        ends_high(rt, alloc, &stop_held(alloc, held.0)?, *held)?;
     }
     Ok(())
 }

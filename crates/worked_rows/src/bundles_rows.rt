@@ -1,5 +1,6 @@
 //! Answer lines, and the sections of a bundle.
 
+use crate::expected::same;
 use bundles::{Answers, BundleFault, answer_line_of, answers_in, read_bundle};
 use std::alloc::Global;
 use std::process::Abort;
@@ -44,14 +45,18 @@ const LINES: [AnswerRow; 16] = [
 ];
 
 fn says(rt: &impl Abort, alloc: Global, row: AnswerRow) -> Result<(), Fail> {
-    let (line, holds, (refuse, value, bytes, took, alerts)) = row;
+    let (line, holds, want) = row;
     let answer = answer_line_of(alloc, 7, line)?;
-    assert!(rt; answer.holds.as_slice() == holds, "{line}");
-    assert!(rt; answer.refuse == refuse, "{line}");
-    assert!(rt; answer.value == value, "{line}");
-    assert!(rt; answer.bytes.as_slice() == bytes, "{line}");
-    assert!(rt; answer.took == took, "{line}");
-    assert!(rt; answer.alerts == alerts, "{line}");
+    same(rt, (line, answer.holds.as_slice()), (line, holds));
+    let bytes = answer.bytes.as_slice();
+    let seen = (
+        answer.refuse,
+        answer.value,
+        bytes,
+        answer.took,
+        answer.alerts,
+    );
+    same(rt, (line, seen), (line, want));
     Ok(())
 }
 
@@ -70,8 +75,8 @@ fn answer_lines(rt: HostRuntime) -> Result<(), Fail> {
 #[test]
 fn the_last_slot(rt: HostRuntime) -> Result<(), Fail> {
     let answer = answer_line_of(rt.alloc(), 7, "holds=4095:1")?;
-    assert!(rt; answer.holds.len() == 4096);
-    assert!(rt; answer.holds.last() == Some(&1));
+    let slots = &answer.holds;
+    same(&rt, (slots.len(), slots.last()), (4096, Some(&1)));
     Ok(())
 }
 

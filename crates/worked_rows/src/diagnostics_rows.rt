@@ -117,7 +117,9 @@ fn other_faults(rt: HostRuntime) -> Result<(), Fail> {
     assert!(rt; note.as_ref().map(|note| note.as_str()) == Some(want));
     assert!(rt; board_note(rt.alloc(), TWO, BoardFault::Memory)?.is_none());
     let note = bundle_note(rt.alloc(), "%run\n", BundleFault::NotText)?;
-    assert!(rt; note.as_str() == "bundle:1: error: the bundle is no text\n    %run\n");
+    let want = "bundle:1: error: the bundle is no text: line 2 goes on with a byte that isn't \
+                UTF-8\n    %run\n";
+    assert!(rt; note.as_str() == want);
     Ok(())
 }
 

@@ -10,13 +10,15 @@ mod boards;
 #[cfg(test)]
 mod bundles_rows;
 #[cfg(test)]
-mod check_rows;
-#[cfg(test)]
 mod diagnostics_rows;
+#[cfg(test)]
+mod expected;
 #[cfg(test)]
 mod facts_rows;
 #[cfg(test)]
 mod fitting_rows;
+#[cfg(test)]
+mod growths_rows;
 #[cfg(test)]
 mod outcome_rows;
 #[cfg(test)]

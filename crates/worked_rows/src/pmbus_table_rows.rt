@@ -1,3 +1,4 @@
+use crate::expected::{same, says};
 use bitflags::Flags;
 use pmbus_table::{
     Command, StatusWord, by_code, by_name, carries_voltage, code, enables, name_of, permits,
@@ -123,88 +124,145 @@ fn facts_of(command: Command) -> (u8, Option<Form>, Option<Form>, bool) {
 
 fn compare(rt: &impl Abort, alloc: Global, command: Command, known: Known) {
     let (code, _, written, read, is_paged) = known;
-    assert!(rt; facts_of(command) == (code, written, read, is_paged));
-    assert!(rt; by_code(code) == Some(command));
-    assert!(rt; read_back(alloc, command) == Ok(Some(command)));
+    same(rt, facts_of(command), (code, written, read, is_paged));
+    let again = (by_code(code), read_back(alloc, command));
+    same(rt, again, (Some(command), Ok(Some(command))));
+}
+
+fn each_is_known(rt: &impl Abort, alloc: Global, rows: &[Known]) -> Result<(), Fail> {
+    for known in rows {
+        let command = by_name(known.1).ok_or("no such name")?;
+        compare(rt, alloc, command, *known);
+    }
+    Ok(())
 }
 
 #[test]
 fn named_commands(rt: HostRuntime) -> Result<(), Fail> {
-    for known in &KNOWN {
-        let command = by_name(known.1).ok_or("no such name")?;
-        compare(&rt, rt.alloc(), command, *known);
-    }
+    each_is_known(&rt, rt.alloc(), &KNOWN)
+}
+
+#[test]
+fn name_of_a_code(rt: HostRuntime) -> Result<(), Fail> {
     let status = by_code(code::STATUS_WORD).ok_or("no such code")?;
-    assert!(rt; name_of(rt.alloc(), status)?.as_str() == "STATUS_WORD");
+    says(&rt, name_of(rt.alloc(), status), "STATUS_WORD");
     Ok(())
+}
+
+fn is_manufacturer(rt: &impl Abort, alloc: Global, code: u8, command: Command) {
+    same(rt, read_back(alloc, command), Ok(Some(command)));
+    let facts = (command.code(), command.form_written(), command.paged());
+    same(rt, facts, (code, None, false));
 }
 
 #[test]
 fn manufacturer_commands(rt: HostRuntime) -> Result<(), Fail> {
     for code in 0xD0..0xFEu8 {
         let command = by_code(code).ok_or("no such code")?;
-        assert!(rt; read_back(rt.alloc(), command) == Ok(Some(command)));
-        let facts = (command.code(), command.form_written(), command.paged());
-        assert!(rt; facts == (code, None, false));
+        is_manufacturer(&rt, rt.alloc(), code, command);
     }
+    Ok(())
+}
+
+#[test]
+fn manufacturer_names_are_codes(rt: HostRuntime) -> Result<(), Fail> {
     let command = by_name("DF").ok_or("no such name")?;
-    assert!(rt; command.code() == 0xDF);
-    for name in ["CF", "FE", "21", "df", "D", "", "page", "PAGE "] {
-        assert!(rt; by_name(name) == None, "{name}");
+    same(&rt, command.code(), 0xDF);
+    Ok(())
+}
+
+/// Names of no command.
+const UNKNOWN: [&str; 8] = ["CF", "FE", "21", "df", "D", "", "page", "PAGE "];
+
+fn none_is_known(rt: &impl Abort, names: &[&str]) {
+    for name in names {
+        same(rt, (*name, by_name(name)), (*name, None));
     }
+}
+
+#[test]
+fn unknown_names(rt: HostRuntime) {
+    none_is_known(&rt, &UNKNOWN);
+}
+
+#[test]
+fn unknown_codes(rt: HostRuntime) {
     for code in [0x02, 0x7F, 0xCF, 0xFE, 0xFF] {
-        assert!(rt; by_code(code) == None, "{code}");
+        same(&rt, (code, by_code(code)), (code, None));
+    }
+}
+
+/// The name of a command, a form, whether the command takes it, and whether that is a write.
+type Taken = (&'static str, Form, bool, bool);
+
+const FORMS: [Taken; 17] = [
+    ("PAGE", Form::WriteByte, true, true),
+    ("PAGE", Form::ReadByte, true, false),
+    ("PAGE", Form::SendByte, false, false),
+    ("CLEAR_FAULTS", Form::SendByte, true, false),
+    ("QUERY", Form::BlockProcessCall, true, false),
+    ("VOUT_COMMAND", Form::WriteWord, true, true),
+    ("VOUT_COMMAND", Form::WriteByte, false, false),
+    ("MFR_ID", Form::BlockRead, true, false),
+    ("D0", Form::SendByte, true, true),
+    ("D0", Form::ReadByte, true, false),
+    ("D0", Form::ReadWord, true, false),
+    ("D0", Form::BlockRead, true, false),
+    ("D0", Form::ProcessCall, true, true),
+    ("FD", Form::BlockProcessCall, true, true),
+    ("FD", Form::ReceiveByte, false, false),
+    ("FD", Form::Quick(true), false, false),
+    ("FD", Form::Alert, false, false),
+];
+
+fn each_takes(rt: &impl Abort, rows: &[Taken]) -> Result<(), Fail> {
+    for row in rows {
+        let (name, form, _, _) = *row;
+        let command = by_name(name).ok_or("no such name")?;
+        let seen = (
+            name,
+            form,
+            command.takes(form),
+            command.counts_as_write(form),
+        );
+        same(rt, seen, *row);
     }
     Ok(())
 }
 
 #[test]
 fn forms(rt: HostRuntime) -> Result<(), Fail> {
-    for (name, form, takes, writes) in [
-        ("PAGE", Form::WriteByte, true, true),
-        ("PAGE", Form::ReadByte, true, false),
-        ("PAGE", Form::SendByte, false, false),
-        ("CLEAR_FAULTS", Form::SendByte, true, false),
-        ("QUERY", Form::BlockProcessCall, true, false),
-        ("VOUT_COMMAND", Form::WriteWord, true, true),
-        ("VOUT_COMMAND", Form::WriteByte, false, false),
-        ("MFR_ID", Form::BlockRead, true, false),
-        ("D0", Form::SendByte, true, true),
-        ("D0", Form::ReadByte, true, false),
-        ("D0", Form::ReadWord, true, false),
-        ("D0", Form::BlockRead, true, false),
-        ("D0", Form::ProcessCall, true, true),
-        ("FD", Form::BlockProcessCall, true, true),
-        ("FD", Form::ReceiveByte, false, false),
-        ("FD", Form::Quick(true), false, false),
-        ("FD", Form::Alert, false, false),
-    ] {
-        let command = by_name(name).ok_or("no such name")?;
-        assert!(rt; command.takes(form) == takes, "{name} {form:?}");
-        assert!(rt; command.counts_as_write(form) == writes, "{name} {form:?}");
+    each_takes(&rt, &FORMS)
+}
+
+/// The protection, the code of a command, and whether it may be written, if both are known.
+type Protected = (u8, u8, Option<bool>);
+
+const PROTECTIONS: [Protected; 13] = [
+    (0x80, code::WRITE_PROTECT, Some(true)),
+    (0x80, code::PAGE, Some(false)),
+    (0x40, code::OPERATION, Some(true)),
+    (0x40, code::PAGE, Some(true)),
+    (0x40, code::VOUT_COMMAND, Some(false)),
+    (0x20, code::VOUT_COMMAND, Some(true)),
+    (0x20, code::ON_OFF_CONFIG, Some(true)),
+    (0x20, 0x24, Some(false)),
+    (0x20, 0xD0, Some(false)),
+    (0x00, 0x24, Some(true)),
+    (0x00, 0xFF, Some(true)),
+    (0x01, code::PAGE, None),
+    (0xC0, code::WRITE_PROTECT, None),
+];
+
+fn each_permits(rt: &impl Abort, rows: &[Protected]) {
+    for row in rows {
+        same(rt, (row.0, row.1, permits(row.0, row.1)), *row);
     }
-    Ok(())
 }
 
 #[test]
 fn protection(rt: HostRuntime) {
-    for (protect, code, want) in [
-        (0x80, code::WRITE_PROTECT, Some(true)),
-        (0x80, code::PAGE, Some(false)),
-        (0x40, code::OPERATION, Some(true)),
-        (0x40, code::PAGE, Some(true)),
-        (0x40, code::VOUT_COMMAND, Some(false)),
-        (0x20, code::VOUT_COMMAND, Some(true)),
-        (0x20, code::ON_OFF_CONFIG, Some(true)),
-        (0x20, 0x24, Some(false)),
-        (0x20, 0xD0, Some(false)),
-        (0x00, 0x24, Some(true)),
-        (0x00, 0xFF, Some(true)),
-        (0x01, code::PAGE, None),
-        (0xC0, code::WRITE_PROTECT, None),
-    ] {
-        assert!(rt; permits(protect, code) == want, "{protect} {code}");
-    }
+    each_permits(&rt, &PROTECTIONS);
 }
 
 #[test]
@@ -223,39 +281,62 @@ fn voltage_commands(rt: HostRuntime) {
     }
 }
 
+/// Status words, and whether they report a good voltage.
+const STATUSES: [(u16, bool); 5] = [
+    (0x0840, false),
+    (0x0800, false),
+    (0x0040, false),
+    (0x0000, true),
+    (0xF7BF, true),
+];
+
+fn each_reports(rt: &impl Abort, rows: &[(u16, bool)]) {
+    for row in rows {
+        same(rt, (row.0, reported_good(row.0)), *row);
+    }
+}
+
 #[test]
 fn status(rt: HostRuntime) {
-    for (word, good) in [
-        (0x0840, false),
-        (0x0800, false),
-        (0x0040, false),
-        (0x0000, true),
-        (0xF7BF, true),
-    ] {
-        assert!(rt; reported_good(word) == good, "{word}");
-    }
+    each_reports(&rt, &STATUSES);
+}
+
+#[test]
+fn status_bits(rt: HostRuntime) {
     let word = StatusWord::from_bits_retain(0x0842);
-    assert!(rt; word.contains(StatusWord::POWER_GOOD_N | StatusWord::OFF | StatusWord::CML));
-    assert!(rt; !word.contains(StatusWord::BUSY));
-    assert!(rt; word.bits() == 0x0842);
+    let set = StatusWord::POWER_GOOD_N | StatusWord::OFF | StatusWord::CML;
+    same(
+        &rt,
+        (word.contains(set), word.contains(StatusWord::BUSY)),
+        (true, false),
+    );
+    same(&rt, word.bits(), 0x0842);
+}
+
+/// The mantissa and the exponent of a voltage, a limit, and whether the voltage is within it.
+type Voltage = (u16, i8, u32, bool);
+
+const VOLTAGES: [Voltage; 9] = [
+    (4294, 0, 4_294_967_295, true),
+    (4295, 0, 4_294_967_295, false),
+    (65535, -16, 999_985, true),
+    (65535, -16, 999_984, false),
+    (0, 0, 0, true),
+    (1, -17, 1_000_000, false),
+    (0, 1, 1, false),
+    (4505, -12, 1_100_000, true),
+    (4506, -12, 1_100_000, false),
+];
+
+fn each_is_limited(rt: &impl Abort, rows: &[Voltage]) {
+    for row in rows {
+        let (mantissa, exponent, limit, _) = *row;
+        let is_within = within(mantissa, exponent, limit);
+        same(rt, (mantissa, exponent, limit, is_within), *row);
+    }
 }
 
 #[test]
 fn voltages(rt: HostRuntime) {
-    for (mantissa, exponent, limit, want) in [
-        (4294, 0, 4_294_967_295, true),
-        (4295, 0, 4_294_967_295, false),
-        (65535, -16, 999_985, true),
-        (65535, -16, 999_984, false),
-        (0, 0, 0, true),
-        (1, -17, 1_000_000, false),
-        (0, 1, 1, false),
-        (4505, -12, 1_100_000, true),
-        (4506, -12, 1_100_000, false),
-    ] {
-        assert!(rt;
-            within(mantissa, exponent, limit) == want,
-            "{mantissa} {exponent} {limit}"
-        );
-    }
+    each_is_limited(&rt, &VOLTAGES);
 }

@@ -3,10 +3,9 @@
 
 mod devices;
 
-use session::{Status, outcome_line, session};
+use session::outcome_line;
 use smbus::{Answer, Form, Message};
 use std::alloc::{AllocError, Global};
-use std::process::Abort;
 use std::test::*;
 
 /// How a Read Word that returns 0840h ends.
@@ -32,14 +31,6 @@ fn word_outcome(
     outcome_line(alloc, &message, &answer, cut)
 }
 
-/// Tries what a session over a bundle prints, and its status.
-fn prints(rt: &impl Abort, alloc: Global, bundle: &str, status: Status, want: &str) {
-    let mut output = Vec::new(alloc);
-    let ended = session(alloc, &mut bundle.as_bytes(), &mut output);
-    assert!(rt; ended == status, "{bundle}");
-    assert!(rt; output.as_slice() == want.as_bytes(), "{bundle}");
-}
-
 #[test]
 fn outcomes(rt: HostRuntime) -> Result<(), Fail> {
     for (refuse, cut, want) in [
@@ -51,21 +42,6 @@ fn outcomes(rt: HostRuntime) -> Result<(), Fail> {
         assert!(rt; line.as_str() == want);
     }
     Ok(())
-}
-
-#[test]
-fn one_frame(rt: HostRuntime) {
-    let bundle = "%frame\r\n\n%message\n# a comment\n  \nform=quickwrite address=40";
-    let want = "S 80A P\nsamples 22\ndone 0000\n";
-    prints(&rt, rt.alloc(), bundle, Status::Accepted, want);
-}
-
-#[test]
-fn no_text(rt: HostRuntime) {
-    let mut output = Vec::new(rt.alloc());
-    let status = session(rt.alloc(), &mut b"%frame\n\xFF".as_slice(), &mut output);
-    assert!(rt; status == Status::InputFault);
-    assert!(rt; output.as_slice() == b"fault bundle 2 NotText\n".as_slice());
 }
 
 /// Two targets that may alert, at the addresses 40h and 21h, and a program that waits, asks three

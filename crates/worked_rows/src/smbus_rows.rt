@@ -1,11 +1,12 @@
 mod pieces;
 
+use crate::expected::{holds, same};
 use bit_bus::{Driven, Plan, Slot, drive};
 use smbus::{
-    Answer, Form, Message, ObserveFault, Segment, SmbusFault, carries_code, form_named,
+    Answer, Form, Frame, Message, ObserveFault, Segment, SmbusFault, carries_code, form_named,
     frame_slots, frame_text, most_slots, observe, sent_count, slot_count,
 };
-use std::alloc::Global;
+use std::alloc::{AllocError, Global};
 use std::process::Abort;
 use std::test::Fail;
 use wires::{Event, Sample, events, events_of};
@@ -44,7 +45,12 @@ fn answer_of(
     })
 }
 
-fn driven(alloc: Global, message: &Message, answer: &Answer) -> Result<Driven, Fail> {
+fn driven(alloc: Global, asked: Asked, answer: &Answer) -> Result<Driven, Fail> {
+    let message = message_of(alloc, asked)?;
+    drive_frame(alloc, &message, answer)
+}
+
+fn drive_frame(alloc: Global, message: &Message, answer: &Answer) -> Result<Driven, Fail> {
     let slots = frame_slots(alloc, message, answer)?;
     let plan = Plan::new(slots, answer.holds.clone()?).ok_or("no plan")?;
     Ok(drive(alloc, &plan, true)?)
@@ -52,51 +58,70 @@ fn driven(alloc: Global, message: &Message, answer: &Answer) -> Result<Driven, F
 
 /// The samples of a frame, one a tick, behind an idle one.
 fn samples_of(alloc: Global, driven: &Driven) -> Result<Vec<Sample>, Fail> {
-    let idle = Sample {
-        scl: true,
-        sda: true,
-        alert: true,
-    };
-    let mut samples = vec![in alloc; idle]?;
+    let mut samples = Vec::new(alloc);
+    samples.push(IDLE)?;
     for place in 0..driven.samples.total() {
         samples.push(driven.samples.sample_at(place).ok_or("no sample")?)?;
     }
     Ok(samples)
 }
 
+const IDLE: Sample = Sample {
+    scl: true,
+    sda: true,
+    alert: true,
+};
+
+/// The events of a frame behind an idle sample.
+fn frame_events(alloc: Global, driven: &Driven) -> Result<Vec<Event>, Fail> {
+    let samples = samples_of(alloc, driven)?;
+    Ok(events(alloc, &samples)?)
+}
+
 /// The events of a Read Word of STATUS_WORD that returns 0840h.
 fn status_events(alloc: Global) -> Result<Vec<Event>, Fail> {
-    let message = message_of(alloc, (Form::ReadWord, 0x79, b""))?;
     let answer = answer_of(alloc, None, 0x0840, b"")?;
-    let driven = driven(alloc, &message, &answer)?;
-    Ok(events(alloc, &samples_of(alloc, &driven)?)?)
+    frame_events(alloc, &driven(alloc, READ_STATUS, &answer)?)
 }
 
-/// The text of the first frame of which these are the events.
-fn first_text(alloc: Global, events: &[Event]) -> Result<String, Fail> {
+/// The texts of frames, one behind the other.
+fn texts_of(alloc: Global, frames: &[Frame]) -> Result<String, AllocError> {
+    let mut texts = String::new(alloc);
+    for frame in frames {
+        texts.push_str(&frame_text(alloc, frame)?)?;
+    }
+    Ok(texts)
+}
+
+/// Tries the texts of frames, or why there are none.
+fn reads(rt: &impl Abort, seen: Result<String, ObserveFault>, want: Result<&str, ObserveFault>) {
+    match seen {
+        Ok(texts) => same(rt, Ok(texts.as_str()), want),
+        Err(fault) => same(rt, Err(fault), want),
+    }
+}
+
+fn observed(alloc: Global, events: &[Event]) -> Result<String, ObserveFault> {
     let frames = observe(alloc, events)?;
-    let frame = frames.first().ok_or("no frame")?;
-    Ok(frame_text(alloc, frame)?)
-}
-
-/// Tries the text of the first frame.
-fn reads(rt: &impl Abort, alloc: Global, events: &[Event], want: &str) -> Result<(), Fail> {
-    let text = first_text(alloc, events)?;
-    assert!(rt; text.as_str() == want);
-    Ok(())
+    Ok(texts_of(alloc, &frames)?)
 }
 
 /// The text of a frame that is read back, its number of samples, and the slot in which it is cut.
 type Shown<'a> = (&'a str, u64, Option<usize>);
 
+fn reads_back(rt: &impl Abort, alloc: Global, driven: &Driven, events: &[Event], text: &str) {
+    // The first is the START, which the idle sample before it makes one.
+    let later = events.get(1..).unwrap_or(&[]);
+    holds(rt, events_of(alloc, &driven.samples), later);
+    reads(rt, observed(alloc, events), Ok(text));
+}
+
 fn compare(rt: &impl Abort, alloc: Global, driven: &Driven, want: Shown<'_>) -> Result<(), Fail> {
     let (text, samples, cut) = want;
-    assert!(rt; (driven.samples.total(), driven.cut) == (samples, cut));
-    let events = events(alloc, &samples_of(alloc, driven)?)?;
-    // The first is the START, which the idle sample before it makes one.
-    let later = events_of(alloc, &driven.samples)?;
-    assert!(rt; events.get(1..) == Some(later.as_slice()));
-    reads(rt, alloc, &events, text)
+    same(rt, (driven.samples.total(), driven.cut), (samples, cut));
+    let events = frame_events(alloc, driven)?;
+    reads_back(rt, alloc, driven, &events, text);
+    Ok(())
 }
 
 /// Asks for a frame and tries what is read back.
@@ -107,9 +132,7 @@ fn shows(
     answer: &Answer,
     want: Shown<'_>,
 ) -> Result<(), Fail> {
-    let message = message_of(alloc, asked)?;
-    let driven = driven(alloc, &message, answer)?;
-    compare(rt, alloc, &driven, want)
+    compare(rt, alloc, &driven(alloc, asked, answer)?, want)
 }
 
 /// The same, where nothing is refused and the clock isn't held.
@@ -248,17 +271,33 @@ fn longest_block(alloc: Global) -> Result<Message, SmbusFault> {
 }
 
 #[test]
-fn longest_block_write(rt: HostRuntime) -> Result<(), Fail> {
-    let alloc = rt.alloc();
-    let message = longest_block(alloc)?;
+fn longest_block_is_counted(rt: HostRuntime) -> Result<(), Fail> {
+    let message = longest_block(rt.alloc())?;
+    let answer = answer_of(rt.alloc(), None, 0, &[])?;
+    same(
+        &rt,
+        (sent_count(&message), slot_count(&message, &answer)),
+        (258, 2323),
+    );
+    same(&rt, most_slots(Form::BlockWrite, 255, 0), 2323);
+    Ok(())
+}
+
+fn longest_driven(alloc: Global) -> Result<Driven, Fail> {
     let answer = answer_of(alloc, None, 0, &[])?;
+    drive_frame(alloc, &longest_block(alloc)?, &answer)
+}
+
+fn longest_text(alloc: Global) -> Result<String, Fail> {
     let zeros = "00A ".repeat(alloc, 255)?;
-    let text = format!(in alloc; "S 80A D0A FFA {zeros}P")?;
-    assert!(rt; sent_count(&message) == 258);
-    assert!(rt; slot_count(&message, &answer) == 2323);
-    assert!(rt; most_slots(Form::BlockWrite, 255, 0) == 2323);
-    let driven = driven(alloc, &message, &answer)?;
-    compare(&rt, alloc, &driven, (text.as_str(), 4648, None))
+    Ok(format!(in alloc; "S 80A D0A FFA {zeros}P")?)
+}
+
+#[test]
+fn longest_block_write(rt: HostRuntime) -> Result<(), Fail> {
+    let driven = longest_driven(rt.alloc())?;
+    let text = longest_text(rt.alloc())?;
+    compare(&rt, rt.alloc(), &driven, (text.as_str(), 4648, None))
 }
 
 fn slots_of(alloc: Global, asked: Asked, refuse: Option<u16>) -> Result<Vec<Slot>, SmbusFault> {
@@ -271,18 +310,28 @@ const EMPTY: Asked = (Form::BlockWrite, 0xD0, &[]);
 
 const SHORT: Asked = (Form::WriteWord, 0x21, &[0x99]);
 
+/// What is asked, the byte that is refused, and why it has no frame.
+const UNFRAMED: [(Asked, Option<u16>, SmbusFault); 3] = [
+    (EMPTY, None, SmbusFault::BadBlock),
+    (SHORT, None, SmbusFault::BadData),
+    (EMPTY, Some(3), SmbusFault::BadData),
+];
+
+fn none_has_slots(rt: &impl Abort, alloc: Global, rows: &[(Asked, Option<u16>, SmbusFault)]) {
+    for (asked, refuse, want) in rows {
+        same(rt, slots_of(alloc, *asked, *refuse).err(), Some(*want));
+    }
+}
+
 #[test]
 fn no_slots(rt: HostRuntime) {
-    for (asked, refuse, want) in [
-        (EMPTY, None, SmbusFault::BadBlock),
-        (SHORT, None, SmbusFault::BadData),
-        (EMPTY, Some(3), SmbusFault::BadData),
-    ] {
-        let fault = slots_of(rt.alloc(), asked, refuse).err();
-        assert!(rt; fault == Some(want), "{refuse:?}");
-    }
-    assert!(rt; SmbusFault::BadData.number() == 3);
-    assert!(rt; SmbusFault::BadData.name() == "BadData");
+    none_has_slots(&rt, rt.alloc(), &UNFRAMED);
+}
+
+#[test]
+fn bad_data_is_named(rt: HostRuntime) {
+    let fault = SmbusFault::BadData;
+    same(&rt, (fault.number(), fault.name()), (3, "BadData"));
 }
 
 const HIGH: Event = Event::Rise(true);
@@ -310,16 +359,23 @@ const STRAYS: [(&[Event], Option<ObserveFault>); 6] = [
 
 fn all_stray(rt: &impl Abort, alloc: Global, rows: &[(&[Event], Option<ObserveFault>)]) {
     for (events, want) in rows {
-        let fault = observe(alloc, events).err();
-        assert!(rt; fault == *want, "{events:?}");
+        same(
+            rt,
+            (*events, observe(alloc, events).err()),
+            (*events, *want),
+        );
     }
 }
 
 #[test]
 fn places_of_stray_events(rt: HostRuntime) {
     all_stray(&rt, rt.alloc(), &STRAYS);
-    assert!(rt; ObserveFault::NotFrames(3).number() == 2);
-    assert!(rt; ObserveFault::NotFrames(3).name() == "NotFrames");
+}
+
+#[test]
+fn stray_events_are_named(rt: HostRuntime) {
+    let fault = ObserveFault::NotFrames(3);
+    same(&rt, (fault.number(), fault.name()), (2, "NotFrames"));
 }
 
 /// A frame of two segments with no byte.
@@ -338,26 +394,32 @@ fn first_address(alloc: Global) -> Result<Option<(Option<u8>, Option<bool>)>, Ob
 }
 
 #[test]
-fn empty_segments(rt: HostRuntime) -> Result<(), Fail> {
-    assert!(rt; first_address(rt.alloc()) == Ok(Some((None, None))));
-    reads(&rt, rt.alloc(), &BARE, "S Sr P")
+fn empty_segments(rt: HostRuntime) {
+    same(&rt, first_address(rt.alloc()), Ok(Some((None, None))));
+    reads(&rt, observed(rt.alloc(), &BARE), Ok("S Sr P"));
 }
 
 #[test]
 fn addresses(rt: HostRuntime) -> Result<(), Fail> {
-    let segment = Segment {
-        bytes: vec![in rt.alloc(); (0x81, true), (0x5A, false)]?,
-    };
-    assert!(rt; segment.address() == Some(0x40));
-    assert!(rt; segment.read() == Some(true));
+    let bytes = vec![in rt.alloc(); (0x81, true), (0x5A, false)]?;
+    let segment = Segment { bytes };
+    same(
+        &rt,
+        (segment.address(), segment.read()),
+        (Some(0x40), Some(true)),
+    );
     Ok(())
 }
 
 #[test]
 fn form_words(rt: HostRuntime) {
-    assert!(rt; form_named("quickread") == Some(Form::Quick(true)));
-    assert!(rt; form_named("blockcall") == Some(Form::BlockProcessCall));
-    assert!(rt; form_named("alert") == None);
-    assert!(rt; carries_code(Form::SendByte));
-    assert!(rt; !carries_code(Form::ReceiveByte));
+    same(&rt, form_named("quickread"), Some(Form::Quick(true)));
+    same(&rt, form_named("blockcall"), Some(Form::BlockProcessCall));
+    same(&rt, form_named("alert"), None);
+}
+
+#[test]
+fn forms_with_a_code(rt: HostRuntime) {
+    same(&rt, carries_code(Form::SendByte), true);
+    same(&rt, carries_code(Form::ReceiveByte), false);
 }

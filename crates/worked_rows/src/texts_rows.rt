@@ -1,113 +1,204 @@
-use std::alloc::Global;
+use crate::expected::{holds, same, says};
+use std::alloc::{AllocError, Global};
 use std::io;
 use std::io::Write;
-use std::test::Fail;
+use std::process::Abort;
 use texts::{
     CutShort, ReadError, decimal_within, first_by_feed, first_line, hex_number, is_name,
     line_count, pair_of, pairs_of, push_pair, push_word, send, words_of,
 };
 
-#[test]
-fn lines_and_words(rt: HostRuntime) -> Result<(), Fail> {
-    assert!(rt; first_line("%run\r\n\nend\r") == Some(("%run", "\nend\r")));
-    assert!(rt; first_line("\nend\r") == Some(("", "end\r")));
-    assert!(rt; first_line("end\r") == Some(("end\r", "")));
-    assert!(rt; first_line("end\r\r\n") == Some(("end\r", "")));
-    assert!(rt; first_line("") == None);
-    assert!(rt; first_by_feed("end\r\n\nx:\n") == Some(("end\r", "\nx:\n")));
-    assert!(rt; first_by_feed("x:") == Some(("x:", "")));
-    assert!(rt; first_by_feed("") == None);
-    for (text, count) in [
-        ("", 0),
-        ("\n", 1),
-        ("end", 1),
-        ("end\r\n\nx:\n", 3),
-        ("a\n\nb", 3),
-    ] {
-        assert!(rt; line_count(text) == count, "{text}");
+/// A text, its first line, and what is behind that.
+type Cut = (&'static str, Option<(&'static str, &'static str)>);
+
+const CUT_AT_RETURNS: [Cut; 5] = [
+    ("%run\r\n\nend\r", Some(("%run", "\nend\r"))),
+    ("\nend\r", Some(("", "end\r"))),
+    ("end\r", Some(("end\r", ""))),
+    ("end\r\r\n", Some(("end\r", ""))),
+    ("", None),
+];
+
+fn each_is_cut(rt: &impl Abort, rows: &[Cut]) {
+    for row in rows {
+        same(rt, (row.0, first_line(row.0)), *row);
     }
-    let words = words_of(rt.alloc(), "  write a  PAGE\t1 ")?;
-    assert!(rt; words.as_slice() == ["write", "a", "PAGE\t1"].as_slice());
-    assert!(rt; words_of(rt.alloc(), "   ")?.is_empty());
-    Ok(())
+}
+
+#[test]
+fn lines_that_end_at_a_return_and_a_feed(rt: HostRuntime) {
+    each_is_cut(&rt, &CUT_AT_RETURNS);
+}
+
+#[test]
+fn lines_that_end_at_a_feed_alone(rt: HostRuntime) {
+    let behind = Some(("end\r", "\nx:\n"));
+    same(&rt, first_by_feed("end\r\n\nx:\n"), behind);
+    same(&rt, first_by_feed("x:"), Some(("x:", "")));
+    same(&rt, first_by_feed(""), None);
+}
+
+#[test]
+fn counted_lines(rt: HostRuntime) {
+    same(&rt, line_count(""), 0);
+    same(&rt, line_count("\n"), 1);
+    same(&rt, line_count("end"), 1);
+    same(&rt, line_count("end\r\n\nx:\n"), 3);
+    same(&rt, line_count("a\n\nb"), 3);
+}
+
+#[test]
+fn words_between_spaces(rt: HostRuntime) {
+    let words = words_of(rt.alloc(), "  write a  PAGE\t1 ");
+    holds(&rt, words, &["write", "a", "PAGE\t1"]);
+    holds(&rt, words_of(rt.alloc(), "   "), &[]);
+}
+
+/// A text, the greatest number that it may spell, and the number that it spells.
+type Decimal = (&'static str, u64, Option<u64>);
+
+const DECIMALS: [Decimal; 9] = [
+    ("0", 0, Some(0)),
+    ("1000", 1000, Some(1000)),
+    ("1001", 1000, None),
+    ("01", 9, None),
+    ("+1", 9, None),
+    ("", 9, None),
+    ("1a", 9, None),
+    ("18446744073709551615", u64::MAX, Some(u64::MAX)),
+    ("18446744073709551616", u64::MAX, None),
+];
+
+fn each_is_within(rt: &impl Abort, rows: &[Decimal]) {
+    for row in rows {
+        same(rt, (row.0, row.1, decimal_within(row.0, row.1)), *row);
+    }
 }
 
 #[test]
 fn decimals(rt: HostRuntime) {
-    for (text, most, want) in [
-        ("0", 0, Some(0u64)),
-        ("1000", 1000, Some(1000)),
-        ("1001", 1000, None),
-        ("01", 9, None),
-        ("+1", 9, None),
-        ("", 9, None),
-        ("1a", 9, None),
-        ("18446744073709551615", u64::MAX, Some(u64::MAX)),
-        ("18446744073709551616", u64::MAX, None),
-    ] {
-        assert!(rt; decimal_within(text, most) == want, "{text}");
+    each_is_within(&rt, &DECIMALS);
+}
+
+/// A text, and what it spells as a pair of digits and as a number.
+type Digits = (&'static str, (Option<u8>, Option<u16>));
+
+const DIGITS: [Digits; 9] = [
+    ("7F", (Some(0x7F), Some(0x7F))),
+    ("00", (Some(0), Some(0))),
+    ("7f", (None, None)),
+    ("+7", (None, None)),
+    ("9", (None, Some(9))),
+    ("0840", (None, Some(0x0840))),
+    ("FFFF", (None, Some(0xFFFF))),
+    ("10000", (None, None)),
+    ("", (None, None)),
+];
+
+fn each_is_read(rt: &impl Abort, rows: &[Digits]) {
+    for (text, want) in rows {
+        same(
+            rt,
+            (*text, (pair_of(text), hex_number(text))),
+            (*text, *want),
+        );
     }
 }
 
 #[test]
-fn digits(rt: HostRuntime) -> Result<(), Fail> {
-    for (text, pair, number) in [
-        ("7F", Some(0x7Fu8), Some(0x7Fu16)),
-        ("00", Some(0), Some(0)),
-        ("7f", None, None),
-        ("+7", None, None),
-        ("9", None, Some(9)),
-        ("0840", None, Some(0x0840)),
-        ("FFFF", None, Some(0xFFFF)),
-        ("10000", None, None),
-        ("", None, None),
-    ] {
-        assert!(rt; pair_of(text) == pair, "{text}");
-        assert!(rt; hex_number(text) == number, "{text}");
+fn pairs_and_numbers(rt: HostRuntime) {
+    each_is_read(&rt, &DIGITS);
+}
+
+/// Tries the bytes that pairs of digits spell.
+fn spells(rt: &impl Abort, seen: Result<Option<Vec<u8>>, AllocError>, want: Option<&[u8]>) {
+    match seen {
+        Ok(bytes) => same(rt, bytes.as_deref(), want),
+        Err(_) => panic!(rt; "no memory"),
     }
-    let bytes = pairs_of(rt.alloc(), "009911FF")?.ok_or("pairs")?;
-    assert!(rt; bytes.as_slice() == [0x00, 0x99, 0x11, 0xFF].as_slice());
-    assert!(rt; pairs_of(rt.alloc(), "")?.ok_or("none")?.is_empty());
-    for text in ["009", "0g", "a0", "00 11"] {
-        assert!(rt; pairs_of(rt.alloc(), text)?.is_none(), "{text}");
-    }
-    Ok(())
 }
 
 #[test]
-fn printed_digits(rt: HostRuntime) -> Result<(), Fail> {
-    let mut text = String::from_str(rt.alloc(), "S ")?;
-    push_pair(&mut text, 0x8A)?;
-    push_word(&mut text, 0x0840)?;
-    assert!(rt; text.as_str() == "S 8A0840");
-    Ok(())
+fn bytes_of_pairs(rt: HostRuntime) {
+    spells(
+        &rt,
+        pairs_of(rt.alloc(), "009911FF"),
+        Some(&[0x00, 0x99, 0x11, 0xFF]),
+    );
+    spells(&rt, pairs_of(rt.alloc(), ""), Some(&[]));
+}
+
+/// Texts that aren't pairs of digits.
+const NO_PAIRS: [&str; 4] = ["009", "0g", "a0", "00 11"];
+
+fn none_spells(rt: &impl Abort, alloc: Global, texts: &[&str]) {
+    for text in texts {
+        spells(rt, pairs_of(alloc, text), None);
+    }
+}
+
+#[test]
+fn no_pairs(rt: HostRuntime) {
+    none_spells(&rt, rt.alloc(), &NO_PAIRS);
+}
+
+fn digits_of(alloc: Global, byte: u8, word: u16) -> Result<String, AllocError> {
+    let mut text = String::from_str(alloc, "S ")?;
+    push_pair(&mut text, byte)?;
+    push_word(&mut text, word)?;
+    Ok(text)
+}
+
+#[test]
+fn printed_digits(rt: HostRuntime) {
+    says(&rt, digits_of(rt.alloc(), 0x8A, 0x0840), "S 8A0840");
+}
+
+const NAMES: [&str; 4] = ["a", "va", "poll_2", "abcdefghijklmnopqrstuvwxyz_12345"];
+
+const NO_NAMES: [&str; 7] = [
+    "",
+    "9a",
+    "_a",
+    "A",
+    "a-b",
+    "aB",
+    "abcdefghijklmnopqrstuvwxyz_123456",
+];
+
+fn each_is_name(rt: &impl Abort, texts: &[&str], want: bool) {
+    for text in texts {
+        same(rt, (*text, is_name(text)), (*text, want));
+    }
 }
 
 #[test]
 fn names(rt: HostRuntime) {
-    let longest = "abcdefghijklmnopqrstuvwxyz_12345";
-    for good in ["a", "va", "poll_2", longest] {
-        assert!(rt; is_name(good), "{good}");
-    }
-    let longer = "abcdefghijklmnopqrstuvwxyz_123456";
-    for bad in ["", "9a", "_a", "A", "a-b", "aB", longer] {
-        assert!(rt; !is_name(bad), "{bad}");
-    }
+    each_is_name(&rt, &NAMES, true);
+    each_is_name(&rt, &NO_NAMES, false);
 }
 
-fn one_byte(alloc: Global, byte: Option<u8>) -> Result<Vec<u8>, ReadError<u8>> {
+/// The length of a text of one letter. A push onto a text has an error of its own.
+fn one_letter(alloc: Global) -> Result<usize, ReadError<u8>> {
     let mut text = String::new(alloc);
     text.push('a')?;
+    Ok(text.len())
+}
+
+/// The byte, put on a list and taken from it. A push onto a list has an error of its own, and a
+/// missing byte is a fault.
+fn one_byte(alloc: Global, byte: Option<u8>) -> Result<Option<u8>, ReadError<u8>> {
+    let byte = byte.ok_or(ReadError::Fault(7))?;
     let mut bytes = Vec::new(alloc);
-    bytes.push(byte.ok_or(ReadError::Fault(7))?)?;
-    Ok(bytes)
+    bytes.push(byte)?;
+    Ok(bytes.pop())
 }
 
 #[test]
-fn faults(rt: HostRuntime) -> Result<(), Fail> {
-    assert!(rt; one_byte(rt.alloc(), Some(3))?.as_slice() == [3].as_slice());
-    assert!(rt; one_byte(rt.alloc(), None).err() == Some(ReadError::Fault(7)));
-    Ok(())
+fn faults(rt: HostRuntime) {
+    same(&rt, one_letter(rt.alloc()), Ok(1));
+    same(&rt, one_byte(rt.alloc(), Some(3)), Ok(Some(3)));
+    same(&rt, one_byte(rt.alloc(), None), Err(ReadError::Fault(7)));
 }
 
 /// Takes one byte a call, until it takes nothing.
@@ -134,19 +225,26 @@ impl Write for NarrowWriter {
     }
 }
 
+/// Sends a text through a writer that takes so many bytes.
+fn is_sent(
+    rt: &impl Abort,
+    alloc: Global,
+    calls_left: usize,
+    want: Result<(), CutShort>,
+    taken: &[u8],
+) {
+    let mut writer = NarrowWriter {
+        taken: Vec::new(alloc),
+        calls_left,
+    };
+    same(rt, send(&mut writer, b"frame"), want);
+    same(rt, writer.taken.as_slice(), taken);
+}
+
 #[test]
 fn texts_are_sent_whole_or_cut_short(rt: HostRuntime) {
-    for (calls_left, want, taken) in [
-        (0, Err(CutShort), b"".as_slice()),
-        (2, Err(CutShort), b"fr".as_slice()),
-        (5, Ok(()), b"frame".as_slice()),
-        (9, Ok(()), b"frame".as_slice()),
-    ] {
-        let mut writer = NarrowWriter {
-            taken: Vec::new(rt.alloc()),
-            calls_left,
-        };
-        assert!(rt; send(&mut writer, b"frame") == want);
-        assert!(rt; writer.taken.as_slice() == taken);
-    }
+    is_sent(&rt, rt.alloc(), 0, Err(CutShort), b"");
+    is_sent(&rt, rt.alloc(), 2, Err(CutShort), b"fr");
+    is_sent(&rt, rt.alloc(), 5, Ok(()), b"frame");
+    is_sent(&rt, rt.alloc(), 9, Ok(()), b"frame");
 }

@@ -2,7 +2,9 @@
 
 mod waves;
 
+use crate::expected::{holds, same};
 use std::alloc::{AllocError, Global};
+use std::process::Abort;
 use std::test::*;
 use wires::{Event, Runs, Sample, arbitrate, events, events_of, wired};
 
@@ -38,7 +40,7 @@ fn one_pulls_each_line(rt: HostRuntime) {
 
 // A frame that is cut in its first slot has these events.
 #[test]
-fn start_and_stop(rt: HostRuntime) -> Result<(), Fail> {
+fn start_and_stop(rt: HostRuntime) {
     let samples = [
         IDLE,
         lines(true, false),
@@ -47,81 +49,125 @@ fn start_and_stop(rt: HostRuntime) -> Result<(), Fail> {
         lines(true, false),
         IDLE,
     ];
-    let seen = events(rt.alloc(), &samples)?;
     let wanted = [Event::Start, Event::Rise(false), Event::Stop];
-    assert!(rt; seen.as_slice() == wanted.as_slice());
+    holds(&rt, events(rt.alloc(), &samples), &wanted);
+}
+
+/// A sample, and for how many ticks it holds.
+type Ticks = (Sample, u64);
+
+/// A few short runs, one behind the other.
+fn runs_of(rt: &impl Abort, alloc: Global, parts: &[Ticks]) -> Result<Runs, AllocError> {
+    let mut runs = Runs::new(alloc);
+    for (sample, ticks) in parts {
+        assert!(rt; runs.total().max(*ticks) < 1000);
+        runs.push(*sample, *ticks)?;
+    }
+    Ok(runs)
+}
+
+const LOW: Sample = Sample {
+    scl: false,
+    sda: false,
+    alert: true,
+};
+
+/// SCL low for ten ticks between idle ones.
+const HELD_LOW: [Ticks; 5] = [(IDLE, 3), (LOW, 10), (IDLE, 0), (IDLE, 1), (IDLE, 2)];
+
+/// Places, and the samples that are held low there.
+const HELD_SAMPLES: [(u64, Option<Sample>); 7] = [
+    (0, Some(IDLE)),
+    (2, Some(IDLE)),
+    (3, Some(LOW)),
+    (12, Some(LOW)),
+    (13, Some(IDLE)),
+    (15, Some(IDLE)),
+    (16, None),
+];
+
+fn each_is_at(rt: &impl Abort, samples: &Runs, rows: &[(u64, Option<Sample>)]) {
+    for row in rows {
+        same(rt, (row.0, samples.sample_at(row.0)), *row);
+    }
+}
+
+#[test]
+fn samples_of_runs(rt: HostRuntime) -> Result<(), Fail> {
+    each_is_at(&rt, &runs_of(&rt, rt.alloc(), &HELD_LOW)?, &HELD_SAMPLES);
     Ok(())
 }
 
-/// SCL low for ten ticks between idle ones.
-fn held_low(alloc: Global) -> Result<Runs, AllocError> {
-    let mut samples = Runs::new(alloc);
-    samples.push(IDLE, 3)?;
-    samples.push(lines(false, false), 10)?;
-    samples.push(IDLE, 0)?;
-    samples.push(IDLE, 1)?;
-    samples.push(IDLE, 2)?;
-    Ok(samples)
+/// Tries the number of samples and of runs, and the events.
+fn compare(rt: &impl Abort, alloc: Global, runs: &Runs, counts: (u64, usize), want: &[Event]) {
+    same(rt, (runs.total(), runs.runs().len()), counts);
+    holds(rt, events_of(alloc, runs), want);
 }
 
 #[test]
 fn equal_samples_are_one_run(rt: HostRuntime) -> Result<(), Fail> {
-    let samples = held_low(rt.alloc())?;
-    assert!(rt; (samples.total(), samples.runs().len()) == (16, 3));
-    for (place, want) in [
-        (0, true),
-        (2, true),
-        (3, false),
-        (12, false),
-        (13, true),
-        (15, true),
-    ] {
-        assert!(rt;
-            samples.sample_at(place).map(|sample| sample.scl) == Some(want),
-            "{place}"
-        );
-    }
-    assert!(rt; samples.sample_at(16) == None);
-    let seen = events_of(rt.alloc(), &samples)?;
-    assert!(rt; seen.as_slice() == [Event::Rise(true)].as_slice());
+    let samples = runs_of(&rt, rt.alloc(), &HELD_LOW)?;
+    compare(&rt, rt.alloc(), &samples, (16, 3), &[Event::Rise(true)]);
     Ok(())
 }
 
 #[test]
+fn new_runs_have_no_samples(rt: HostRuntime) {
+    let runs = Runs::new(rt.alloc());
+    same(&rt, (runs.total(), runs.sample_at(0)), (0, None));
+}
+
+fn joined(rt: &impl Abort, alloc: Global) -> Result<Runs, AllocError> {
+    let first = runs_of(rt, alloc, &[(lines(true, false), 1), (IDLE, 1)])?;
+    let later = runs_of(rt, alloc, &[(IDLE, 4)])?;
+    assert!(rt; first.total().max(later.total()) < 1000);
+    Runs::joined(alloc, &first, &later)
+}
+
+#[test]
 fn runs_are_joined(rt: HostRuntime) -> Result<(), Fail> {
-    let alloc = rt.alloc();
-    let mut later = Runs::new(alloc);
-    later.push(IDLE, 4)?;
-    let mut first = Runs::new(alloc);
-    assert!(rt; (first.total(), first.sample_at(0)) == (0, None));
-    first.push(lines(true, false), 1)?;
-    first.push(IDLE, 1)?;
-    let both = Runs::joined(alloc, &first, &later)?;
-    assert!(rt; (both.total(), both.runs().len()) == (6, 2));
-    let seen = events_of(alloc, &both)?;
-    assert!(rt; seen.as_slice() == [Event::Stop].as_slice());
+    let both = joined(&rt, rt.alloc())?;
+    compare(&rt, rt.alloc(), &both, (6, 2), &[Event::Stop]);
+    Ok(())
+}
+
+fn clears(rt: &impl Abort, samples: &mut Runs) -> Result<(), AllocError> {
+    samples.clear();
+    same(rt, (samples.total(), samples.runs().len()), (0, 0));
+    samples.push(IDLE, 2)?;
+    same(rt, (samples.total(), samples.sample_at(1)), (2, Some(IDLE)));
     Ok(())
 }
 
 #[test]
 fn cleared_runs_have_no_samples(rt: HostRuntime) -> Result<(), Fail> {
-    let mut samples = held_low(rt.alloc())?;
-    samples.clear();
-    assert!(rt; (samples.total(), samples.runs().len()) == (0, 0));
-    samples.push(IDLE, 2)?;
-    assert!(rt; (samples.total(), samples.sample_at(1)) == (2, Some(IDLE)));
+    clears(&rt, &mut runs_of(&rt, rt.alloc(), &HELD_LOW)?)?;
     Ok(())
 }
 
+/// The byte that is read, and who sent it.
+type Won<'a> = (u8, &'a [usize]);
+
+/// Tries who won, if anybody sent.
+fn wins(
+    rt: &impl Abort,
+    seen: Result<Option<(u8, Vec<usize>)>, AllocError>,
+    want: Option<Won<'_>>,
+) {
+    match seen {
+        Ok(Some((byte, winners))) => same(rt, Some((byte, winners.as_slice())), want),
+        Ok(None) => same(rt, None, want),
+        Err(_) => panic!(rt; "no memory"),
+    }
+}
+
 #[test]
-fn lowest_byte_wins(rt: HostRuntime) -> Result<(), Fail> {
-    let alloc = rt.alloc();
-    let (byte, winners) = arbitrate(alloc, &[0x80, 0x42])?.ok_or("nobody")?;
-    assert!(rt; byte == 0x42);
-    assert!(rt; winners.as_slice() == [1].as_slice());
-    let (byte, winners) = arbitrate(alloc, &[5, 5])?.ok_or("nobody")?;
-    assert!(rt; byte == 5);
-    assert!(rt; winners.as_slice() == [0, 1].as_slice());
-    assert!(rt; arbitrate(alloc, &[])?.is_none());
-    Ok(())
+fn lowest_byte_wins(rt: HostRuntime) {
+    wins(
+        &rt,
+        arbitrate(rt.alloc(), &[0x80, 0x42]),
+        Some((0x42, &[1])),
+    );
+    wins(&rt, arbitrate(rt.alloc(), &[5, 5]), Some((5, &[0, 1])));
+    wins(&rt, arbitrate(rt.alloc(), &[]), None);
 }

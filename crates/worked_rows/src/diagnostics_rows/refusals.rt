@@ -33,7 +33,8 @@ const REFUSALS: [(Refusal, usize, &str); 4] = [
     (
         Refusal::Breaks(Rule::K9),
         0,
-        "%program:3: error: K9: the table is none of this program on this board\n    write va",
+        "%program:3: error: K9: the table doesn't belong to this program on this board\n    write \
+         va",
     ),
     (
         Refusal::Breaks(Rule::K7),

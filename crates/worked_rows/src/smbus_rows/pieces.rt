@@ -1,7 +1,8 @@
 //! Frames of a stream of events that comes in pieces.
 
-use super::status_events;
-use smbus::{Frame, ObserveFault, Observer, frame_text};
+use super::{reads, status_events, texts_of};
+use crate::expected::same;
+use smbus::{ObserveFault, Observer};
 use std::alloc::Global;
 use std::process::Abort;
 use std::test::Fail;
@@ -10,114 +11,120 @@ use wires::Event;
 /// A Read Word of STATUS_WORD as its frame is printed.
 const STATUS_FRAME: &str = "S 80A 79A Sr 81A 40A 08N P";
 
-/// Feeds a short piece of a short stream.
+/// Feeds a short piece of a short stream; the texts of the frames that end in it.
 fn feed(
     rt: &impl Abort,
+    alloc: Global,
     observer: &mut Observer,
     piece: &[Event],
-) -> Result<Vec<Frame>, ObserveFault> {
-    assert!(rt; observer.fed() < 1000);
-    assert!(rt; piece.len() < 1000);
-    observer.feed(piece)
+) -> Result<String, ObserveFault> {
+    assert!(rt; observer.fed().max(piece.len() as u64) < 1000);
+    let frames = observer.feed(piece)?;
+    Ok(texts_of(alloc, &frames)?)
 }
 
-/// Feeds events one at a time, and tries that no frame ends in them.
-fn none_ends(rt: &impl Abort, observer: &mut Observer, events: &[Event]) -> Result<(), Fail> {
-    for event in events {
-        let frames = feed(rt, observer, &[*event])?;
-        assert!(rt; frames.is_empty());
+/// How many events are taken, and whether the stream may end behind them.
+type Place = (u64, Result<(), ObserveFault>);
+
+/// A piece, the texts of the frames that end in it or its fault, and where the stream is then.
+type Fed<'a> = (&'a [Event], Result<&'a str, ObserveFault>, Place);
+
+fn feeds(rt: &impl Abort, alloc: Global, observer: &mut Observer, want: Fed<'_>) {
+    let (piece, texts, place) = want;
+    reads(rt, feed(rt, alloc, observer, piece), texts);
+    same(rt, (observer.fed(), observer.finish()), place);
+}
+
+fn each_feeds(rt: &impl Abort, alloc: Global, pieces: &[Fed<'_>]) {
+    let mut observer = Observer::new(alloc);
+    for piece in pieces {
+        feeds(rt, alloc, &mut observer, *piece);
     }
-    Ok(())
 }
 
-/// Tries that there is one frame, and its text.
-fn is_one(rt: &impl Abort, alloc: Global, frames: &[Frame], want: &str) -> Result<(), Fail> {
-    assert!(rt; frames.len() == 1);
-    let frame = frames.first().ok_or("no frame")?;
-    assert!(rt; frame_text(alloc, frame)?.as_str() == want);
-    Ok(())
+/// Feeds the events of an open frame one at a time.
+fn none_ends(rt: &impl Abort, alloc: Global, observer: &mut Observer, events: &[Event]) {
+    for event in events {
+        reads(rt, feed(rt, alloc, observer, &[*event]), Ok(""));
+    }
+    let open = Err(ObserveFault::NotFrames(events.len()));
+    same(
+        rt,
+        (observer.fed(), observer.finish()),
+        (events.len() as u64, open),
+    );
+}
+
+fn last_ends(rt: &impl Abort, alloc: Global, before: &[Event], last: Event, ended: Place) {
+    let mut observer = Observer::new(alloc);
+    none_ends(rt, alloc, &mut observer, before);
+    feeds(rt, alloc, &mut observer, (&[last], Ok(STATUS_FRAME), ended));
 }
 
 #[test]
 fn event_by_event(rt: HostRuntime) -> Result<(), Fail> {
-    let alloc = rt.alloc();
-    let events = status_events(alloc)?;
+    let events = status_events(rt.alloc())?;
+    let ended = (events.len() as u64, Ok(()));
     let (last, before) = events.split_last().ok_or("no events")?;
-    let mut observer = Observer::new(alloc);
-    none_ends(&rt, &mut observer, before)?;
-    assert!(rt; observer.fed() == before.len() as u64);
-    assert!(rt; observer.finish() == Err(ObserveFault::NotFrames(before.len())));
-    let frames = feed(&rt, &mut observer, &[*last])?;
-    assert!(rt; observer.fed() == events.len() as u64);
-    assert!(rt; observer.finish() == Ok(()));
-    is_one(&rt, alloc, &frames, STATUS_FRAME)
+    last_ends(&rt, rt.alloc(), before, *last, ended);
+    Ok(())
 }
 
-/// The frames of events that are fed in two pieces.
-fn frames_cut_at(
-    rt: &impl Abort,
-    alloc: Global,
-    events: &[Event],
-    place: usize,
-) -> Result<Vec<Frame>, Fail> {
-    let first = events.get(..place).ok_or("no first piece")?;
-    let later = events.get(place..).ok_or("no later piece")?;
+/// Feeds one frame in two pieces: it ends in the later one, unless that is empty.
+fn feeds_both(rt: &impl Abort, alloc: Global, first: &[Event], later: &[Event], ended: Place) {
+    let texts = if later.is_empty() {
+        (STATUS_FRAME, "")
+    } else {
+        ("", STATUS_FRAME)
+    };
     let mut observer = Observer::new(alloc);
-    let mut frames = feed(rt, &mut observer, first)?;
-    frames.append(&mut feed(rt, &mut observer, later)?)?;
-    assert!(rt; observer.fed() == events.len() as u64);
-    assert!(rt; observer.finish() == Ok(()));
-    Ok(frames)
+    reads(rt, feed(rt, alloc, &mut observer, first), Ok(texts.0));
+    feeds(rt, alloc, &mut observer, (later, Ok(texts.1), ended));
+}
+
+fn each_cut(rt: &impl Abort, alloc: Global, events: &[Event]) {
+    let ended = (events.len() as u64, Ok(()));
+    for place in 0..=events.len() {
+        let (first, later) = events.split_at(place);
+        feeds_both(rt, alloc, first, later, ended);
+    }
 }
 
 #[test]
 fn cut_in_two(rt: HostRuntime) -> Result<(), Fail> {
-    let alloc = rt.alloc();
-    let events = status_events(alloc)?;
-    for place in 0..=events.len() {
-        let frames = frames_cut_at(&rt, alloc, &events, place)?;
-        is_one(&rt, alloc, &frames, STATUS_FRAME)?;
-    }
+    each_cut(&rt, rt.alloc(), &status_events(rt.alloc())?);
     Ok(())
 }
 
-/// Tries that a piece, and the end of the stream behind it, has this fault.
-fn faults(rt: &impl Abort, observer: &mut Observer, piece: &[Event], want: ObserveFault) {
-    assert!(rt; feed(rt, observer, piece).err() == Some(want));
-    assert!(rt; observer.finish() == Err(want));
-}
+/// A fault before all events.
+const AT_ONCE: ObserveFault = ObserveFault::NotFrames(0);
+
+const STRAY_STOP: [Fed<'static>; 2] = [
+    (&[Event::Stop], Err(AT_ONCE), (0, Err(AT_ONCE))),
+    (&[], Err(AT_ONCE), (0, Err(AT_ONCE))),
+];
 
 #[test]
 fn stray_stop(rt: HostRuntime) {
-    let mut observer = Observer::new(rt.alloc());
-    faults(
-        &rt,
-        &mut observer,
-        &[Event::Stop],
-        ObserveFault::NotFrames(0),
-    );
-    faults(&rt, &mut observer, &[], ObserveFault::NotFrames(0));
-    assert!(rt; observer.fed() == 0);
+    each_feeds(&rt, rt.alloc(), &STRAY_STOP);
 }
 
-#[test]
-fn open_frame(rt: HostRuntime) -> Result<(), Fail> {
-    let mut observer = Observer::new(rt.alloc());
-    none_ends(&rt, &mut observer, &[Event::Start])?;
-    assert!(rt; observer.finish() == Err(ObserveFault::NotFrames(1)));
-    let frames = feed(&rt, &mut observer, &[Event::Rise(false), Event::Stop])?;
-    is_one(&rt, rt.alloc(), &frames, "S P")?;
-    assert!(rt; observer.finish() == Ok(()));
-    assert!(rt; observer.fed() == 3);
-    // The second event of this piece doesn't go on, so none of it is taken.
-    let piece = [Event::Start, Event::Stop];
-    faults(&rt, &mut observer, &piece, ObserveFault::NotFrames(4));
-    faults(
-        &rt,
-        &mut observer,
+/// A fault behind a frame of three events: the second event of the piece doesn't go on, so none of
+/// it is taken.
+const BEHIND: ObserveFault = ObserveFault::NotFrames(4);
+
+const OPEN_FRAME: [Fed<'static>; 4] = [
+    (
         &[Event::Start],
-        ObserveFault::NotFrames(4),
-    );
-    assert!(rt; observer.fed() == 3);
-    Ok(())
+        Ok(""),
+        (1, Err(ObserveFault::NotFrames(1))),
+    ),
+    (&[Event::Rise(false), Event::Stop], Ok("S P"), (3, Ok(()))),
+    (&[Event::Start, Event::Stop], Err(BEHIND), (3, Err(BEHIND))),
+    (&[Event::Start], Err(BEHIND), (3, Err(BEHIND))),
+];
+
+#[test]
+fn open_frame(rt: HostRuntime) {
+    each_feeds(&rt, rt.alloc(), &OPEN_FRAME);
 }

@@ -1,0 +1,25 @@
+//! What tests share to try values: an assertion that stands in a function of its own is proved
+//! once, and calls of it are proved quickly.
+
+use std::alloc::AllocError;
+use std::fmt::Debug;
+use std::process::Abort;
+
+/// Tries that a value is the one that is wanted.
+pub(crate) fn same<T: Debug + Drop + PartialEq>(rt: &impl Abort, seen: T, want: T) {
+    assert_eq!(rt; seen, want);
+}
+
+/// Tries that a list could be made, and what it holds.
+pub(crate) fn holds<T: Debug + Drop + PartialEq>(
+    rt: &impl Abort,
+    seen: Result<Vec<T>, AllocError>,
+    want: &[T],
+) {
+    same(rt, seen.as_deref().ok(), Some(want));
+}
+
+/// Tries that a text could be made, and what it says.
+pub(crate) fn says(rt: &impl Abort, seen: Result<String, AllocError>, want: &str) {
+    same(rt, seen.as_deref().ok(), Some(want));
+}

@@ -1,0 +1,303 @@
+//! Calls that are made again where they answered Memory. With ample memory each answers at once;
+//! `bench/calls` runs these rows with the first allocation refused, then with the second, and so
+//! on.
+
+ghost use Rattle.std.specs.Prelude.{length, All, IfOk};
+ghost use Rattle.seq_program.specs.Valid.{IsOnBoard};
+
+use crate::boards::{alert_board, two_board};
+use board::{Board, BoardFault};
+use fact_search::{FindFault, find};
+use seq_program::{Program, ProgramFault, read_program};
+use simulator::{RunFault, Trace, run, start};
+use smbus::{Answer, Frame, ObserveFault, Observer, frame_text};
+use std::alloc::{AllocError, Global};
+use std::process::Abort;
+use std::test::Fail;
+use table_check::{Table, TableFault, Verdict, check, read_table};
+use wires::{Event, Runs, Sample};
+
+fn board_again(alloc: Global) -> Result<Board, BoardFault> {
+    match two_board(alloc) {
+        Err(BoardFault::Memory) => two_board(alloc),
+        read => read,
+    }
+}
+
+fn program_again(alloc: Global, board: &Board, text: &str) -> Result<Program, ProgramFault>
+    ensures { IfOk result (λ p. All (λ i. IsOnBoard (length board.now.targets) i) p) }
+{
+    match read_program(alloc, board, text) {
+        Err(ProgramFault::Memory) => read_program(alloc, board, text),
+        read => read,
+    }
+}
+
+#[test]
+fn a_board_is_read_again(rt: HostRuntime) -> Result<(), Fail> {
+    let board = board_again(rt.alloc())?;
+    assert!(rt; (board.targets().len(), board.rails().len()) == (2, 2));
+    Ok(())
+}
+
+fn table_again(alloc: Global, board: &Board, program: &Program) -> Result<Table, FindFault> {
+    match find(alloc, board, program) {
+        Err(FindFault::Memory) => find(alloc, board, program),
+        found => found,
+    }
+}
+
+fn verdict_again(
+    alloc: Global,
+    board: &Board,
+    program: &Program,
+    table: &Table,
+) -> Result<Verdict, AllocError> {
+    match check(alloc, board, program, table) {
+        Err(AllocError) => check(alloc, board, program, table),
+        verdict => verdict,
+    }
+}
+
+/// Asks at most eleven times whether a rail is good.
+const POLL: &str = "write a OPERATION 0x80 else bad\ncount c0 10\npoll:\n\
+    read a STATUS_WORD r0 else next\nif r0 0x0840 0x0000 good\nnext:\nwait 1000\nagain c0 poll\n\
+    fail\ngood:\nwrite b OPERATION 0x80 else bad\nend\nbad:\nfail";
+
+#[test]
+fn a_table_is_found_again(rt: HostRuntime) -> Result<(), Fail> {
+    let board = board_again(rt.alloc())?;
+    let program = program_again(rt.alloc(), &board, POLL)?;
+    let table = table_again(rt.alloc(), &board, &program)?;
+    match verdict_again(rt.alloc(), &board, &program, &table)? {
+        Verdict::Accepted { bound } => assert!(rt; 12_694 <= bound && bound <= 20_000),
+        Verdict::Refused { .. } => assert!(rt; false),
+    }
+    Ok(())
+}
+
+const SPIN: &str = "count c0 3\nspin:\nwait 10\nagain c0 spin\nend\n";
+
+/// What each row of SPIN's table has between its counter c0 and its ticks, and before that.
+const COMMON: [&str; 2] = [
+    "page a 00\npage b 00\nprotect a 00\nprotect b 00\ngood\nreg r0 0 0 none\nreg r1 0 0 none\n\
+     reg r2 0 0 none\nreg r3 0 0 none\nreg r4 0 0 none\nreg r5 0 0 none\nreg r6 0 0 none\n\
+     reg r7 0 0 none\n",
+    "counter c1 0 0\ncounter c2 0 0\ncounter c3 0 0\n",
+];
+
+/// The most of c0 and the ticks of each of its rows.
+const ROWS: [(u16, &str); 4] = [
+    (0, "50 0 0 0 0"),
+    (3, "13 12 0 0 0"),
+    (3, "2 12 0 0 0"),
+    (3, "1 0 0 0 0"),
+];
+
+fn spin_text(alloc: Global, rows: &[(u16, &str)]) -> Result<String, AllocError> {
+    let [head, tail] = COMMON;
+    let mut text = String::new(alloc);
+    for (place, (most, ticks)) in rows.iter().enumerate() {
+        write!(
+            text,
+            "row {place}\n{head}counter c0 0 {most}\n{tail}ticks {ticks}\n"
+        )?;
+    }
+    Ok(text)
+}
+
+fn spin_table(alloc: Global, board: &Board) -> Result<Table, TableFault> {
+    let text = spin_text(alloc, &ROWS)?;
+    read_table(alloc, board, &text)
+}
+
+#[test]
+fn a_table_is_checked_again(rt: HostRuntime) -> Result<(), Fail> {
+    let board = board_again(rt.alloc())?;
+    let program = program_again(rt.alloc(), &board, SPIN)?;
+    let table = match spin_table(rt.alloc(), &board) {
+        Err(TableFault::Memory) => spin_table(rt.alloc(), &board)?,
+        table => table?,
+    };
+    let verdict = verdict_again(rt.alloc(), &board, &program, &table)?;
+    assert!(rt; verdict == Verdict::Accepted { bound: 50 });
+    Ok(())
+}
+
+const ASKING: &str = "wait 1\nalert r0 else no\nalert r1 else no\nalert r2 else no\nend\nno:\nfail";
+
+/// An answer that returns a value, refuses a byte or begins alerts.
+fn answer_of(alloc: Global, value: u16, refuse: Option<u16>, alerts: u16) -> Answer {
+    Answer {
+        holds: Vec::new(alloc),
+        refuse,
+        value,
+        bytes: Vec::new(alloc),
+        took: false,
+        alerts,
+    }
+}
+
+/// Both targets begin to alert, and then each answers as it must.
+fn answers_of(alloc: Global) -> [Answer; 5] {
+    [
+        answer_of(alloc, 0, None, 3),
+        answer_of(alloc, 0x42, None, 0),
+        answer_of(alloc, 0x80, None, 0),
+        answer_of(alloc, 0, Some(0), 0),
+        answer_of(alloc, 0, None, 0),
+    ]
+}
+
+/// The run of a program of the board.
+fn trace_of(
+    alloc: Global,
+    board: &Board,
+    program: &Program,
+    answers: &[Answer],
+) -> Result<Trace, RunFault>
+    requires { All (λ i. IsOnBoard (length board.now.targets) i) program.now }
+{
+    let _places = program.places();
+    let machine = start(alloc, board, &[0, 0], &[0, 0])?;
+    run(alloc, board, program, &machine, answers)
+}
+
+/// All ticks of a trace.
+fn ticks_of(trace: &Trace) -> u64 {
+    let mut ticks = 0u64;
+    for entry in &trace.entries {
+        ticks = ticks.saturating_add(entry.ticks);
+    }
+    ticks
+}
+
+#[test]
+fn a_program_is_run_again(rt: HostRuntime) -> Result<(), Fail> {
+    let board = match alert_board(rt.alloc()) {
+        Err(BoardFault::Memory) => alert_board(rt.alloc())?,
+        read => read?,
+    };
+    let program = program_again(rt.alloc(), &board, ASKING)?;
+    let answers = answers_of(rt.alloc());
+    let trace = match trace_of(rt.alloc(), &board, &program, &answers) {
+        Err(RunFault::Memory) => trace_of(rt.alloc(), &board, &program, &answers)?,
+        trace => trace?,
+    };
+    assert!(rt; (trace.entries.len(), ticks_of(&trace)) == (5, 108));
+    Ok(())
+}
+
+/// Pushes samples, again where that was refused, which changes nothing.
+fn push_again(
+    rt: &impl Abort,
+    samples: &mut Runs,
+    sample: Sample,
+    count: u64,
+) -> Result<(), AllocError> {
+    let before = (samples.total(), samples.runs().len());
+    assert!(rt; before.0 < 1000 && count < 1000);
+    if samples.push(sample, count).is_ok() {
+        return Ok(());
+    }
+    assert!(rt; (samples.total(), samples.runs().len()) == before);
+    samples.push(sample, count)
+}
+
+/// A sample with SMBALERT# high.
+fn lines(scl: bool, sda: bool) -> Sample {
+    Sample {
+        scl,
+        sda,
+        alert: true,
+    }
+}
+
+#[test]
+fn samples_are_pushed_again(rt: HostRuntime) -> Result<(), Fail> {
+    let mut samples = Runs::new(rt.alloc());
+    push_again(&rt, &mut samples, lines(true, true), 2)?;
+    for _ in 0..4 {
+        push_again(&rt, &mut samples, lines(false, true), 3)?;
+        push_again(&rt, &mut samples, lines(false, false), 4)?;
+    }
+    assert!(rt; (samples.total(), samples.runs().len()) == (30, 9));
+    Ok(())
+}
+
+/// Feeds a piece, again where that was refused, which changes nothing.
+fn feed_again(
+    rt: &impl Abort,
+    observer: &mut Observer,
+    piece: &[Event],
+) -> Result<Vec<Frame>, ObserveFault> {
+    let before = (observer.fed(), observer.finish());
+    assert!(rt; before.0 < 1000 && piece.len() < 1000);
+    match observer.feed(piece) {
+        Err(ObserveFault::Memory) => {
+            assert!(rt; (observer.fed(), observer.finish()) == before);
+            observer.feed(piece)
+        }
+        frames => frames,
+    }
+}
+
+/// The bits of a byte, the highest first.
+const BITS: [u8; 8] = [0x80, 0x40, 0x20, 0x10, 0x08, 0x04, 0x02, 0x01];
+
+/// Adds the clocks of a byte and of its acknowledge.
+fn push_byte(events: &mut Vec<Event>, byte: u8, is_acknowledged: bool) -> Result<(), AllocError> {
+    for bit in &BITS {
+        events.push(Event::Rise(byte & *bit != 0))?;
+    }
+    events.push(Event::Rise(!is_acknowledged))?;
+    Ok(())
+}
+
+/// The events of a Read Word of STATUS_WORD that returns 0840h.
+fn word_events(alloc: Global) -> Result<Vec<Event>, AllocError> {
+    let mut events = vec![in alloc; Event::Start]?;
+    push_byte(&mut events, 0x80, true)?;
+    push_byte(&mut events, 0x79, true)?;
+    events.push(Event::Rise(true))?;
+    events.push(Event::Start)?;
+    push_byte(&mut events, 0x81, true)?;
+    push_byte(&mut events, 0x40, true)?;
+    push_byte(&mut events, 0x08, false)?;
+    events.push(Event::Rise(false))?;
+    events.push(Event::Stop)?;
+    Ok(events)
+}
+
+/// The frames of events that are fed in two pieces.
+fn frames_again(
+    rt: &impl Abort,
+    alloc: Global,
+    events: &[Event],
+) -> Result<Vec<Frame>, ObserveFault> {
+    let (first, later) = events.split_at(events.len() / 2);
+    let mut observer = Observer::new(alloc);
+    let frames = feed_again(rt, &mut observer, first)?;
+    assert!(rt; frames.is_empty());
+    feed_again(rt, &mut observer, later)
+}
+
+fn text_again(alloc: Global, frame: &Frame) -> Result<String, AllocError> {
+    match frame_text(alloc, frame) {
+        Err(AllocError) => frame_text(alloc, frame),
+        text => text,
+    }
+}
+
+#[test]
+fn events_are_fed_again(rt: HostRuntime) -> Result<(), Fail> {
+    let events = match word_events(rt.alloc()) {
+        Err(AllocError) => word_events(rt.alloc())?,
+        Ok(events) => events,
+    };
+    let frames = frames_again(&rt, rt.alloc(), &events)?;
+    let frame = frames.first().ok_or("no frame")?;
+    let text = text_again(rt.alloc(), frame)?;
+    assert!(rt; text.as_str() == "S 80A 79A Sr 81A 40A 08N P");
+    Ok(())
+}
