@@ -1,9 +1,9 @@
 pub mod Places
 pub mod Lists
-pub mod Keyed
+pub mod KnownKeys
 pub mod Ranges
 pub mod NewNames
-pub mod Seats
+pub mod Drafts
 pub mod Counts
 pub mod Steps
 pub mod OrderedReading

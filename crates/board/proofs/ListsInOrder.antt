@@ -5,16 +5,16 @@ use Rattle.toml.specs.Data.{integer, Items, no_items, item, as_table}
 use Rattle.smbus.specs.FormWords.{form_named}
 use Rattle.texts.specs.Reading.{◌>>=◌, some_or}
 use Rattle.board.specs.declared.fault.BoardFault.TheVariants.{SameName, BadKey}
-use Rattle.board.specs.Keys.{keyed}
+use Rattle.board.specs.Keys.{check_keys}
 use Rattle.board.specs.Boards.{Target, Rail, Allow}
 use Rattle.board.specs.Named.{Named, with_item, named_of}
 use Rattle.board.specs.InOrder.{InOrder, NamedInOrder}
 use Rattle.board.specs.Entries.{allow_of, entry_from, entries_of}
 use Rattle.board.specs.Targets.{bytes_of, target_from, targets_of}
-use Rattle.board.specs.Rails.{Seat, seat_from, seats_of, need_of, needs_of, rail_with, rails_of}
-use Rattle.board.specs.OrderLaws.{list_of, byte_after, entry_after, target_after, seat_after}
+use Rattle.board.specs.Rails.{RailDraft, draft_from, drafts_of, need_of, needs_of, rail_with, rails_of}
+use Rattle.board.specs.OrderLaws.{list_of, byte_after, entry_after, target_after, draft_after}
 use Rattle.board.specs.OrderLaws.{need_after, rail_after, receive_table, SomeListsInOrder}
-use Rattle.board.specs.OrderLaws.{TargetsInOrder, EntriesInOrder, BytesInOrder, SeatsInOrder}
+use Rattle.board.specs.OrderLaws.{TargetsInOrder, EntriesInOrder, BytesInOrder, DraftsInOrder}
 use Rattle.board.specs.OrderLaws.{NeedsInOrder, RailsInOrder}
 use Rattle.board.proofs.Lists.{map-push}
 use Rattle.board.proofs.OrderedReading.{reads, reads_in_order}
@@ -63,16 +63,16 @@ pub needs_in_order : NeedsInOrder
 needs_in_order names rail items r =
     rw (needs_read names rail []) (reads_in_order (need_after names rail) (list_of items) r)
 
-rails_read : (names : List (List ℕ)) (done : List Rail) (seats : List Seat)
-    → rails_of names done seats ≡ reads (rail_after names) done seats
+rails_read : (names : List (List ℕ)) (done : List Rail) (drafts : List RailDraft)
+    → rails_of names done drafts ≡ reads (rail_after names) done drafts
 rails_read names done [] = refl
-rails_read names done (s ∷ seats) =
+rails_read names done (s ∷ drafts) =
     bind_twice (λ r. r) (needs_of names (length done) [] s.needs)
     (λ needs. Ok (rail_with s needs)) _ _ (λ fault. refl)
-    (λ rail. rails_read names (done ++ rail ∷ []) seats)
+    (λ rail. rails_read names (done ++ rail ∷ []) drafts)
 
 pub rails_in_order : RailsInOrder
-rails_in_order names seats r = rw (rails_read names []) (reads_in_order (rail_after names) seats r)
+rails_in_order names drafts r = rw (rails_read names []) (reads_in_order (rail_after names) drafts r)
 
 -- the values, as items with their names
 abbrev in_names : {A F : Type 0} → Result (List (List ℕ × A)) F → Result (Named A) F
@@ -114,22 +114,22 @@ targets_read done (item d ds) =
 pub targets_in_order : TargetsInOrder
 targets_in_order items r = rw (targets_read []) (named_in_order target_after (list_of items) r)
 
-seats_read : (targets : Named Target) (done : List (List ℕ × Seat)) (items : Items)
-    → seats_of targets (named_of done) items
-    ≡ in_names (reads (seat_after targets) done (list_of items))
-seats_read targets done no_items = refl
-seats_read targets done (item d ds) =
-    bind_twice in_names (some_or BadKey (as_table d)) (seat_from targets (named_of done)) _ _
+drafts_read : (targets : Named Target) (done : List (List ℕ × RailDraft)) (items : Items)
+    → drafts_of targets (named_of done) items
+    ≡ in_names (reads (draft_after targets) done (list_of items))
+drafts_read targets done no_items = refl
+drafts_read targets done (item d ds) =
+    bind_twice in_names (some_or BadKey (as_table d)) (draft_from targets (named_of done)) _ _
     (λ fault. refl)
-    (λ s. rw (named_of-push done s) (seats_read targets (done ++ s ∷ []) ds))
+    (λ s. rw (named_of-push done s) (drafts_read targets (done ++ s ∷ []) ds))
 
-pub seats_in_order : SeatsInOrder
-seats_in_order targets items r =
-    rw (seats_read targets []) (named_in_order (seat_after targets) (list_of items) r)
+pub drafts_in_order : DraftsInOrder
+drafts_in_order targets items r =
+    rw (drafts_read targets []) (named_in_order (draft_after targets) (list_of items) r)
 
 -- the second of two equal entries has a name that was there
 same_entry_twice : entries_of [] (item receive_table (item receive_table no_items)) ≡ Err SameName
-unfolding entry_from keyed allow_of form_named
+unfolding entry_from check_keys allow_of form_named
 same_entry_twice = refl
 
 pub some_lists_in_order : SomeListsInOrder

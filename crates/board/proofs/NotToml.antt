@@ -14,13 +14,13 @@ use Rattle.board.specs.declared.fault.BoardFault.TheVariants.{SelfNeed, BadRail,
 use Rattle.board.specs.declared.targets.Numbers.{Numbers}
 use Rattle.board.specs.Boards.{Allow, Target, Rail, Board}
 use Rattle.std.specs.Result.{IsErrAnd}
-use Rattle.board.specs.Keys.{Key, keyed}
+use Rattle.board.specs.Keys.{Key, check_keys}
 use Rattle.board.specs.Named.{Named, with_item}
 use Rattle.board.specs.Entries.{command_at, command_for, allow_of, entry_from, entries_of}
 use Rattle.board.specs.Targets.{new_name, new_address, numbers_of, bytes_of, start_pages_of}
 use Rattle.board.specs.Targets.{start_protects_of, target_with, target_from, targets_of}
-use Rattle.board.specs.Rails.{Seat, seat_from, seats_of, need_of, needs_of, rails_of, rail_with}
-use Rattle.board.specs.Files.{counted, board_of}
+use Rattle.board.specs.Rails.{RailDraft, draft_from, drafts_of, need_of, needs_of, rails_of, rail_with}
+use Rattle.board.specs.Files.{check_size, board_of}
 
 pub record NotToml {A : Type 0} (r : Result A BoardFault) : Type 0 where
   pub differs : r ≢ Err Toml
@@ -83,9 +83,9 @@ bad_rail e = cc
 bad_key : BadKey ≢ Toml
 bad_key e = cc
 
-keyed_not : (needed optional : List Key) (ms : Members) → NotToml (keyed needed optional ms)
-unfolding keyed
-keyed_not needed optional ms = search (rules, then, if, bad_key, missing_key)
+keys_not : (needed optional : List Key) (ms : Members) → NotToml (check_keys needed optional ms)
+unfolding check_keys
+keys_not needed optional ms = search (rules, then, if, bad_key, missing_key)
 
 command_not : (f : Form) (ms : Members) → NotToml (command_for f ms)
 command_not f ms = by (carries_code f)
@@ -102,7 +102,7 @@ allow_not f command ms = search (rules, then, ok, or, bad_range)
 entry_not : (done : List Allow) (ms : Members) → NotToml (entry_from done ms)
 unfolding entry_from
 entry_not done ms =
-    search (rules, then, ok, or, if, keyed_not, command_not, allow_not, unknown_command, same_name)
+    search (rules, then, ok, or, if, keys_not, command_not, allow_not, unknown_command, same_name)
 
 entries_not : (done : List Allow) (ds : Items) → NotToml (entries_of done ds)
 entries_not done no_items = ok done
@@ -147,7 +147,7 @@ rest_not address numbers ms =
 target_not : (done : Named Target) (ms : Members) → NotToml (target_from done ms)
 unfolding target_from
 target_not done ms =
-    search (rules, then, ok, or, if, keyed_not, name_not, address_not, numbers_not, rest_not)
+    search (rules, then, ok, or, if, keys_not, name_not, address_not, numbers_not, rest_not)
 
 targets_not : (done : Named Target) (ds : Items) → NotToml (targets_of done ds)
 targets_not done no_items = ok done
@@ -156,19 +156,19 @@ targets_not done (item d ds) =
     targets_not (with_item x.0 x.1 done) ds in
     search (rules, then, or, bad_key, target_not, more)
 
-seat_not : (targets : Named Target) (done : Named Seat) (ms : Members)
-    → NotToml (seat_from targets done ms)
-unfolding seat_from
-seat_not targets done ms =
-    search (rules, then, ok, or, if, keyed_not, name_not, bad_rail, bad_range)
+draft_not : (targets : Named Target) (done : Named RailDraft) (ms : Members)
+    → NotToml (draft_from targets done ms)
+unfolding draft_from
+draft_not targets done ms =
+    search (rules, then, ok, or, if, keys_not, name_not, bad_rail, bad_range)
 
-seats_not : (targets : Named Target) (done : Named Seat) (ds : Items)
-    → NotToml (seats_of targets done ds)
-seats_not targets done no_items = ok done
-seats_not targets done (item d ds) =
-    let more : (x : List ℕ × Seat) → NotToml (seats_of targets (with_item x.0 x.1 done) ds) = λ x.
-    seats_not targets (with_item x.0 x.1 done) ds in
-    search (rules, then, or, bad_key, seat_not, more)
+drafts_not : (targets : Named Target) (done : Named RailDraft) (ds : Items)
+    → NotToml (drafts_of targets done ds)
+drafts_not targets done no_items = ok done
+drafts_not targets done (item d ds) =
+    let more : (x : List ℕ × RailDraft) → NotToml (drafts_of targets (with_item x.0 x.1 done) ds) = λ x.
+    drafts_not targets (with_item x.0 x.1 done) ds in
+    search (rules, then, or, bad_key, draft_not, more)
 
 need_not : (names : List (List ℕ)) (rail : ℕ) (d : Data) → NotToml (need_of names rail d)
 unfolding need_of
@@ -182,21 +182,21 @@ needs_not names rail done (item d ds) =
     needs_not names rail (done ++ x ∷ []) ds in
     search (rules, then, need_not, more)
 
-rails_not : (names : List (List ℕ)) (done : List Rail) (seats : List Seat)
-    → NotToml (rails_of names done seats)
+rails_not : (names : List (List ℕ)) (done : List Rail) (drafts : List RailDraft)
+    → NotToml (rails_of names done drafts)
 rails_not names done [] = ok done
-rails_not names done (s ∷ seats) =
-    let more : (x : List ℕ) → NotToml (rails_of names (done ++ rail_with s x ∷ []) seats) = λ x.
-    rails_not names (done ++ rail_with s x ∷ []) seats in
+rails_not names done (s ∷ drafts) =
+    let more : (x : List ℕ) → NotToml (rails_of names (done ++ rail_with s x ∷ []) drafts) = λ x.
+    rails_not names (done ++ rail_with s x ∷ []) drafts in
     search (rules, then, needs_not, more)
 
-counted_not : (ms : Members) → NotToml (counted ms)
-unfolding counted
-counted_not ms = search (rules, then, if, keyed_not, missing_key, too_many)
+size_not : (ms : Members) → NotToml (check_size ms)
+unfolding check_size
+size_not ms = search (rules, then, if, keys_not, missing_key, too_many)
 
 board_not : (ms : Members) → NotToml (board_of ms)
 unfolding board_of
-board_not ms = search (rules, then, ok, counted_not, targets_not, seats_not, rails_not)
+board_not ms = search (rules, then, ok, size_not, targets_not, drafts_not, rails_not)
 
 -- an error that was passed on, of what was read of a tree, isn't Toml
 pub passed_on : (result : Result Board BoardFault) (d : BoardFault) (ms : Members)

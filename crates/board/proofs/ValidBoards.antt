@@ -10,16 +10,16 @@ use Rattle.texts.specs.Reading.{value_if}
 use Rattle.board.specs.declared.fault.BoardFault.TheVariants.{MissingKey, TooMany}
 use Rattle.board.specs.Boards.{Target, Rail, Board}
 use Rattle.board.specs.Fields.{items_at}
-use Rattle.board.specs.Named.{Named, none}
+use Rattle.board.specs.Named.{Named, no_named}
 use Rattle.board.specs.Targets.{targets_of}
-use Rattle.board.specs.Rails.{Seat, seats_of, rails_of}
-use Rattle.board.specs.Files.{item_count, top_keyed, counted, board_from, board_of}
+use Rattle.board.specs.Rails.{RailDraft, drafts_of, rails_of}
+use Rattle.board.specs.Files.{item_count, check_top_keys, check_size, board_from, board_of}
 use Rattle.board.specs.Valid.{IsBoard, IsRail, DifferInPage}
 use Rattle.board.proofs.Steps.{bind_ok, if_ok, ok_is}
 use Rattle.board.proofs.Apart.{All-unmap, AllPairs-unmap}
 use Rattle.board.proofs.ValidTargetLists.{AreTargets, no_targets, targets_valid, targets_count}
-use Rattle.board.proofs.ValidRails.{IsPlaced, AreSeats, no_seats, without_needs, seats_valid}
-use Rattle.board.proofs.ValidRails.{seats_count}
+use Rattle.board.proofs.ValidRails.{IsPlaced, AreDrafts, no_drafts, without_needs, drafts_valid}
+use Rattle.board.proofs.ValidRails.{drafts_count}
 use Rattle.board.proofs.ValidNeeds.{HaveNeeds, no_rails, bare, rails_ok, rails_bare, rails_count}
 
 record AreFew (k : Members) : Type 0 where
@@ -27,10 +27,10 @@ record AreFew (k : Members) : Type 0 where
   pub few_targets : item_count (items_at (codes "target") k) ≤ 16
   pub few_rails : item_count (items_at (codes "rail") k) ≤ 64
 
-counted_ok : (ms k : Members) → counted ms ≡ Ok k → AreFew k
-unfolding counted
-counted_ok ms k e =
-    let a = bind_ok (top_keyed ms) _ k e in
+size_ok : (ms k : Members) → check_size ms ≡ Ok k → AreFew k
+unfolding check_size
+size_ok ms k e =
+    let a = bind_ok (check_top_keys ms) _ k e in
     let b =
     bind_ok (value_if MissingKey (nat_lt 0 (item_count (items_at (codes "target") a.0))) a.0) _ k
     a.2 in
@@ -51,35 +51,35 @@ counted_ok ms k e =
     }
 
 -- a board of valid targets and rails
-record AreParts (targets : Named Target) (seats : Named Seat) (rails : List Rail) : Type 0 where
+record AreParts (targets : Named Target) (drafts : Named RailDraft) (rails : List Rail) : Type 0 where
   pub good_targets : AreTargets targets
   pub one_target : 1 ≤ length targets.items
   pub few_targets : length targets.items ≤ 16
-  pub good_seats : AreSeats targets.items seats
-  pub few_rails : length seats.items ≤ 64
-  pub count : length rails ≡ length seats.items
-  pub same : map bare rails ≡ map without_needs seats.items
-  pub needs : HaveNeeds (length seats.names) rails
+  pub good_drafts : AreDrafts targets.items drafts
+  pub few_rails : length drafts.items ≤ 64
+  pub count : length rails ≡ length drafts.items
+  pub same : map bare rails ≡ map without_needs drafts.items
+  pub needs : HaveNeeds (length drafts.names) rails
 
-module _ (targets : Named Target) (seats : Named Seat) (rails : List Rail)
-    (p : AreParts targets seats rails) where
+module _ (targets : Named Target) (drafts : Named RailDraft) (rails : List Rail)
+    (p : AreParts targets drafts rails) where
   abbrev whole : Board
-  whole = board_from targets (record { names = seats.names; items = rails })
+  whole = board_from targets (record { names = drafts.names; items = rails })
 
   placed : All (λ r. IsPlaced targets.items (bare r)) rails
   placed =
       All-unmap (IsPlaced targets.items) bare rails
-      (subst (All (IsPlaced targets.items)) (sym p.same) p.good_seats.placed)
+      (subst (All (IsPlaced targets.items)) (sym p.same) p.good_drafts.placed)
 
   apart : AllPairs (λ r s. DifferInPage (bare r) (bare s)) rails
   apart =
       AllPairs-unmap DifferInPage bare rails
-      (subst (AllPairs DifferInPage) (sym p.same) p.good_seats.apart)
+      (subst (AllPairs DifferInPage) (sym p.same) p.good_drafts.apart)
 
   needed : (d : ℕ) (r : Rail) → slice_get rails d ≡ Some r → All (λ n. n < length rails) r.needs
   needed d r e i x h =
       let n = (p.needs.at d r e i x h).there in
-      omega (arith, n, p.count, p.good_seats.named.lengths)
+      omega (arith, n, p.count, p.good_drafts.named.lengths)
 
   rail : All (IsRail whole) rails
   rail k d h =
@@ -102,31 +102,31 @@ module _ (targets : Named Target) (seats : Named Seat) (rails : List Rail)
     one_rail = apart;
     no_self_need = λ d r e i x h. (p.needs.at d r e i x h).other;
     target_names = p.good_targets.named.lengths;
-    rail_names = omega (arith, p.count, p.good_seats.named.lengths);
+    rail_names = omega (arith, p.count, p.good_drafts.named.lengths);
     good_target_names = p.good_targets.named.good;
-    good_rail_names = p.good_seats.named.good;
+    good_rail_names = p.good_drafts.named.good;
     apart_target_names = p.good_targets.named.names;
-    apart_rail_names = p.good_seats.named.names;
+    apart_rail_names = p.good_drafts.named.names;
   }
 
 pub board_valid : (ms : Members) (b : Board) → board_of ms ≡ Ok b → IsBoard b
 unfolding board_of
 board_valid ms b e =
-    let k = bind_ok (counted ms) _ b e in
-    let t = bind_ok (targets_of none (items_at (codes "target") k.0)) _ b k.2 in
-    let s = bind_ok (seats_of t.0 none (items_at (codes "rail") k.0)) _ b t.2 in
+    let k = bind_ok (check_size ms) _ b e in
+    let t = bind_ok (targets_of no_named (items_at (codes "target") k.0)) _ b k.2 in
+    let s = bind_ok (drafts_of t.0 no_named (items_at (codes "rail") k.0)) _ b t.2 in
     let r = bind_ok (rails_of s.0.names [] s.0.items) _ b s.2 in
-    let few = counted_ok ms k.0 k.1 in
-    let targets = targets_count none (items_at (codes "target") k.0) t.0 t.1 in
-    let seats = seats_count t.0 none (items_at (codes "rail") k.0) s.0 s.1 in
+    let few = size_ok ms k.0 k.1 in
+    let targets = targets_count no_named (items_at (codes "target") k.0) t.0 t.1 in
+    let drafts = drafts_count t.0 no_named (items_at (codes "rail") k.0) s.0 s.1 in
     let rails = rails_count s.0.names [] s.0.items r.0 r.1 in
     let made : Board = board_from t.0 (record { names = s.0.names; items = r.0 }) in
     subst IsBoard (ok_is made b r.2) (parts_valid t.0 s.0 r.0 (record {
-      good_targets = targets_valid none (items_at (codes "target") k.0) t.0 t.1 no_targets;
+      good_targets = targets_valid no_named (items_at (codes "target") k.0) t.0 t.1 no_targets;
       one_target = omega (arith, few.one_target, targets);
       few_targets = omega (arith, few.few_targets, targets);
-      good_seats = seats_valid t.0 none (items_at (codes "rail") k.0) s.0 s.1 (no_seats t.0.items);
-      few_rails = omega (arith, few.few_rails, seats);
+      good_drafts = drafts_valid t.0 no_named (items_at (codes "rail") k.0) s.0 s.1 (no_drafts t.0.items);
+      few_rails = omega (arith, few.few_rails, drafts);
       count = omega (arith, rails);
       same = rails_bare s.0.names [] s.0.items r.0 r.1;
       needs = rails_ok s.0.names [] s.0.items r.0 r.1 (no_rails (length s.0.names));

@@ -14,8 +14,8 @@ use Rattle.pmbus_table.specs.Forms.{form_number}
 use Rattle.board.specs.declared.fault.BoardFault.TheVariants.{SameName, BadRange, UnknownCommand}
 use Rattle.board.specs.declared.fault.BoardFault.TheVariants.{BadKey}
 use Rattle.board.specs.Boards.{Allow, code_in, is_for, has_entry}
-use Rattle.board.specs.Keys.{keyed}
-use Rattle.board.specs.Entries.{entry_keyed, needed_by, optional_for, form_at, command_for}
+use Rattle.board.specs.Keys.{check_keys}
+use Rattle.board.specs.Entries.{check_entry_keys, needed_by, optional_for, form_at, command_for}
 use Rattle.board.specs.Entries.{range_at, allow_of, entry_from, entries_of}
 use Rattle.board.specs.Valid.{full_values, full_length, has_words, IsEntry, DifferInUse}
 use Rattle.board.proofs.Steps.{bind_ok, some_ok, if_ok, ok_is, not_false}
@@ -36,9 +36,9 @@ entry_valid : (done : List Allow) (ms : Members) (a : Allow) → entry_from done
     → IsNext done a
 unfolding entry_from allow_of
 entry_valid done ms a e =
-    let k = bind_ok (entry_keyed ms) _ a e in
+    let k = bind_ok (check_entry_keys ms) _ a e in
     let f = bind_ok (some_or UnknownCommand (form_at k.0)) _ a k.2 in
-    let m = bind_ok (keyed (needed_by f.0) (optional_for f.0) k.0) _ a f.2 in
+    let m = bind_ok (check_keys (needed_by f.0) (optional_for f.0) k.0) _ a f.2 in
     let c = bind_ok (command_for f.0 m.0) _ a m.2 in
     let n = bind_ok (value_if SameName (not (has_entry f.0 (unwrap_or c.0 0) done)) c.0) _ a c.2 in
     let v = bind_ok (some_or BadRange (range_at (full_values f.0) (codes "values") m.0)) _ a n.2 in

@@ -9,21 +9,21 @@ use Rattle.texts.specs.Names.{is_name}
 use Rattle.texts.specs.Reading.{some_or, value_if}
 use Rattle.board.specs.declared.fault.BoardFault.TheVariants.{MissingKey, SameName, BadKey}
 use Rattle.board.specs.declared.keys.Kind.TheVariants as kind
-use Rattle.board.specs.Keys.{Key, all_known, is_good_at, is_of, keyed}
+use Rattle.board.specs.Keys.{Key, all_known, is_good_at, is_of, check_keys}
 use Rattle.board.specs.Fields.{text_at}
 use Rattle.board.specs.Named.{is_named}
 use Rattle.board.specs.Targets.{new_name}
 use Rattle.board.proofs.Steps.{bind_ok, some_ok, if_ok, not_false}
 
 -- the table is the one that was given, and its needed keys are good
-pub record IsKeyed (needed : List Key) (ms k : Members) : Type 0 where
+pub record HasKeys (needed : List Key) (ms k : Members) : Type 0 where
   pub same : ms ≡ k
   pub good : list_all (is_good_at k) needed ≡ true
 
-pub keyed_ok : (needed optional : List Key) (ms k : Members) → keyed needed optional ms ≡ Ok k
-    → IsKeyed needed ms k
-unfolding keyed
-keyed_ok needed optional ms k e =
+pub keys_ok : (needed optional : List Key) (ms k : Members) → check_keys needed optional ms ≡ Ok k
+    → HasKeys needed ms k
+unfolding check_keys
+keys_ok needed optional ms k e =
     let a = bind_ok (value_if BadKey (all_known needed optional ms) ms) _ k e in
     let b = bind_ok (value_if BadKey (list_all (is_good_at a.0) needed) a.0) _ k a.2 in
     let c = bind_ok (value_if BadKey (list_all (is_good_at b.0) optional) b.0) _ k b.2 in
@@ -51,10 +51,10 @@ name_of_data (Some d) n g e = name_of_text (as_str d) n g e
 
 -- where a name is needed, what stands there is a good one
 pub good_name : (rest optional : List Key) (ms k : Members) (n : List ℕ)
-    → keyed ((codes "name", kind.Name) ∷ rest) optional ms ≡ Ok k
+    → check_keys ((codes "name", kind.Name) ∷ rest) optional ms ≡ Ok k
     → text_at (codes "name") k ≡ Some n → is_name n ≡ true
 good_name rest optional ms k n e t =
-    let ok = keyed_ok ((codes "name", kind.Name) ∷ rest) optional ms k e in
+    let ok = keys_ok ((codes "name", kind.Name) ∷ rest) optional ms k e in
     let first =
     and_parts (is_good_at k (codes "name", kind.Name)) (list_all (is_good_at k) rest) ok.good in
     name_of_data (get_member (codes "name") k) n first.0 t

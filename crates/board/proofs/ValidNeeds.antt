@@ -12,7 +12,7 @@ use Rattle.toml.specs.Data.{Data, Items, no_items, item, as_str}
 use Rattle.texts.specs.Reading.{some_or}
 use Rattle.board.specs.declared.fault.BoardFault.TheVariants.{UnknownNeed, SelfNeed}
 use Rattle.board.specs.Boards.{Rail, place_of_name}
-use Rattle.board.specs.Rails.{Seat, need_of, needs_of, rails_of, rail_with}
+use Rattle.board.specs.Rails.{RailDraft, need_of, needs_of, rails_of, rail_with}
 use Rattle.board.proofs.Steps.{bind_ok, some_ok, if_ok, ok_is, not_false}
 use Rattle.board.proofs.Lists.{map-push}
 use Rattle.board.proofs.Apart.{push_cases}
@@ -72,37 +72,37 @@ more_rails count rails r a n = record {
   ];
 }
 
-pub rails_ok : (names : List (List ℕ)) (done : List Rail) (seats : List Seat) (rails : List Rail)
-    → rails_of names done seats ≡ Ok rails → HaveNeeds (length names) done
+pub rails_ok : (names : List (List ℕ)) (done : List Rail) (drafts : List RailDraft) (rails : List Rail)
+    → rails_of names done drafts ≡ Ok rails → HaveNeeds (length names) done
     → HaveNeeds (length names) rails
 rails_ok names done [] rails e a = subst (HaveNeeds (length names)) (ok_is done rails e) a
-rails_ok names done (s ∷ seats) rails e a =
+rails_ok names done (s ∷ drafts) rails e a =
     let n = bind_ok (needs_of names (length done) [] s.needs) _ rails e in
     let needs = needs_ok names (length done) [] s.needs n.0 n.1
     (all_none (IsNeed (length names) (length done))) in
-    rails_ok names (done ++ rail_with s n.0 ∷ []) seats rails n.2
+    rails_ok names (done ++ rail_with s n.0 ∷ []) drafts rails n.2
     (more_rails (length names) done (rail_with s n.0) a needs)
 
 -- all else of a rail is as it was read before
 abbrev pub bare : Rail → Rail
 bare r = record { target = r.target; page = r.page; limit_uv = r.limit_uv; needs = [] }
 
-pub rails_bare : (names : List (List ℕ)) (done : List Rail) (seats : List Seat) (rails : List Rail)
-    → rails_of names done seats ≡ Ok rails
-    → map bare rails ≡ map bare done ++ map without_needs seats
+pub rails_bare : (names : List (List ℕ)) (done : List Rail) (drafts : List RailDraft) (rails : List Rail)
+    → rails_of names done drafts ≡ Ok rails
+    → map bare rails ≡ map bare done ++ map without_needs drafts
 rails_bare names done [] rails e = rw (append-nil, ok_is done rails e)
-rails_bare names done (s ∷ seats) rails e =
+rails_bare names done (s ∷ drafts) rails e =
     let n = bind_ok (needs_of names (length done) [] s.needs) _ rails e in
-    rails_bare names (done ++ rail_with s n.0 ∷ []) seats rails n.2
-    ∙ ap (λ (xs : List Rail). xs ++ map without_needs seats) (map-push bare done (rail_with s n.0))
-    ∙ append_assoc (map bare done) (without_needs s ∷ []) (map without_needs seats)
+    rails_bare names (done ++ rail_with s n.0 ∷ []) drafts rails n.2
+    ∙ ap (λ (xs : List Rail). xs ++ map without_needs drafts) (map-push bare done (rail_with s n.0))
+    ∙ append_assoc (map bare done) (without_needs s ∷ []) (map without_needs drafts)
 
-pub rails_count : (names : List (List ℕ)) (done : List Rail) (seats : List Seat) (rails : List Rail)
-    → rails_of names done seats ≡ Ok rails → length rails ≡ length done + length seats
+pub rails_count : (names : List (List ℕ)) (done : List Rail) (drafts : List RailDraft) (rails : List Rail)
+    → rails_of names done drafts ≡ Ok rails → length rails ≡ length done + length drafts
 rails_count names done [] rails e =
     let same = ap (λ (x : List Rail). length x) (ok_is done rails e) in
     omega (arith, same)
-rails_count names done (s ∷ seats) rails e =
+rails_count names done (s ∷ drafts) rails e =
     let n = bind_ok (needs_of names (length done) [] s.needs) _ rails e in
-    let rest = rails_count names (done ++ rail_with s n.0 ∷ []) seats rails n.2 in
+    let rest = rails_count names (done ++ rail_with s n.0 ∷ []) drafts rails n.2 in
     omega (arith, rest, length_push done (rail_with s n.0))

@@ -13,10 +13,10 @@ use Rattle.texts.specs.Reading.{some_or, value_if}
 use Rattle.board.specs.declared.fault.BoardFault.TheVariants.{BadRail, BadRange, BadKey}
 use Rattle.board.specs.Boards.{Target, Rail}
 use Rattle.board.specs.Fields.{number_at, items_at}
-use Rattle.board.specs.Named.{Named, is_named, none, with_item}
+use Rattle.board.specs.Named.{Named, is_named, no_named, with_item}
 use Rattle.board.specs.Targets.{new_name}
-use Rattle.board.specs.Rails.{Seat, rail_keyed, target_at, page_of, page_at, has_page, seat_from}
-use Rattle.board.specs.Rails.{seats_of, rail_with}
+use Rattle.board.specs.Rails.{RailDraft, check_rail_keys, target_at, page_of, page_at, has_page, draft_from}
+use Rattle.board.specs.Rails.{drafts_of, rail_with}
 use Rattle.board.specs.Files.{item_count}
 use Rattle.board.specs.Valid.{DifferInPage}
 use Rattle.board.proofs.Steps.{bind_ok, some_ok, if_ok, ok_is, not_false, chosen_some}
@@ -33,7 +33,7 @@ pub record IsPlaced (targets : List Target) (r : Rail) : Type 0 where
   pub least_limit : 1 ≤ r.limit_uv
   pub most_limit : r.limit_uv ≤ 4294967295
 
-abbrev pub without_needs : Seat → Rail
+abbrev pub without_needs : RailDraft → Rail
 without_needs s = rail_with s []
 
 page_below : (ms : Members) (t : Target) (p : ℕ) → page_of ms t ≡ Some p → p < t.pages
@@ -57,18 +57,18 @@ page_there targets place ms p e = by (slice_get targets place) refl e
     by (Some t) s e = (t, s, page_below ms t p e)
 
 -- a rail after those before it
-record IsNextSeat (targets : List Target) (done : Named Seat) (name : List ℕ)
-    (s : Seat) : Type 0 where
+record IsNextDraft (targets : List Target) (done : Named RailDraft) (name : List ℕ)
+    (s : RailDraft) : Type 0 where
   pub placed : IsPlaced targets (without_needs s)
   pub good : is_name name ≡ true
   pub new : is_named name done.names ≡ false
   pub free : has_page s.target s.page done.items ≡ false
 
-seat_ok : (targets : Named Target) (done : Named Seat) (ms : Members) (x : List ℕ × Seat)
-    → seat_from targets done ms ≡ Ok x → IsNextSeat targets.items done x.0 x.1
-unfolding seat_from
-seat_ok targets done ms x e =
-    let k = bind_ok (rail_keyed ms) _ x e in
+draft_ok : (targets : Named Target) (done : Named RailDraft) (ms : Members) (x : List ℕ × RailDraft)
+    → draft_from targets done ms ≡ Ok x → IsNextDraft targets.items done x.0 x.1
+unfolding draft_from
+draft_ok targets done ms x e =
+    let k = bind_ok (check_rail_keys ms) _ x e in
     let n = bind_ok (new_name done.names k.0) _ x k.2 in
     let t = bind_ok (some_or BadRail (target_at targets.names k.0)) _ x n.2 in
     let p = bind_ok (some_or BadRail (page_at targets.items t.0 k.0)) _ x t.2 in
@@ -78,13 +78,13 @@ seat_ok targets done ms x e =
     let page = page_there targets.items t.0 k.0 p.0 (some_ok BadRail _ p.0 p.1) in
     let free = if_ok BadRail _ p.0 f.0 f.1 in
     let limit = at_bounds 1 4294967295 (codes "limit_uv") k.0 l.0 (some_ok BadRange _ l.0 l.1) in
-    let made : Seat = record {
+    let made : RailDraft = record {
       target = t.0;
       page = f.0;
       limit_uv = l.0;
       needs = items_at (codes "needs") k.0;
     } in
-    subst (λ y. IsNextSeat targets.items done y.0 y.1) (ok_is (n.0, made) x l.2) (record {
+    subst (λ y. IsNextDraft targets.items done y.0 y.1) (ok_is (n.0, made) x l.2) (record {
       placed = record {
         on_page = (page.0, page.1, rw (← free.1) page.2);
         least_limit = limit.0;
@@ -95,13 +95,13 @@ seat_ok targets done ms x e =
       free = rw (← free.1) (not_false (has_page t.0 p.0 done.items) free.0);
     })
 
-pub record AreSeats (targets : List Target) (n : Named Seat) : Type 0 where
+pub record AreDrafts (targets : List Target) (n : Named RailDraft) : Type 0 where
   pub named : AreNamed n
   pub placed : All (IsPlaced targets) (map without_needs n.items)
   pub apart : AllPairs DifferInPage (map without_needs n.items)
 
-pub no_seats : (targets : List Target) → AreSeats targets none
-no_seats targets = record {
+pub no_drafts : (targets : List Target) → AreDrafts targets no_named
+no_drafts targets = record {
   named = none_named;
   placed = all_none (IsPlaced targets);
   apart = no_pairs DifferInPage;
@@ -110,22 +110,22 @@ no_seats targets = record {
 both_true : (b c : Bool) → b ≡ true → c ≡ true → (b && c) ≡ true
 both_true b c e f = cc
 
-pages_differ : (seats : List Seat) (s : Seat) → has_page s.target s.page seats ≡ false
-    → (k : ℕ) (d : Rail) → k < length (map without_needs seats)
-    → DifferInPage (get_or (map without_needs seats) k d) (without_needs s)
-pages_differ seats s e k d h t p =
+pages_differ : (drafts : List RailDraft) (s : RailDraft) → has_page s.target s.page drafts ≡ false
+    → (k : ℕ) (d : Rail) → k < length (map without_needs drafts)
+    → DifferInPage (get_or (map without_needs drafts) k d) (without_needs s)
+pages_differ drafts s e k d h t p =
     let test : Rail → Bool = λ r. eqb r.target s.target && eqb r.page s.page in
-    let none : list_any test (map without_needs seats) ≡ false =
-    list_any-map test without_needs seats ∙ e in
-    let no = fails_at test (map without_needs seats) k d none h in
-    let r : Rail = get_or (map without_needs seats) k d in
+    let none : list_any test (map without_needs drafts) ≡ false =
+    list_any-map test without_needs drafts ∙ e in
+    let no = fails_at test (map without_needs drafts) k d none h in
+    let r : Rail = get_or (map without_needs drafts) k d in
     let taken = both_true (eqb r.target s.target) (eqb r.page s.page) (eq-eqb r.target s.target t)
     (eq-eqb r.page s.page p) in
     cc
 
-more_seats : (targets : List Target) (n : Named Seat) (name : List ℕ) (s : Seat)
-    → AreSeats targets n → IsNextSeat targets n name s → AreSeats targets (with_item name s n)
-more_seats targets n name s a x = record {
+more_drafts : (targets : List Target) (n : Named RailDraft) (name : List ℕ) (s : RailDraft)
+    → AreDrafts targets n → IsNextDraft targets n name s → AreDrafts targets (with_item name s n)
+more_drafts targets n name s a x = record {
   named = more_named n name s a.named x.good x.new;
   placed =
       rw (map-push without_needs n.items s)
@@ -135,22 +135,22 @@ more_seats targets n name s a x = record {
       (without_needs s) a.apart (pages_differ n.items s x.free));
 }
 
-pub seats_valid : (targets : Named Target) (done : Named Seat) (ds : Items) (n : Named Seat)
-    → seats_of targets done ds ≡ Ok n → AreSeats targets.items done → AreSeats targets.items n
-seats_valid targets done no_items n e a = subst (AreSeats targets.items) (ok_is done n e) a
-seats_valid targets done (item d ds) n e a =
+pub drafts_valid : (targets : Named Target) (done : Named RailDraft) (ds : Items) (n : Named RailDraft)
+    → drafts_of targets done ds ≡ Ok n → AreDrafts targets.items done → AreDrafts targets.items n
+drafts_valid targets done no_items n e a = subst (AreDrafts targets.items) (ok_is done n e) a
+drafts_valid targets done (item d ds) n e a =
     let m = bind_ok (some_or BadKey (as_table d)) _ n e in
-    let s = bind_ok (seat_from targets done m.0) _ n m.2 in
-    seats_valid targets (with_item s.0.0 s.0.1 done) ds n s.2
-    (more_seats targets.items done s.0.0 s.0.1 a (seat_ok targets done m.0 s.0 s.1))
+    let s = bind_ok (draft_from targets done m.0) _ n m.2 in
+    drafts_valid targets (with_item s.0.0 s.0.1 done) ds n s.2
+    (more_drafts targets.items done s.0.0 s.0.1 a (draft_ok targets done m.0 s.0 s.1))
 
-pub seats_count : (targets : Named Target) (done : Named Seat) (ds : Items) (n : Named Seat)
-    → seats_of targets done ds ≡ Ok n → length n.items ≡ length done.items + item_count ds
-seats_count targets done no_items n e =
-    let same = ap (λ (x : Named Seat). length x.items) (ok_is done n e) in
+pub drafts_count : (targets : Named Target) (done : Named RailDraft) (ds : Items) (n : Named RailDraft)
+    → drafts_of targets done ds ≡ Ok n → length n.items ≡ length done.items + item_count ds
+drafts_count targets done no_items n e =
+    let same = ap (λ (x : Named RailDraft). length x.items) (ok_is done n e) in
     omega (arith, same)
-seats_count targets done (item d ds) n e =
+drafts_count targets done (item d ds) n e =
     let m = bind_ok (some_or BadKey (as_table d)) _ n e in
-    let s = bind_ok (seat_from targets done m.0) _ n m.2 in
-    let rest = seats_count targets (with_item s.0.0 s.0.1 done) ds n s.2 in
+    let s = bind_ok (draft_from targets done m.0) _ n m.2 in
+    let rest = drafts_count targets (with_item s.0.0 s.0.1 done) ds n s.2 in
     omega (arith, rest, length_push done.items s.0.1)

@@ -11,7 +11,7 @@ use Rattle.texts.specs.Names.{is_name}
 use Rattle.texts.specs.Reading.{some_or}
 use Rattle.board.specs.declared.fault.BoardFault.TheVariants.{BadKey}
 use Rattle.board.specs.Boards.{Target}
-use Rattle.board.specs.Named.{Named, is_named, none, with_item}
+use Rattle.board.specs.Named.{Named, is_named, no_named, with_item}
 use Rattle.board.specs.Targets.{has_address, target_from, targets_of}
 use Rattle.board.specs.Files.{item_count}
 use Rattle.board.specs.Valid.{IsTarget}
@@ -28,7 +28,7 @@ pub record AreNamed {A : Type 0} (n : Named A) : Type 0 where
 pub no_pairs : {X : Type 0} (R : X → X → Type 0) → AllPairs R []
 no_pairs R i j d a b = absurd (omega arith)
 
-pub none_named : {A : Type 0} → AreNamed {A = A} none
+pub none_named : {A : Type 0} → AreNamed {A = A} no_named
 none_named = record {
   lengths = refl;
   good = all_none (λ x. is_name x ≡ true);
@@ -48,7 +48,7 @@ pub record AreTargets (n : Named Target) : Type 0 where
   pub targets : All IsTarget n.items
   pub addresses : AllPairs (λ t u. t.address ≢ u.address) n.items
 
-pub no_targets : AreTargets none
+pub no_targets : AreTargets no_named
 no_targets = record {
   named = none_named;
   targets = all_none IsTarget;

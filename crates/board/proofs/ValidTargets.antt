@@ -18,7 +18,7 @@ use Rattle.board.specs.Boards.{Target}
 use Rattle.board.specs.Fields.{number_at, items_at}
 use Rattle.board.specs.Named.{Named, is_named}
 use Rattle.board.specs.Entries.{entries_of}
-use Rattle.board.specs.Targets.{target_keyed, new_name, address_at, has_address, new_address}
+use Rattle.board.specs.Targets.{check_target_keys, new_name, address_at, has_address, new_address}
 use Rattle.board.specs.Targets.{exponent_of, exponent_at, numbers_of, bytes_of, start_pages_of}
 use Rattle.board.specs.Targets.{start_protects_of, target_with, target_from}
 use Rattle.board.specs.Valid.{is_target_address, is_page_value, IsTarget, IsEntry, DifferInUse}
@@ -188,7 +188,7 @@ pub target_ok : (done : Named Target) (ms : Members) (x : List ℕ × Target)
     → target_from done ms ≡ Ok x → IsNextTarget done x.0 x.1
 unfolding target_from
 target_ok done ms x e =
-    let k = bind_ok (target_keyed ms) _ x e in
+    let k = bind_ok (check_target_keys ms) _ x e in
     let n = bind_ok (new_name done.names k.0) _ x k.2 in
     let a = bind_ok (new_address done.items k.0) _ x n.2 in
     let m = bind_ok (numbers_of k.0) _ x a.2 in

@@ -14,7 +14,7 @@ use Rattle.board.specs.declared.fault.BoardFault.TheVariants.{BadKey}
 use Rattle.board.specs.declared.entry.Range.{Range}
 use Rattle.board.specs.declared.keys.Sort.TheVariants as sort
 use Rattle.board.specs.declared.keys.Kind.TheVariants as kind
-use Rattle.board.specs.Keys.{Key, keyed}
+use Rattle.board.specs.Keys.{Key, check_keys}
 use Rattle.board.specs.Fields.{number_in, text_at}
 use Rattle.board.specs.Boards.{Allow, has_entry}
 use Rattle.board.specs.Valid.{full_values, full_length}
@@ -26,9 +26,9 @@ abbrev pub list_key : List ℕ → Key
 list_key name = (name, kind.List)
 
 -- an entry whose form isn't known yet
-abbrev pub entry_keyed : Members → Result Members BoardFault
-entry_keyed ms =
-    keyed (text_key (codes "form") ∷ [])
+abbrev pub check_entry_keys : Members → Result Members BoardFault
+check_entry_keys ms =
+    check_keys (text_key (codes "form") ∷ [])
     (text_key (codes "command") ∷ list_key (codes "values") ∷ list_key (codes "length") ∷ []) ms
 
 -- what an entry of a form needs
@@ -84,9 +84,9 @@ allow_of f command ms = do
 -- the entry of a table, after the entries before it
 unfoldable pub entry_from : List Allow → Members → Result Allow BoardFault
 entry_from done ms = do
-  typed ← entry_keyed ms
+  typed ← check_entry_keys ms
   f ← some_or UnknownCommand (form_at typed)
-  keys ← keyed (needed_by f) (optional_for f) typed
+  keys ← check_keys (needed_by f) (optional_for f) typed
   command ← command_for f keys
   new ← value_if SameName (not (has_entry f (unwrap_or command 0) done)) command
   allow_of f new keys

@@ -7,12 +7,12 @@ use Rattle.board.specs.declared.fault.BoardFault.{BoardFault}
 use Rattle.board.specs.declared.fault.BoardFault.TheVariants.{Toml, MissingKey, TooMany}
 use Rattle.board.specs.declared.keys.Sort.TheVariants as sort
 use Rattle.board.specs.declared.keys.Kind.TheVariants as kind
-use Rattle.board.specs.Keys.{Key, keyed}
+use Rattle.board.specs.Keys.{Key, check_keys}
 use Rattle.board.specs.Fields.{items_at}
 use Rattle.board.specs.Boards.{Target, Rail, Board}
-use Rattle.board.specs.Named.{Named, none}
+use Rattle.board.specs.Named.{Named, no_named}
 use Rattle.board.specs.Targets.{targets_of}
-use Rattle.board.specs.Rails.{seats_of, rails_of}
+use Rattle.board.specs.Rails.{drafts_of, rails_of}
 
 abbrev pub item_count : Items → ℕ
 item_count no_items = 0
@@ -21,13 +21,13 @@ item_count (item d ds) = suc (item_count ds)
 abbrev pub tables_key : List ℕ → Key
 tables_key name = (name, kind.ListOf sort.Table)
 
-abbrev pub top_keyed : Members → Result Members BoardFault
-top_keyed ms = keyed (tables_key (codes "target") ∷ []) (tables_key (codes "rail") ∷ []) ms
+abbrev pub check_top_keys : Members → Result Members BoardFault
+check_top_keys ms = check_keys (tables_key (codes "target") ∷ []) (tables_key (codes "rail") ∷ []) ms
 
 -- 1 to 16 targets, and at most 64 rails
-unfoldable pub counted : Members → Result Members BoardFault
-counted ms = do
-  keys ← top_keyed ms
+unfoldable pub check_size : Members → Result Members BoardFault
+check_size ms = do
+  keys ← check_top_keys ms
   some ← value_if MissingKey (nat_lt 0 (item_count (items_at (codes "target") keys))) keys
   few ← value_if TooMany (nat_le (item_count (items_at (codes "target") some)) 16) some
   value_if TooMany (nat_le (item_count (items_at (codes "rail") few)) 64) few
@@ -43,11 +43,11 @@ board_from targets rails = record {
 -- the top of the file, then each target, then each rail, then what each rail needs
 unfoldable pub board_of : Members → Result Board BoardFault
 board_of ms = do
-  keys ← counted ms
-  targets ← targets_of none (items_at (codes "target") keys)
-  seats ← seats_of targets none (items_at (codes "rail") keys)
-  rails ← rails_of seats.names [] seats.items
-  Ok (board_from targets (record { names = seats.names; items = rails }))
+  keys ← check_size ms
+  targets ← targets_of no_named (items_at (codes "target") keys)
+  drafts ← drafts_of targets no_named (items_at (codes "rail") keys)
+  rails ← rails_of drafts.names [] drafts.items
+  Ok (board_from targets (record { names = drafts.names; items = rails }))
 
 abbrev pub read_of : List ℕ → Result Board BoardFault
 read_of text = some_or Toml (parse_document text) >>= board_of

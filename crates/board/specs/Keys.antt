@@ -53,8 +53,8 @@ abbrev pub is_there : Members → Key → Bool
 is_there ms key = is_some (get_member key.0 ms)
 
 -- the table, where it has no key but these, each with a value of its kind, and all that it needs
-unfoldable pub keyed : List Key → List Key → Members → Result Members BoardFault
-keyed needed optional ms = do
+unfoldable pub check_keys : List Key → List Key → Members → Result Members BoardFault
+check_keys needed optional ms = do
   known ← value_if BadKey (all_known needed optional ms) ms
   good ← value_if BadKey (list_all (is_good_at known) needed) known
   kept ← value_if BadKey (list_all (is_good_at good) optional) good

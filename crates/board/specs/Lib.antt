@@ -10,7 +10,7 @@ pub mod Fields
 pub mod Entries
 pub mod Targets
 pub mod Rails
-pub mod SeatViews
+pub mod DraftViews
 pub mod Files
 pub mod InOrder
 pub mod OrderLaws

@@ -10,8 +10,8 @@ pub record Named (A : Type 0) : Type 0 where
   pub names : List (List ℕ)
   pub items : List A
 
-abbrev pub none : {A : Type 0} → Named A
-none = record { names = []; items = [] }
+abbrev pub no_named : {A : Type 0} → Named A
+no_named = record { names = []; items = [] }
 
 abbrev pub is_named : List ℕ → List (List ℕ) → Bool
 is_named name names = list_any (bytes_eq name) names

@@ -6,11 +6,11 @@ use Rattle.texts.specs.Reading.{◌>>=◌, some_or}
 use Rattle.board.specs.declared.fault.BoardFault.{BoardFault}
 use Rattle.board.specs.declared.fault.BoardFault.TheVariants.{SameName, BadStart, BadKey}
 use Rattle.board.specs.Boards.{Target, Rail, Allow}
-use Rattle.board.specs.Named.{Named, none, named_of}
+use Rattle.board.specs.Named.{Named, no_named, named_of}
 use Rattle.board.specs.Fields.{number_in}
 use Rattle.board.specs.Entries.{entry_from, entries_of}
 use Rattle.board.specs.Targets.{bytes_of, target_from, targets_of}
-use Rattle.board.specs.Rails.{Seat, seat_from, seats_of, need_of, needs_of, rail_with, rails_of}
+use Rattle.board.specs.Rails.{RailDraft, draft_from, drafts_of, need_of, needs_of, rail_with, rails_of}
 use Rattle.board.specs.InOrder.{InOrder, NamedInOrder}
 
 -- the elements of a list in a file
@@ -40,16 +40,16 @@ target_after before d = some_or BadKey (as_table d) >>= target_from (named_of be
 
 abbrev pub TargetsInOrder : Type 0
 TargetsInOrder = (items : Items) (r : Result (Named Target) BoardFault)
-    → (targets_of none items ≡ r) ↔ NamedInOrder target_after (list_of items) r
+    → (targets_of no_named items ≡ r) ↔ NamedInOrder target_after (list_of items) r
 
 -- a table's rail with its name, after those before it; its needs aren't judged yet
-abbrev pub seat_after : Named Target → List (List ℕ × Seat) → Data
-    → Result (List ℕ × Seat) BoardFault
-seat_after targets before d = some_or BadKey (as_table d) >>= seat_from targets (named_of before)
+abbrev pub draft_after : Named Target → List (List ℕ × RailDraft) → Data
+    → Result (List ℕ × RailDraft) BoardFault
+draft_after targets before d = some_or BadKey (as_table d) >>= draft_from targets (named_of before)
 
-abbrev pub SeatsInOrder : Type 0
-SeatsInOrder = (targets : Named Target) (items : Items) (r : Result (Named Seat) BoardFault)
-    → (seats_of targets none items ≡ r) ↔ NamedInOrder (seat_after targets) (list_of items) r
+abbrev pub DraftsInOrder : Type 0
+DraftsInOrder = (targets : Named Target) (items : Items) (r : Result (Named RailDraft) BoardFault)
+    → (drafts_of targets no_named items ≡ r) ↔ NamedInOrder (draft_after targets) (list_of items) r
 
 -- a need of the rail at a place, whatever stands before it
 abbrev pub need_after : List (List ℕ) → ℕ → List ℕ → Data → Result ℕ BoardFault
@@ -60,13 +60,13 @@ NeedsInOrder = (names : List (List ℕ)) (rail : ℕ) (items : Items) (r : Resul
     → (needs_of names rail [] items ≡ r) ↔ InOrder (need_after names rail) (list_of items) r
 
 -- a rail with its needs; its place is the count of those before it
-abbrev pub rail_after : List (List ℕ) → List Rail → Seat → Result Rail BoardFault
+abbrev pub rail_after : List (List ℕ) → List Rail → RailDraft → Result Rail BoardFault
 rail_after names before s = needs_of names (length before) [] s.needs >>= λ needs.
     Ok (rail_with s needs)
 
 abbrev pub RailsInOrder : Type 0
-RailsInOrder = (names : List (List ℕ)) (seats : List Seat) (r : Result (List Rail) BoardFault)
-    → (rails_of names [] seats ≡ r) ↔ InOrder (rail_after names) seats r
+RailsInOrder = (names : List (List ℕ)) (drafts : List RailDraft) (r : Result (List Rail) BoardFault)
+    → (rails_of names [] drafts ≡ r) ↔ InOrder (rail_after names) drafts r
 
 -- a table that allows the form `receive`
 abbrev pub receive_table : Data

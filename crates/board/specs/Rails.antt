@@ -11,22 +11,22 @@ use Rattle.board.specs.declared.fault.BoardFault.TheVariants.{BadRail, BadRange,
 use Rattle.board.specs.declared.fault.BoardFault.TheVariants.{SelfNeed, BadKey}
 use Rattle.board.specs.declared.keys.Sort.TheVariants as sort
 use Rattle.board.specs.declared.keys.Kind.TheVariants as kind
-use Rattle.board.specs.Keys.{keyed}
+use Rattle.board.specs.Keys.{check_keys}
 use Rattle.board.specs.Fields.{number_at, text_at, items_at}
 use Rattle.board.specs.Boards.{Target, Rail, place_of_name}
 use Rattle.board.specs.Named.{Named, with_item}
 use Rattle.board.specs.Targets.{new_name, integer_key}
 
 -- a rail whose needs aren't judged yet
-pub record Seat : Type 0 where
+pub record RailDraft : Type 0 where
   pub target : ℕ
   pub page : ℕ
   pub limit_uv : ℕ
   pub needs : Items
 
-abbrev pub rail_keyed : Members → Result Members BoardFault
-rail_keyed ms =
-    keyed
+abbrev pub check_rail_keys : Members → Result Members BoardFault
+check_rail_keys ms =
+    check_keys
     ((codes "name", kind.Name) ∷ (codes "target", kind.One sort.Text)
     ∷ integer_key (codes "page") ∷ integer_key (codes "limit_uv") ∷ [])
     ((codes "needs", kind.ListOf sort.Text) ∷ []) ms
@@ -45,13 +45,13 @@ page_of ms t =
 abbrev pub page_at : List Target → ℕ → Members → Option ℕ
 page_at targets place ms = option_and_then (page_of ms) (slice_get targets place)
 
-abbrev pub has_page : ℕ → ℕ → List Seat → Bool
-has_page target page seats = list_any (λ s. s.target == target && s.page == page) seats
+abbrev pub has_page : ℕ → ℕ → List RailDraft → Bool
+has_page target page drafts = list_any (λ s. s.target == target && s.page == page) drafts
 
 -- the rail of a table, after the rails before it
-unfoldable pub seat_from : Named Target → Named Seat → Members → Result (List ℕ × Seat) BoardFault
-seat_from targets done ms = do
-  keys ← rail_keyed ms
+unfoldable pub draft_from : Named Target → Named RailDraft → Members → Result (List ℕ × RailDraft) BoardFault
+draft_from targets done ms = do
+  keys ← check_rail_keys ms
   name ← new_name done.names keys
   target ← some_or BadRail (target_at targets.names keys)
   page ← some_or BadRail (page_at targets.items target keys)
@@ -68,12 +68,12 @@ seat_from targets done ms = do
   )
 
 -- the rails in order, after those that are done
-abbrev pub seats_of : Named Target → Named Seat → Items → Result (Named Seat) BoardFault
-seats_of targets done no_items = Ok done
-seats_of targets done (item d ds) =
+abbrev pub drafts_of : Named Target → Named RailDraft → Items → Result (Named RailDraft) BoardFault
+drafts_of targets done no_items = Ok done
+drafts_of targets done (item d ds) =
     some_or BadKey (as_table d) >>= λ ms.
-    seat_from targets done ms >>= λ s.
-    seats_of targets (with_item s.0 s.1 done) ds
+    draft_from targets done ms >>= λ s.
+    drafts_of targets (with_item s.0 s.1 done) ds
 
 -- the rail that is needed, which isn't the one that needs it
 unfoldable pub need_of : List (List ℕ) → ℕ → Data → Result ℕ BoardFault
@@ -87,13 +87,13 @@ needs_of names rail done no_items = Ok done
 needs_of names rail done (item d ds) = need_of names rail d >>= λ n.
     needs_of names rail (done ++ n ∷ []) ds
 
-abbrev pub rail_with : Seat → List ℕ → Rail
+abbrev pub rail_with : RailDraft → List ℕ → Rail
 rail_with s needs =
     record { target = s.target; page = s.page; limit_uv = s.limit_uv; needs = needs }
 
 -- the rails with their needs, after those that are done
-abbrev pub rails_of : List (List ℕ) → List Rail → List Seat → Result (List Rail) BoardFault
+abbrev pub rails_of : List (List ℕ) → List Rail → List RailDraft → Result (List Rail) BoardFault
 rails_of names done [] = Ok done
-rails_of names done (s ∷ seats) =
+rails_of names done (s ∷ drafts) =
     needs_of names (length done) [] s.needs >>= λ needs.
-    rails_of names (done ++ rail_with s needs ∷ []) seats
+    rails_of names (done ++ rail_with s needs ∷ []) drafts

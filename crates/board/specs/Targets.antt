@@ -13,7 +13,7 @@ use Rattle.board.specs.declared.fault.BoardFault.TheVariants.{BadStretch, BadSta
 use Rattle.board.specs.declared.keys.Sort.TheVariants as sort
 use Rattle.board.specs.declared.keys.Kind.TheVariants as kind
 use Rattle.board.specs.declared.targets.Numbers.{Numbers}
-use Rattle.board.specs.Keys.{Key, keyed}
+use Rattle.board.specs.Keys.{Key, check_keys}
 use Rattle.board.specs.Fields.{number_in, number_at, text_at, flag_at, items_at}
 use Rattle.board.specs.Boards.{Target}
 use Rattle.board.specs.Valid.{is_target_address, is_page_value}
@@ -26,9 +26,9 @@ integer_key name = (name, kind.One sort.Integer)
 abbrev pub integers_key : List ℕ → Key
 integers_key name = (name, kind.ListOf sort.Integer)
 
-abbrev pub target_keyed : Members → Result Members BoardFault
-target_keyed ms =
-    keyed
+abbrev pub check_target_keys : Members → Result Members BoardFault
+check_target_keys ms =
+    check_keys
     ((codes "name", kind.Name) ∷ integer_key (codes "address") ∷ integer_key (codes "pages")
     ∷ integer_key (codes "exponent") ∷ integer_key (codes "stretch")
     ∷ integers_key (codes "start_pages") ∷ integers_key (codes "start_protects") ∷ [])
@@ -107,7 +107,7 @@ target_with address numbers ms = do
 -- the target of a table, after the targets before it
 unfoldable pub target_from : Named Target → Members → Result (List ℕ × Target) BoardFault
 target_from done ms = do
-  keys ← target_keyed ms
+  keys ← check_target_keys ms
   name ← new_name done.names keys
   address ← new_address done.items keys
   numbers ← numbers_of keys

@@ -16,7 +16,7 @@ use std::hash::{Hash, Hasher};
 use std::marker::Model;
 
 /// What an entry is found by. The code is 0 where the form carries none.
-#[derive(Clone, Copy, Debug)]
+#[derive(Clone, Copy)]
 struct EntryKey {
     form: Form,
     code: u8,
@@ -75,7 +75,7 @@ impl EntryKey {
 }
 
 /// The entries in the order of the file, no two with one form and one code.
-#[derive(Debug, Drop)]
+#[derive(Drop)]
 pub(crate) struct AllowList {
     entries: Vec<Allow>,
     keys: IndexSet<EntryKey>,

@@ -6,7 +6,7 @@ ghost use Rattle.board.specs.Boards.{has_entry, IsCommandFor};
 ghost use Rattle.board.specs.Valid.{full_values};
 ghost use Rattle.board.specs.Reading.{Gives};
 ghost use Rattle.board.specs.KeyViews.{key_views};
-ghost use Rattle.board.specs.Entries.{entry_keyed, needed_by, optional_for, form_at, command_at};
+ghost use Rattle.board.specs.Entries.{check_entry_keys, needed_by, optional_for, form_at, command_at};
 ghost use Rattle.board.specs.Entries.{command_for, range_in, range_at, allow_of, entry_from};
 ghost use Rattle.board.specs.Entries.{entries_of};
 
@@ -14,7 +14,7 @@ use crate::allow_list::AllowList;
 use crate::entry::{Allow, Range};
 use crate::fault::BoardFault;
 use crate::fields::{number_in, text_at};
-use crate::keys::{Key, Kind, Sort, keyed, value_at};
+use crate::keys::{Key, Kind, Sort, check_keys, value_at};
 use pmbus_table::{Command, by_name};
 use smbus::{Form, carries_code, form_named};
 use std::alloc::Global;
@@ -32,10 +32,10 @@ const VALUES: Key = ("values", Kind::List);
 const LENGTH: Key = ("length", Kind::List);
 
 /// Refuses a table that is no entry of any form.
-fn entry_keyed(table: &Table) -> Result<(), BoardFault>
-    ensures { Gives (λ u. table_view table.now) result (entry_keyed (table_view table.now)) }
+fn check_entry_keys(table: &Table) -> Result<(), BoardFault>
+    ensures { Gives (λ u. table_view table.now) result (check_entry_keys (table_view table.now)) }
 {
-    keyed(&[FORM], &[COMMAND, VALUES, LENGTH], table)
+    check_keys(&[FORM], &[COMMAND, VALUES, LENGTH], table)
 }
 
 /// What an entry of a form needs.
@@ -158,9 +158,9 @@ fn entry_from(done: &AllowList, table: &Table) -> Result<Allow, BoardFault>
     ensures value { Gives (λ a. a) result (entry_from done.now (table_view table.now)) }
     ensures new { IfOk result (λ a. has_entry a.form a.code done.now ≡ false) }
 {
-    entry_keyed(table)?;
+    check_entry_keys(table)?;
     let form = form_at(table).ok_or(BoardFault::UnknownCommand)?;
-    keyed(needed_by(form), optional_for(form), table)?;
+    check_keys(needed_by(form), optional_for(form), table)?;
     let command = command_for(form, table)?;
     let code = code_of(&command);
     if done.has(form, code) {

@@ -13,7 +13,7 @@ pub struct Range {
 }
 
 /// An entry of an allow list: a form, its command and the ranges of its data.
-#[derive(Debug, Drop)]
+#[derive(Drop)]
 pub struct Allow {
     form: Form,
     command: Option<Command>,

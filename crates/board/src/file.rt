@@ -6,27 +6,27 @@ ghost use Rattle.toml.specs.View.{table_view};
 ghost use Rattle.board.specs.declared.fault.BoardFault.TheVariants.{Toml};
 ghost use Rattle.board.specs.Reading.{Gives};
 ghost use Rattle.board.specs.Named.{named_view};
-ghost use Rattle.board.specs.Files.{counted, board_from, board_of, read_of};
+ghost use Rattle.board.specs.Files.{check_size, board_from, board_of, read_of};
 
 use crate::board::Board;
 use crate::fault::BoardFault;
 use crate::fields::items_at;
-use crate::keys::{Kind, Sort, keyed};
+use crate::keys::{Kind, Sort, check_keys};
 use crate::named::Named;
 use crate::rail::Rail;
-use crate::rails::{rails_of, seats_of};
+use crate::rails::{drafts_of, rails_of};
 use crate::target::Target;
 use crate::targets::targets_of;
 use std::alloc::Global;
 use toml::Table;
 
 /// Refuses a file without targets, or with too many targets or rails.
-#[tactic(auto, using(crate::proofs::Counts::item_count_of), unfolding(crate::specs::Files::counted))]
-fn counted(table: &Table) -> Result<(), BoardFault>
-    ensures { Gives (λ u. table_view table.now) result (counted (table_view table.now)) }
+#[tactic(auto, using(crate::proofs::Counts::is_length), unfolding(crate::specs::Files::check_size))]
+fn check_size(table: &Table) -> Result<(), BoardFault>
+    ensures { Gives (λ u. table_view table.now) result (check_size (table_view table.now)) }
 {
     let tables = Kind::ListOf(Sort::Table);
-    keyed(&[("target", tables)], &[("rail", tables)], table)?;
+    check_keys(&[("target", tables)], &[("rail", tables)], table)?;
     let targets = items_at("target", table).len();
     if targets == 0 {
         return Err(BoardFault::MissingKey);
@@ -45,12 +45,12 @@ fn parts_of(alloc: Global, table: &Table) -> Result<(Named<Target>, Named<Rail>)
     ensures { Gives (λ p. board_from (named_view p.0) (named_view p.1)) result
         (board_of (table_view table.now)) }
 {
-    counted(table)?;
+    check_size(table)?;
     let targets = targets_of(alloc, items_at("target", table))?;
-    let seats = seats_of(alloc, &targets, items_at("rail", table))?;
-    let items = rails_of(alloc, &seats)?;
+    let drafts = drafts_of(alloc, &targets, items_at("rail", table))?;
+    let items = rails_of(alloc, &drafts)?;
     let rails = Named {
-        names: seats.names,
+        names: drafts.names,
         items,
     };
     Ok((targets, rails))

@@ -8,7 +8,7 @@ ghost use Rattle.toml.specs.Data.{get_member};
 ghost use Rattle.toml.specs.View.{view, table_view, items_view};
 ghost use Rattle.board.specs.Reading.{Gives};
 ghost use Rattle.board.specs.Keys.{all_items, is_one, is_of, is_known, all_known, is_good_at};
-ghost use Rattle.board.specs.Keys.{is_there, keyed};
+ghost use Rattle.board.specs.Keys.{is_there, check_keys};
 ghost use Rattle.board.specs.KeyViews.{key_views};
 
 use crate::fault::BoardFault;
@@ -138,10 +138,10 @@ fn are_known(needed: &[Key], optional: &[Key], table: &Table) -> bool
 
 /// Refuses a table with a key that isn't one of these, with a value of another kind than its key's,
 /// or without a key that is needed.
-#[tactic(auto, unfolding(crate::specs::Keys::keyed))]
-pub(crate) fn keyed(needed: &[Key], optional: &[Key], table: &Table) -> Result<(), BoardFault>
+#[tactic(auto, unfolding(crate::specs::Keys::check_keys))]
+pub(crate) fn check_keys(needed: &[Key], optional: &[Key], table: &Table) -> Result<(), BoardFault>
     ensures { Gives (λ u. table_view table.now) result
-        (keyed (key_views needed.now) (key_views optional.now) (table_view table.now)) }
+        (check_keys (key_views needed.now) (key_views optional.now) (table_view table.now)) }
 {
     if !all_known(needed, optional, table) {
         return Err(BoardFault::BadKey);

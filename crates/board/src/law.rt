@@ -1,5 +1,8 @@
-ghost use Rattle.board.specs.OrderLaws.{TargetsInOrder, EntriesInOrder, BytesInOrder, SeatsInOrder};
+ghost use Rattle.board.specs.OrderLaws.{TargetsInOrder, EntriesInOrder, BytesInOrder, DraftsInOrder};
 ghost use Rattle.board.specs.OrderLaws.{NeedsInOrder, RailsInOrder, SomeListsInOrder};
+ghost use Rattle.board.specs.Valid.{IsBoard};
+
+use crate::board::Board;
 
 /// Each target, entry, start value, rail and need of a file is read after those before it: what is
 /// read is all of them in order, or the fault of the first that has one.
@@ -8,9 +11,17 @@ pub fn lists_are_read_in_order()
     ensures entries { EntriesInOrder }
     ensures bytes { BytesInOrder }
     // Rails come before their needs, since a rail may need a later one.
-    ensures seats { SeatsInOrder }
+    ensures drafts { DraftsInOrder }
     ensures needs { NeedsInOrder }
     ensures rails { RailsInOrder }
     // There are lists that are read, and lists with a fault.
     ensures case { SomeListsInOrder }
 {}
+
+/// What every board keeps to: its targets, rails and names are valid ones.
+pub fn board_is_valid(board: &Board)
+    ensures { IsBoard board.now }
+{
+    // It is what a reader says of the board that it reads.
+    let _targets = board.targets();
+}

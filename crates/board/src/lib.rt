@@ -21,6 +21,6 @@ pub use board::Board;
 pub use entry::{Allow, Range};
 pub use fault::BoardFault;
 pub use file::read_board;
-pub use law::lists_are_read_in_order;
+pub use law::{board_is_valid, lists_are_read_in_order};
 pub use rail::Rail;
 pub use target::Target;

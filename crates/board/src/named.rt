@@ -3,7 +3,7 @@
 ghost use Rattle.std.specs.Prelude.{◌≡◌, ◌++◌, ◌∷◌, [], false, option_map, slice_get, OnOk, IfErr};
 ghost use Rattle.std.specs.Prelude.{string_bytes};
 ghost use Rattle.board.specs.Boards.{place_of_name};
-ghost use Rattle.board.specs.Named.{named_view, names, is_named, with_item, none};
+ghost use Rattle.board.specs.Named.{named_view, names, is_named, with_item, no_named};
 ghost use Rattle.board.specs.declared.fault.BoardFault.TheVariants.{Memory};
 
 use crate::fault::BoardFault;
@@ -20,7 +20,7 @@ pub(crate) struct Named<T> {
 
 impl<T> Named<T> {
     pub fn new(alloc: Global) -> Named<T>
-        ensures { named_view result ≡ none }
+        ensures { named_view result ≡ no_named }
     {
         Named {
             names: IndexSet::new(alloc),

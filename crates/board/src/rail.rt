@@ -3,7 +3,7 @@ ghost use Rattle.std.specs.Prelude.{◌≡◌};
 use std::marker::Model;
 
 /// An output of a target: what it may be set to, and what has to be good before it is turned on.
-#[derive(Debug, Drop)]
+#[derive(Drop)]
 pub struct Rail {
     pub(crate) target: usize,
     pub(crate) page: u8,

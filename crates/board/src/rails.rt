@@ -5,14 +5,14 @@ ghost use Rattle.std.specs.List.{list_any};
 ghost use Rattle.toml.specs.View.{view, table_view, items_view};
 ghost use Rattle.board.specs.declared.fault.BoardFault.TheVariants.{Memory};
 ghost use Rattle.board.specs.Reading.{Gives};
-ghost use Rattle.board.specs.Named.{named_view, names, is_named, with_item, none};
-ghost use Rattle.board.specs.Rails.{rail_keyed, target_at, page_of, page_at, has_page, seat_from};
-ghost use Rattle.board.specs.Rails.{seats_of, need_of, needs_of, rails_of};
-ghost use Rattle.board.specs.SeatViews.{seat_view, seats_view};
+ghost use Rattle.board.specs.Named.{named_view, names, is_named, with_item, no_named};
+ghost use Rattle.board.specs.Rails.{check_rail_keys, target_at, page_of, page_at, has_page, draft_from};
+ghost use Rattle.board.specs.Rails.{drafts_of, need_of, needs_of, rails_of};
+ghost use Rattle.board.specs.DraftViews.{draft_view, drafts_view};
 
 use crate::fault::BoardFault;
 use crate::fields::{items_at, number_at, text_at};
-use crate::keys::{Key, Kind, Sort, keyed};
+use crate::keys::{Key, Kind, Sort, check_keys};
 use crate::named::Named;
 use crate::names::place_of;
 use crate::rail::Rail;
@@ -33,7 +33,7 @@ const OPTIONAL: [Key; 1] = [("needs", Kind::ListOf(Sort::Text))];
 
 /// A rail whose needs aren't judged yet.
 #[derive(Clone, Copy)]
-pub(crate) struct Seat<'a> {
+pub(crate) struct RailDraft<'a> {
     target: usize,
     page: u8,
     limit_uv: u32,
@@ -41,10 +41,10 @@ pub(crate) struct Seat<'a> {
 }
 
 /// Refuses a table that is no rail.
-fn rail_keyed(table: &Table) -> Result<(), BoardFault>
-    ensures { Gives (λ u. table_view table.now) result (rail_keyed (table_view table.now)) }
+fn check_rail_keys(table: &Table) -> Result<(), BoardFault>
+    ensures { Gives (λ u. table_view table.now) result (check_rail_keys (table_view table.now)) }
 {
-    keyed(&NEEDED, &OPTIONAL, table)
+    check_keys(&NEEDED, &OPTIONAL, table)
 }
 
 /// The index of the target that a rail names.
@@ -72,32 +72,32 @@ fn page_at(targets: &[Target], place: usize, table: &Table) -> Option<u8>
     page_of(table, targets.get(place)?)
 }
 
-fn has_page(target: usize, page: u8, seats: &[Seat<'_>]) -> bool
-    ensures { result ≡ has_page target page (map seat_view seats.now) }
+fn has_page(target: usize, page: u8, drafts: &[RailDraft<'_>]) -> bool
+    ensures { result ≡ has_page target page (map draft_view drafts.now) }
 {
-    is_taken(target, page, seats)
+    is_taken(target, page, drafts)
 }
 
-fn is_taken(target: usize, page: u8, seats: &[Seat<'_>]) -> bool
-    ensures { result ≡ list_any (λ s. s.target == target && s.page == page) seats.now }
+fn is_taken(target: usize, page: u8, drafts: &[RailDraft<'_>]) -> bool
+    ensures { result ≡ list_any (λ s. s.target == target && s.page == page) drafts.now }
 {
-    seats
+    drafts
         .iter()
-        .any(|seat| seat.target == target && seat.page == page)
+        .any(|draft| draft.target == target && draft.page == page)
 }
 
 /// The rail of a table, after the rails before it.
-#[tactic(auto, unfolding(crate::specs::Rails::seat_from))]
-fn seat_from<'a>(
+#[tactic(auto, unfolding(crate::specs::Rails::draft_from))]
+fn draft_from<'a>(
     targets: &Named<Target>,
-    done: &Named<Seat<'_>>,
+    done: &Named<RailDraft<'_>>,
     table: &'a Table,
-) -> Result<(&'a str, Seat<'a>), BoardFault>
-    ensures value { Gives (λ s. (s.0.now, seat_view s.1)) result
-        (seat_from (named_view targets.now) (seats_view done.now) (table_view table.now)) }
+) -> Result<(&'a str, RailDraft<'a>), BoardFault>
+    ensures value { Gives (λ s. (s.0.now, draft_view s.1)) result
+        (draft_from (named_view targets.now) (drafts_view done.now) (table_view table.now)) }
     ensures new { IfOk result (λ s. is_named s.0.now (names done.now.names) ≡ false) }
 {
-    rail_keyed(table)?;
+    check_rail_keys(table)?;
     let name = new_name(&done.names, table)?;
     let target = target_at(&targets.names, table).ok_or(BoardFault::BadRail)?;
     let page = page_at(targets.items.as_slice(), target, table).ok_or(BoardFault::BadRail)?;
@@ -107,7 +107,7 @@ fn seat_from<'a>(
     let limit_uv = number_at(1, u32::MAX, "limit_uv", table).ok_or(BoardFault::BadRange)?;
     Ok((
         name,
-        Seat {
+        RailDraft {
             target,
             page,
             limit_uv,
@@ -117,37 +117,37 @@ fn seat_from<'a>(
 }
 
 /// Adds a rail whose name is new.
-fn push_seat<'a>(
+fn push_draft<'a>(
     alloc: Global,
-    seats: &mut Named<Seat<'a>>,
+    drafts: &mut Named<RailDraft<'a>>,
     name: &str,
-    seat: Seat<'a>,
+    draft: RailDraft<'a>,
 ) -> Result<(), BoardFault>
-    requires { is_named name.now (names seats.old.names) ≡ false }
+    requires { is_named name.now (names drafts.old.names) ≡ false }
     ensures ok { OnOk result
-        (seats_view seats.new ≡ with_item name.now (seat_view seat.entry) (seats_view seats.old)) }
+        (drafts_view drafts.new ≡ with_item name.now (draft_view draft.entry) (drafts_view drafts.old)) }
     ensures err { IfErr result (λ e. e ≡ Memory) }
 {
-    seats.push(alloc, name, seat)?;
+    drafts.push(alloc, name, draft)?;
     Ok(())
 }
 
 /// The rails of a list, in order.
-pub(crate) fn seats_of<'a>(
+pub(crate) fn drafts_of<'a>(
     alloc: Global,
     targets: &Named<Target>,
     values: &'a [Value],
-) -> Result<Named<Seat<'a>>, BoardFault>
-    ensures { Gives seats_view result
-        (seats_of (named_view targets.now) none (items_view values.now)) }
+) -> Result<Named<RailDraft<'a>>, BoardFault>
+    ensures { Gives drafts_view result
+        (drafts_of (named_view targets.now) no_named (items_view values.now)) }
 {
-    let mut seats = Named::new(alloc);
+    let mut drafts = Named::new(alloc);
     for value in values {
         let table = value.as_table().ok_or(BoardFault::BadKey)?;
-        let (name, seat) = seat_from(targets, &seats, table)?;
-        push_seat(alloc, &mut seats, name, seat)?;
+        let (name, draft) = draft_from(targets, &drafts, table)?;
+        push_draft(alloc, &mut drafts, name, draft)?;
     }
-    Ok(seats)
+    Ok(drafts)
 }
 
 /// The index of the rail that is needed, which isn't the one that needs it.
@@ -180,17 +180,20 @@ fn needs_of(
 }
 
 /// The rails with their needs.
-pub(crate) fn rails_of(alloc: Global, seats: &Named<Seat<'_>>) -> Result<Vec<Rail>, BoardFault>
+pub(crate) fn rails_of(
+    alloc: Global,
+    drafts: &Named<RailDraft<'_>>,
+) -> Result<Vec<Rail>, BoardFault>
     ensures { Gives (λ v. v.items) result
-        (rails_of (names seats.now.names) [] (map seat_view seats.now.items.items)) }
+        (rails_of (names drafts.now.names) [] (map draft_view drafts.now.items.items)) }
 {
     let mut rails = Vec::new(alloc);
-    for seat in &seats.items {
-        let needs = needs_of(alloc, &seats.names, rails.len(), seat.needs)?;
+    for draft in &drafts.items {
+        let needs = needs_of(alloc, &drafts.names, rails.len(), draft.needs)?;
         rails.push(Rail {
-            target: seat.target,
-            page: seat.page,
-            limit_uv: seat.limit_uv,
+            target: draft.target,
+            page: draft.page,
+            limit_uv: draft.limit_uv,
             needs,
         })?;
     }

@@ -7,7 +7,7 @@ use smbus::Form;
 use std::marker::Model;
 
 /// A device of the bus: its address, its outputs, how it starts and what it may be sent.
-#[derive(Debug, Drop)]
+#[derive(Drop)]
 pub struct Target {
     pub(crate) address: u8,
     pub(crate) pages: u8,

@@ -6,15 +6,15 @@ ghost use Rattle.pmbus_table.specs.Protect.{is_protection};
 ghost use Rattle.toml.specs.View.{view, table_view, items_view};
 ghost use Rattle.board.specs.Reading.{Gives};
 ghost use Rattle.board.specs.Valid.{is_target_address, is_page_value};
-ghost use Rattle.board.specs.Named.{named_view, names, is_named, none};
-ghost use Rattle.board.specs.Targets.{target_keyed, new_name, address_at, has_address, new_address};
+ghost use Rattle.board.specs.Named.{named_view, names, is_named, no_named};
+ghost use Rattle.board.specs.Targets.{check_target_keys, new_name, address_at, has_address, new_address};
 ghost use Rattle.board.specs.Targets.{exponent_at, numbers_of, bytes_of, start_pages_of};
 ghost use Rattle.board.specs.Targets.{start_protects_of, target_with, target_from, targets_of};
 
 use crate::entries::entries_of;
 use crate::fault::BoardFault;
 use crate::fields::{flag_at, items_at, number_at, number_in, text_at};
-use crate::keys::{Key, Kind, Sort, keyed, value_at};
+use crate::keys::{Key, Kind, Sort, check_keys, value_at};
 use crate::named::Named;
 use crate::names::has_name;
 use crate::target::Target;
@@ -48,10 +48,10 @@ pub(crate) struct Numbers {
 }
 
 /// Refuses a table that is no target.
-fn target_keyed(table: &Table) -> Result<(), BoardFault>
-    ensures { Gives (λ u. table_view table.now) result (target_keyed (table_view table.now)) }
+fn check_target_keys(table: &Table) -> Result<(), BoardFault>
+    ensures { Gives (λ u. table_view table.now) result (check_target_keys (table_view table.now)) }
 {
-    keyed(&NEEDED, &OPTIONAL, table)
+    check_keys(&NEEDED, &OPTIONAL, table)
 }
 
 /// A name that nothing before it has.
@@ -220,7 +220,7 @@ fn target_from<'a>(
         (target_from (named_view done.now) (table_view table.now)) }
     ensures new { IfOk result (λ t. is_named t.0.now (names done.now.names) ≡ false) }
 {
-    target_keyed(table)?;
+    check_target_keys(table)?;
     let name = new_name(&done.names, table)?;
     let address = new_address(done.items.as_slice(), table)?;
     let numbers = numbers_of(table)?;
@@ -230,7 +230,7 @@ fn target_from<'a>(
 
 /// The targets of a list, in order.
 pub(crate) fn targets_of(alloc: Global, values: &[Value]) -> Result<Named<Target>, BoardFault>
-    ensures { Gives named_view result (targets_of none (items_view values.now)) }
+    ensures { Gives named_view result (targets_of no_named (items_view values.now)) }
 {
     let mut targets = Named::new(alloc);
     for value in values {

@@ -7,10 +7,10 @@ use Rattle.smbus.specs.Answered.{Answered}
 use Rattle.bundles.specs.Bundles.{Line}
 use Rattle.bundles.specs.Fields.{value_of, number_of}
 use Rattle.bundles.specs.AnswerWords.{past_bytes, answer_of}
-use Rattle.bundles.specs.AnswerLines.{took_of, past_took, past_alerts, bad_answer, said, answer_in}
+use Rattle.bundles.specs.AnswerLines.{took_of, past_took, past_alerts, bad_answer, without_dash, answer_in}
 use Rattle.bundles.specs.AnswerLines.{answer_line_of}
 use Rattle.bundles.specs.Spelled.{spelled, AnswerValues, SaysAnswer}
-use Rattle.bundles.specs.SpelledAnswers.{AnswerLineValues, keyed, IsAnswerLine, AnswerLinesAreRead}
+use Rattle.bundles.specs.SpelledAnswers.{AnswerLineValues, key_values, IsAnswerLine, AnswerLinesAreRead}
 use Rattle.bundles.specs.SpelledAnswers.{OtherLinesAreBad}
 use Rattle.bundles.proofs.Keys.{spelled_by}
 use Rattle.bundles.proofs.Readings.{bind_ok, some_ok, if_ok, none_left, fails_then, fails_some}
@@ -41,7 +41,7 @@ line_values words = record {
 -- what some words spell
 record Spells (words : List Line) (answer : Answered) : Type 0 where
   values : AnswerLineValues
-  spelling : words ≡ spelled (keyed values)
+  spelling : words ≡ spelled (key_values values)
   says : SaysAnswer values.answer answer
   took : took_of values.took ≡ Some answer.took
   alerts : number_of values.alerts ≡ Some answer.alerts
@@ -49,7 +49,7 @@ record Spells (words : List Line) (answer : Answered) : Type 0 where
 -- ---- what is read is what the words spell
 
 all_spelled : (words : List Line) → past_alerts words ≡ []
-    → words ≡ spelled (keyed (line_values words))
+    → words ≡ spelled (key_values (line_values words))
 all_spelled words none =
     answer_spelled words _ (spelled_by (codes "took=") (past_bytes words) _
     (spelled_by (codes "alerts=") (past_took words) [] none))
@@ -103,7 +103,7 @@ reads number words answer h =
 line_spells : (number : ℕ) (line : Line) (answer : Answered)
     → answer_line_of number line ≡ Ok answer → IsAnswerLine line answer
 line_spells number line answer e =
-    let s = spells number (said (words_of line)) answer e in
+    let s = spells number (without_dash (words_of line)) answer e in
     record {
       values = s.values;
       words = s.spelling;
@@ -114,7 +114,7 @@ line_spells number line answer e =
 
 spelled_line : (number : ℕ) (line : Line) (answer : Answered) → IsAnswerLine line answer
     → answer_line_of number line ≡ Ok answer
-spelled_line number line answer h = reads number (said (words_of line)) answer (record {
+spelled_line number line answer h = reads number (without_dash (words_of line)) answer (record {
   values = h.values;
   spelling = h.words;
   says = h.says;
@@ -139,4 +139,4 @@ line_fails number words =
     (λ alerts. fails_if fault (length (past_alerts words) == 0) (whole answer took alerts))))
 
 pub other_lines : OtherLinesAreBad
-other_lines number line = line_fails number (said (words_of line))
+other_lines number line = line_fails number (without_dash (words_of line))

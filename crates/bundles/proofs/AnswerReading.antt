@@ -8,7 +8,7 @@ use Rattle.bundles.specs.Bundles.{Line}
 use Rattle.bundles.specs.Fields.{value_of, rest_of, refuse_of, number_of, bytes_of}
 use Rattle.bundles.specs.Holds.{holds_of}
 use Rattle.bundles.specs.AnswerWords.{past_holds, past_refuse, past_value, past_bytes, answer_of}
-use Rattle.bundles.specs.Spelled.{Keyed, spelled, AnswerValues, keyed_answer, SaysAnswer}
+use Rattle.bundles.specs.Spelled.{KeyValues, spelled, AnswerValues, answer_key_values, SaysAnswer}
 use Rattle.bundles.proofs.Keys.{is_new, spelled_by, value_spelled, rest_spelled}
 use Rattle.bundles.proofs.Readings.{bind_ok, some_ok, ok_is, FailsBy, fails_then, fails_some}
 use Rattle.bundles.proofs.Readings.{never_fails}
@@ -61,20 +61,20 @@ answered_if fault words m a =
 -- ---- what is spelled
 
 -- the words are their values, with what is spelled behind them
-pub answer_spelled : (words : List Line) (later : Keyed) → past_bytes words ≡ spelled later
-    → words ≡ spelled (keyed_answer (answer_values words) later)
+pub answer_spelled : (words : List Line) (later : KeyValues) → past_bytes words ≡ spelled later
+    → words ≡ spelled (answer_key_values (answer_values words) later)
 answer_spelled words later e =
     spelled_by (codes "holds=") words _
     (spelled_by (codes "refuse=") (past_holds words) _
     (spelled_by (codes "value=") (past_refuse words) _
     (spelled_by (codes "bytes=") (past_value words) later e)))
 
-pub record Taken (key : List ℕ) (o : Option (List ℕ)) (later : Keyed)
+pub record Taken (key : List ℕ) (o : Option (List ℕ)) (later : KeyValues)
     (words : List Line) : Type 0 where
   pub value : value_of key words ≡ o
   pub rest : rest_of key words ≡ spelled later
 
-pub taken : (key : List ℕ) (o : Option (List ℕ)) (later : Keyed) (words : List Line)
+pub taken : (key : List ℕ) (o : Option (List ℕ)) (later : KeyValues) (words : List Line)
     → words ≡ spelled ((key, o) ∷ later) → is_new key later ≡ true → Taken key o later words
 taken key o later words e apart = record {
   value = ap (value_of key) e ∙ value_spelled key o later apart;
@@ -82,18 +82,18 @@ taken key o later words e apart = record {
 }
 
 -- keys other than those of the answer
-pub record AreOthers (later : Keyed) : Type 0 where
+pub record AreOthers (later : KeyValues) : Type 0 where
   pub holds : is_new (codes "holds=") later ≡ true
   pub refuse : is_new (codes "refuse=") later ≡ true
   pub value : is_new (codes "value=") later ≡ true
   pub bytes : is_new (codes "bytes=") later ≡ true
 
-pub record AnswerTaken (values : AnswerValues) (later : Keyed) (words : List Line) : Type 0 where
+pub record AnswerTaken (values : AnswerValues) (later : KeyValues) (words : List Line) : Type 0 where
   pub says : (a : Answered) → SaysAnswer values a → SaysAnswer (answer_values words) a
   pub rest : past_bytes words ≡ spelled later
 
-pub answer_taken : (values : AnswerValues) (later : Keyed) (words : List Line)
-    → words ≡ spelled (keyed_answer values later) → AreOthers later → AnswerTaken values later words
+pub answer_taken : (values : AnswerValues) (later : KeyValues) (words : List Line)
+    → words ≡ spelled (answer_key_values values later) → AreOthers later → AnswerTaken values later words
 answer_taken values later words e apart =
     let holds = taken (codes "holds=") values.holds _ words e apart.holds in
     let refuse =

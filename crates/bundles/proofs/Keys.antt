@@ -10,7 +10,7 @@ use Rattle.std.proofs.lemmas.Bool.Decides.{Decides-eqb}
 use Rattle.std.proofs.lemmas.Bool.{cases_Bool, and_parts}
 use Rattle.bundles.specs.Bundles.{Line}
 use Rattle.bundles.specs.Fields.{after_key, value_of, rest_of}
-use Rattle.bundles.specs.Spelled.{Keyed, spelled}
+use Rattle.bundles.specs.Spelled.{KeyValues, spelled}
 
 -- ---- a word and its key
 
@@ -69,12 +69,12 @@ unfolding value_of rest_of
 taken_words key [] = refl
 taken_words key (word ∷ later) = taken_word key word later (after_key key word) refl
 
-front_spelled : (key : List ℕ) (o : Option (List ℕ)) (later : Keyed)
+front_spelled : (key : List ℕ) (o : Option (List ℕ)) (later : KeyValues)
     → front key o (spelled later) ≡ spelled ((key, o) ∷ later)
 front_spelled key None later = refl
 front_spelled key (Some value) later = refl
 
-pub spelled_by : (key : List ℕ) (words : List Line) (later : Keyed)
+pub spelled_by : (key : List ℕ) (words : List Line) (later : KeyValues)
     → rest_of key words ≡ spelled later → words ≡ spelled ((key, value_of key words) ∷ later)
 spelled_by key words later e =
     taken_words key words ∙ ap (front key (value_of key words)) e
@@ -82,7 +82,7 @@ spelled_by key words later e =
 
 -- ---- and back
 
-abbrev pub is_new : List ℕ → Keyed → Bool
+abbrev pub is_new : List ℕ → KeyValues → Bool
 is_new key later = list_all (λ (f : List ℕ × Option (List ℕ)). are_apart key f.0) later
 
 -- no word of these has the key
@@ -95,7 +95,7 @@ unspelled_word : (key word : List ℕ) (later : List Line) → after_key key wor
 unfolding value_of rest_of
 unspelled_word key word later e = record { none = e; all = rw e refl }
 
-unspelled : (key : List ℕ) (later : Keyed) → is_new key later ≡ true → Unspelled key (spelled later)
+unspelled : (key : List ℕ) (later : KeyValues) → is_new key later ≡ true → Unspelled key (spelled later)
 unfolding value_of rest_of
 unspelled key [] t = record { none = refl; all = refl }
 unspelled key ((other, None) ∷ later) t =
@@ -104,13 +104,13 @@ unspelled key ((other, Some value) ∷ later) t =
     unspelled_word key (other ++ value) (spelled later)
     (behind_another key other value (and_parts (are_apart key other) (is_new key later) t).0)
 
-pub value_spelled : (key : List ℕ) (o : Option (List ℕ)) (later : Keyed) → is_new key later ≡ true
+pub value_spelled : (key : List ℕ) (o : Option (List ℕ)) (later : KeyValues) → is_new key later ≡ true
     → value_of key (spelled ((key, o) ∷ later)) ≡ o
 unfolding value_of
 value_spelled key None later t = (unspelled key later t).none
 value_spelled key (Some value) later t = behind_itself key value
 
-pub rest_spelled : (key : List ℕ) (o : Option (List ℕ)) (later : Keyed) → is_new key later ≡ true
+pub rest_spelled : (key : List ℕ) (o : Option (List ℕ)) (later : KeyValues) → is_new key later ≡ true
     → rest_of key (spelled ((key, o) ∷ later)) ≡ spelled later
 unfolding rest_of
 rest_spelled key None later t = (unspelled key later t).all

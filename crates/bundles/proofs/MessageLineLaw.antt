@@ -13,7 +13,7 @@ use Rattle.bundles.specs.AnswerWords.{past_bytes, answer_of}
 use Rattle.bundles.specs.Messages.{form_of, address_of, code_of, past_form, past_address, past_code}
 use Rattle.bundles.specs.Messages.{past_asked, asked_of, bad_message, exchange_of}
 use Rattle.bundles.specs.Spelled.{spelled}
-use Rattle.bundles.specs.MessageLines.{MessageValues, keyed, IsMessageLine, MessageLinesAreRead}
+use Rattle.bundles.specs.MessageLines.{MessageValues, key_values, IsMessageLine, MessageLinesAreRead}
 use Rattle.bundles.specs.MessageLines.{OtherLinesAreBad}
 use Rattle.bundles.proofs.Keys.{spelled_by}
 use Rattle.bundles.proofs.Readings.{bind_ok, some_ok, if_ok, done_ok, ok_is, none_left, FailsBy}
@@ -68,7 +68,7 @@ asked_values words = record {
 
 -- the words are their values, where none is left
 all_spelled : (words : List Line) → past_bytes (past_asked words) ≡ []
-    → words ≡ spelled (keyed (asked_values words) (answer_values (past_asked words)))
+    → words ≡ spelled (key_values (asked_values words) (answer_values (past_asked words)))
 all_spelled words none =
     spelled_by (codes "form=") words _
     (spelled_by (codes "address=") (past_form words) _

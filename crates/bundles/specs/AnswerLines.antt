@@ -46,9 +46,9 @@ silence = record {
 }
 
 -- `-` alone stands for no words
-abbrev pub said : List Line → List Line
-said (word ∷ []) = if bytes_eq word (codes "-") then [] else word ∷ []
-said words = words
+abbrev pub without_dash : List Line → List Line
+without_dash (word ∷ []) = if bytes_eq word (codes "-") then [] else word ∷ []
+without_dash words = words
 
 abbrev pub answer_line_of : ℕ → Line → Result Answered BundleFault
-answer_line_of number line = answer_in number (said (words_of line))
+answer_line_of number line = answer_in number (without_dash (words_of line))

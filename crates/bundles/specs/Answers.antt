@@ -12,6 +12,7 @@ use Rattle.bundles.specs.declared.fault.BundleFault.{BundleFault}
 use Rattle.bundles.specs.Bundles.{Line, Section}
 use Rattle.bundles.specs.AnswerLines.{bad_answer, answer_line_of}
 use Rattle.bundles.specs.CountedLines.{counted_lines}
+use Rattle.texts.specs.Ascii as ascii
 
 pub record Answers : Type 0 where
   -- the page and the protection that each target starts with
@@ -28,7 +29,7 @@ bytes_in (part ∷ later) =
 
 -- the parts between commas
 abbrev pub listed_bytes : List ℕ → Option (List ℕ)
-listed_bytes text = bytes_in (slice_split (λ b. b == 44) text)
+listed_bytes text = bytes_in (slice_split (λ b. b == ascii.comma) text)
 
 -- `start PAGES PROTECTS`
 abbrev pub start_of : List Line → Option (List ℕ × List ℕ)

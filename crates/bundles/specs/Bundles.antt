@@ -16,6 +16,7 @@ use Rattle.bundles.specs.declared.command.Header.TheVariants.{Message, Board, Pr
 use Rattle.bundles.specs.declared.command.Header.TheVariants.{Table}
 use Rattle.bundles.specs.declared.fault.BundleFault.TheVariants.{NoCommand, UnknownCommand}
 use Rattle.bundles.specs.declared.fault.BundleFault.TheVariants.{Unexpected, MissingSection}
+use Rattle.texts.specs.Ascii as ascii
 
 -- a line as its bytes
 abbrev pub Line : Type 0
@@ -49,11 +50,11 @@ headers_of Verify = Board ∷ Program ∷ []
 
 -- nothing but spaces
 abbrev pub is_blank : Line → Bool
-is_blank line = list_all (λ b. b == 32) line
+is_blank line = list_all (λ b. b == ascii.space) line
 
 -- a line that begins with `%`
 abbrev pub starts_section : Line → Bool
-starts_section line = slice_index line 0 == 37
+starts_section line = slice_index line 0 == ascii.percent_sign
 
 -- whether a line belongs below so many headers: as the next of them, or else as a blank line or as
 -- a line of a section

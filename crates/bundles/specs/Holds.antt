@@ -5,13 +5,14 @@ use Rattle.std.specs.Prelude.{if◌then◌else◌}
 use Rattle.std.specs.List.{list_all, slice_split, range_with_len}
 use Rattle.texts.specs.Decimal.{decimal_within}
 use Rattle.bundles.specs.Fields.{cut_at}
+use Rattle.texts.specs.Ascii as ascii
 
 -- `SLOT:K`
 abbrev pub hold_of : List ℕ → Option (ℕ × ℕ)
 hold_of part =
     option_and_then (λ (sides : List ℕ × List ℕ). option_and_then (λ slot.
     option_map (λ hold. (slot, hold)) (decimal_within 6999 sides.1)) (decimal_within 4095 sides.0))
-    (cut_at 58 part)
+    (cut_at ascii.colon part)
 
 -- the slots and holds that some parts name, if each of them names one
 abbrev pub named_by : List (List ℕ) → Option (List (ℕ × ℕ))
@@ -43,4 +44,4 @@ holds_named named =
 -- the parts between commas; no holds where the word is missing
 abbrev pub holds_of : Option (List ℕ) → Option (List ℕ)
 holds_of None = Some []
-holds_of (Some text) = option_and_then holds_named (named_by (slice_split (λ b. b == 44) text))
+holds_of (Some text) = option_and_then holds_named (named_by (slice_split (λ b. b == ascii.comma) text))

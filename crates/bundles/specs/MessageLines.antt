@@ -7,7 +7,7 @@ use Rattle.bundles.specs.declared.message.Exchange.{Exchange}
 use Rattle.bundles.specs.Bundles.{Line}
 use Rattle.bundles.specs.Fields.{bytes_of}
 use Rattle.bundles.specs.Messages.{form_of, address_of, code_of, bad_message, exchange_of}
-use Rattle.bundles.specs.Spelled.{Keyed, spelled, AnswerValues, keyed_answer, SaysAnswer}
+use Rattle.bundles.specs.Spelled.{KeyValues, spelled, AnswerValues, answer_key_values, SaysAnswer}
 
 -- the values that a message line may have before those of its answer
 pub record MessageValues : Type 0 where
@@ -17,16 +17,16 @@ pub record MessageValues : Type 0 where
   pub out : Option (List ℕ)
 
 -- the keys in their order
-abbrev pub keyed : MessageValues → AnswerValues → Keyed
-keyed m a =
+abbrev pub key_values : MessageValues → AnswerValues → KeyValues
+key_values m a =
     (codes "form=", m.form) ∷ (codes "address=", m.address) ∷ (codes "code=", m.code)
-    ∷ (codes "out=", m.out) ∷ keyed_answer a []
+    ∷ (codes "out=", m.out) ∷ answer_key_values a []
 
 -- a line that spells a message and its answer
 pub record IsMessageLine (line : Line) (exchange : Exchange) : Type 0 where
   pub asked : MessageValues
   pub answered : AnswerValues
-  pub words : words_of line ≡ spelled (keyed asked answered)
+  pub words : words_of line ≡ spelled (key_values asked answered)
   pub form : option_and_then form_of asked.form ≡ Some exchange.message.form
   pub address : option_and_then (address_of exchange.message.form) asked.address
       ≡ Some exchange.message.address

@@ -6,11 +6,11 @@ use Rattle.bundles.specs.Fields.{refuse_of, number_of, bytes_of}
 use Rattle.bundles.specs.Holds.{holds_of}
 
 -- keys with their values, which may be missing
-abbrev pub Keyed : Type 0
-Keyed = List (List ℕ × Option (List ℕ))
+abbrev pub KeyValues : Type 0
+KeyValues = List (List ℕ × Option (List ℕ))
 
 -- a word for each value that there is
-abbrev pub spelled : Keyed → List Line
+abbrev pub spelled : KeyValues → List Line
 spelled [] = []
 spelled ((key, None) ∷ later) = spelled later
 spelled ((key, Some value) ∷ later) = (key ++ value) ∷ spelled later
@@ -23,8 +23,8 @@ pub record AnswerValues : Type 0 where
   pub bytes : Option (List ℕ)
 
 -- their keys in order, with others behind them
-abbrev pub keyed_answer : AnswerValues → Keyed → Keyed
-keyed_answer a later =
+abbrev pub answer_key_values : AnswerValues → KeyValues → KeyValues
+answer_key_values a later =
     (codes "holds=", a.holds) ∷ (codes "refuse=", a.refuse) ∷ (codes "value=", a.value)
     ∷ (codes "bytes=", a.bytes) ∷ later
 

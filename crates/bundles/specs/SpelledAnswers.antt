@@ -6,8 +6,8 @@ use Rattle.smbus.specs.Answered.{Answered}
 use Rattle.bundles.specs.declared.fault.BundleFault.{BundleFault}
 use Rattle.bundles.specs.Bundles.{Line}
 use Rattle.bundles.specs.Fields.{number_of}
-use Rattle.bundles.specs.AnswerLines.{took_of, said, bad_answer, answer_line_of}
-use Rattle.bundles.specs.Spelled.{Keyed, spelled, AnswerValues, keyed_answer, SaysAnswer}
+use Rattle.bundles.specs.AnswerLines.{took_of, without_dash, bad_answer, answer_line_of}
+use Rattle.bundles.specs.Spelled.{KeyValues, spelled, AnswerValues, answer_key_values, SaysAnswer}
 
 -- the values that an answer line may have
 pub record AnswerLineValues : Type 0 where
@@ -16,15 +16,15 @@ pub record AnswerLineValues : Type 0 where
   pub alerts : Option (List ℕ)
 
 -- the keys in their order
-abbrev pub keyed : AnswerLineValues → Keyed
-keyed values =
-    keyed_answer values.answer
+abbrev pub key_values : AnswerLineValues → KeyValues
+key_values values =
+    answer_key_values values.answer
     ((codes "took=", values.took) ∷ (codes "alerts=", values.alerts) ∷ [])
 
 -- a line that spells an answer
 pub record IsAnswerLine (line : Line) (answer : Answered) : Type 0 where
   pub values : AnswerLineValues
-  pub words : said (words_of line) ≡ spelled (keyed values)
+  pub words : without_dash (words_of line) ≡ spelled (key_values values)
   pub says : SaysAnswer values.answer answer
   pub took : took_of values.took ≡ Some answer.took
   pub alerts : number_of values.alerts ≡ Some answer.alerts

@@ -1,6 +1,6 @@
 ghost use Rattle.std.specs.Prelude.{◌≡◌, ◌≤◌, option_copied, codes, All, IfOk};
 ghost use Rattle.texts.specs.Reading.{Gives};
-ghost use Rattle.bundles.specs.AnswerLines.{took_of, said, silence, answer_in, answer_line_of};
+ghost use Rattle.bundles.specs.AnswerLines.{took_of, without_dash, silence, answer_in, answer_line_of};
 ghost use Rattle.bundles.specs.AnswerWords.{answer_of, past_bytes};
 ghost use Rattle.bundles.specs.Fields.{value_of, rest_of};
 ghost use Rattle.bundles.specs.Texts.{texts_of};
@@ -24,8 +24,8 @@ fn took_of(text: Option<&str>) -> Option<bool>
 }
 
 /// The words that count: none where `-` stands alone.
-fn said<'a>(words: &'a [&'a str]) -> &'a [&'a str]
-    ensures { texts_of result.now ≡ said (texts_of words.now) }
+fn without_dash<'a>(words: &'a [&'a str]) -> &'a [&'a str]
+    ensures { texts_of result.now ≡ without_dash (texts_of words.now) }
 {
     match words {
         [word] if *word == "-" => &[],
@@ -89,6 +89,6 @@ pub fn answer_line_of(
         return Ok(silence(alloc));
     }
     let list = words_of(alloc, line)?;
-    let mut words = Fields { words: said(&list) };
+    let mut words = Fields { words: without_dash(&list) };
     answer_in(alloc, number, &mut words)
 }

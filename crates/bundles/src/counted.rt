@@ -9,7 +9,7 @@ use crate::section::Section;
 
 /// The first line of a section that says something, with its number in the bundle, and the lines
 /// below it.
-#[derive(Debug, Drop)]
+#[derive(Drop)]
 pub(crate) struct Counted<'a> {
     pub number: usize,
     pub line: &'a str,

@@ -9,7 +9,7 @@ use Rattle.board.specs.Boards.{Target, Board}
 use Rattle.board.specs.Valid.{is_page_value}
 use Rattle.targets.specs.States.{Belongs}
 use Rattle.seq_program.specs.declared.instr.Instr.{Instr}
-use Rattle.seq_program.specs.Valid.{IsInstr, IsOnBoard, IsSaid}
+use Rattle.seq_program.specs.Valid.{IsInstr, IsOnBoard, IsInstrOn}
 use Rattle.simulator.specs.declared.machine.Ending.TheVariants.{Running}
 use Rattle.simulator.specs.Machines.{Machine, Entry}
 use Rattle.simulator.specs.StepLaws.{IsReady}
@@ -155,7 +155,7 @@ keep_rules kept by_place b p t m h i good is program on table k running here kno
           admits = r.admits;
           knows = knows;
         } in
-        let said : IsSaid (length b.targets) i = (
+        let said : IsInstrOn (length b.targets) i = (
           each_at (λ (x : Instr). IsInstr x) p m.place i program.each here,
           each_at (λ (x : Instr). IsOnBoard (length b.targets) x) p m.place i on here,
         ) in

@@ -2,6 +2,7 @@
 use Rattle.std.specs.Prelude.{◌≡◌, ◌≢◌, ◌==◌, ◌-◌, ◌++◌, ℕ, List, [], Option, Some, None, All}
 use Rattle.std.specs.Prelude.{IfSome, slice_get, codes, if◌then◌else◌}
 use Rattle.std.specs.Fmt.{decimal}
+use Rattle.texts.specs.Ascii as ascii
 
 -- the line with this number, counted from 1
 abbrev pub line_at : ℕ → List (List ℕ) → Option (List ℕ)
@@ -9,7 +10,7 @@ line_at number lines = if number == 0 then None else slice_get lines (number - 1
 
 -- no line feed stands in it
 abbrev pub NoFeed : List ℕ → Type 0
-NoFeed text = All (λ b. b ≢ 10) text
+NoFeed text = All (λ b. b ≢ ascii.line_feed) text
 
 -- `%program:3: error: `, or another kind of note
 abbrev pub head : List ℕ → List ℕ → ℕ → List ℕ

@@ -42,8 +42,10 @@ const MOST_SEARCHED: usize = 1 << 18;
 
 /// The line that a fault is told on, and what is said of it.
 fn finding_on(alloc: Global, text: &str, fault: BoardFault) -> Result<Finding, AllocError> {
+    if text.len() > MOST_SEARCHED && fault != BoardFault::Toml {
+        return unsearched(alloc, fault);
+    }
     match toml::table_from_str(alloc, text) {
-        Ok(_) if text.len() > MOST_SEARCHED => unsearched(alloc, fault),
         Ok(tree) => {
             let draft = Draft::new(alloc, text, &tree, fault)?;
             finding_in(alloc, &draft)

@@ -17,9 +17,9 @@ ghost use Rattle.table_check.specs.Obligations.{IsInductive};
 
 use crate::judge::Judge;
 use crate::law::accepted_runs_keep_rules;
-use board::Board;
+use board::{Board, board_is_valid};
 use facts::{Row, Rule};
-use seq_program::Program;
+use seq_program::{Program, program_is_valid};
 use session::Scenario;
 use simulator::{Ending, Entry, Machine, RunFault, runs_are_one, start, step_at, steps_are_seen};
 use smbus::Answer;
@@ -99,8 +99,8 @@ pub(crate) fn first_breach(
         → IsInductive scenario.now.board scenario.now.program t → found ≡ None) }
 {
     let (board, program) = (&scenario.board, &scenario.program);
-    let _targets = board.targets();
-    let _places = program.places();
+    board_is_valid(board);
+    program_is_valid(program);
     steps_are_seen();
     accepted_runs_are_admitted();
     accepted_runs_keep_rules();

@@ -7,9 +7,9 @@ ghost use Rattle.diagnostics.specs.Telling.{TellsAfter};
 
 use crate::known::known_row;
 use crate::reporting::is_good_after;
-use board::Board;
+use board::{Board, board_is_valid};
 use facts::{ByteSet, GoodSet, Row, Rule, duty};
-use seq_program::{Instr, Program, message_of};
+use seq_program::{Instr, Program, message_of, program_is_valid};
 use simulator::{Machine, steps_are_seen};
 use smbus::{Answer, Message};
 use std::alloc::{AllocError, Global};
@@ -60,7 +60,7 @@ fn good_after(
         (rails_in good d) (rails_in result d) }
     ensures rails { (d : ℕ) → IsTrue (rails_in result d) → d < length board.now.rails }
 {
-    let _rails = board.rails();
+    board_is_valid(board);
     let mut after = GoodSet::empty();
     for index in 0..64 {
         let was_good = good.contains(index);
@@ -151,8 +151,8 @@ impl Judge {
             → Knows board.now (e ∷ history) (rails_in self.new.good)) }
         ensures memory { OnErr result (self.new ≡ self.old) }
     {
-        let _rails = board.rails();
-        let _places = program.places();
+        board_is_valid(board);
+        program_is_valid(program);
         steps_are_seen();
         let instr = instr_of(program, machine);
         if let Some(message) = message_of(alloc, board, instr, &machine.regs)? {

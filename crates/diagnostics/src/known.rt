@@ -8,7 +8,7 @@ ghost use Rattle.targets.specs.States.{Belongs};
 ghost use Rattle.board.specs.Valid.{IsBoard};
 ghost use Rattle.diagnostics.specs.Known.{known_row};
 
-use board::Board;
+use board::{Board, board_is_valid};
 use facts::{ByteSet, GoodSet, PageSet, ProtectSet, Row, Source, Span};
 use simulator::Machine;
 use std::alloc::{AllocError, Global};
@@ -83,7 +83,7 @@ pub(crate) fn known_row(
     requires { Belongs board.now machine.now.bus }
     ensures { IfOk result (λ row. row_view row ≡ known_row machine.now (rails_in good)) }
 {
-    let _targets = board.targets();
+    board_is_valid(board);
     Ok(Row {
         pages: stored_pages(alloc, &machine.bus.page)?,
         protects: stored_protects(alloc, &machine.bus.protect)?,

@@ -5,6 +5,7 @@ ghost use Rattle.simulator.specs.declared.fault.RunFault.TheVariants.{Memory};
 ghost use Rattle.simulator.specs.Traces.{Trace};
 ghost use Rattle.session.specs.Scenarios.{IsOnItsBoard, IsRunOf, IsFaultOf};
 
+use seq_program::program_is_valid;
 use session::Scenario;
 use simulator::{Entry, Machine, RunFault, start, step_at};
 use smbus::Answer;
@@ -26,7 +27,7 @@ pub(crate) fn stop_at(
     requires { IsOnItsBoard scenario.now }
 {
     let (board, program) = (&scenario.board, &scenario.program);
-    let _places = program.places();
+    program_is_valid(program);
     let answered = &scenario.answers;
     let mut machine = start(alloc, board, &answered.pages, &answered.protects)?;
     let mut spare = Entry::empty(alloc);
@@ -55,7 +56,7 @@ pub(crate) fn run_through(alloc: Global, scenario: &Scenario<'_>) -> Result<(), 
     ensures fault { IfErr result (λ e. e ≢ Memory → IsFaultOf scenario.now e) }
 {
     let (board, program) = (&scenario.board, &scenario.program);
-    let _places = program.places();
+    program_is_valid(program);
     let answered = &scenario.answers;
     let mut machine = start(alloc, board, &answered.pages, &answered.protects)?;
     let mut spare = Entry::empty(alloc);

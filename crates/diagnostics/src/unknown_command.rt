@@ -9,16 +9,9 @@ use smbus::Form;
 use std::alloc::{AllocError, Global};
 use texts::pair_of;
 
-/// The first code of a manufacturer command.
-const FIRST_MANUFACTURER: u8 = 0xD0;
-
 /// How manufacturer commands are written.
 const MANUFACTURER_RULE: &str =
     "manufacturer commands are D0 to FD, and in \"write\" and \"read\" b or w stands behind them";
-
-fn is_manufacturer(command: Command) -> bool {
-    command.code() >= FIRST_MANUFACTURER
-}
 
 /// Whether an operand takes the command.
 fn takes(operand: Operand, command: Command) -> bool {
@@ -95,7 +88,7 @@ fn known_command(
     word: &str,
     command: Command,
 ) -> Result<Remark, AllocError> {
-    if is_manufacturer(command) {
+    if command.is_manufacturer() {
         return Ok(Remark {
             message: format!(in alloc; "\"{word}\" needs \"b\" or \"w\" behind it")?,
             help: Some(format!(in alloc; "\"{word}b\" is for a byte, \"{word}w\" for a word")?),
@@ -115,7 +108,7 @@ fn digits_of(word: &str) -> Option<&str> {
         None => word.strip_suffix("w")?,
     };
     match by_name(digits) {
-        Some(command) if is_manufacturer(command) => Some(digits),
+        Some(command) if command.is_manufacturer() => Some(digits),
         _ => None,
     }
 }

@@ -7,7 +7,7 @@ use crate::nest::{Loop, Nest, loop_at};
 use std::alloc::{AllocError, Global};
 
 /// What is known of the counters at a place.
-#[derive(Clone, Copy, Debug, PartialEq, Eq)]
+#[derive(Clone, Copy, PartialEq, Eq)]
 struct Worth {
     /// The most that the counter is worth here, or where the place leads before it is set.
     ahead: [u64; 4],

@@ -10,7 +10,7 @@ const UNMET: usize = 0;
 const FOUND: usize = usize::MAX;
 
 /// The components of a graph, over its open ways.
-#[derive(Debug, Drop)]
+#[derive(Drop)]
 pub(crate) struct Components {
     /// The number of each place's component.
     pub(crate) of: Vec<usize>,
@@ -20,7 +20,7 @@ pub(crate) struct Components {
 }
 
 /// A place on the path that is walked.
-#[derive(Clone, Copy, Debug)]
+#[derive(Clone, Copy)]
 struct Visit {
     place: usize,
     /// The way that is looked at next.
@@ -30,7 +30,7 @@ struct Visit {
 }
 
 /// A walk over a graph, in depth first.
-#[derive(Debug, Drop)]
+#[derive(Drop)]
 struct Walk {
     /// Of each place the least number that is known of a place to which it leads.
     low: Vec<usize>,

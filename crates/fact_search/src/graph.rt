@@ -9,7 +9,7 @@ use seq_program::{Instr, Program};
 use std::alloc::{AllocError, Global};
 
 /// Whether a way counts where loops are looked for.
-#[derive(Clone, Copy, Debug, PartialEq, Eq)]
+#[derive(Clone, Copy, PartialEq, Eq)]
 pub(crate) enum Cut {
     Open,
     /// It leads back in a loop at this depth, and the loop's counter pays for the turn.
@@ -19,7 +19,7 @@ pub(crate) enum Cut {
 }
 
 /// A way from a place to another.
-#[derive(Clone, Copy, Debug)]
+#[derive(Clone, Copy)]
 pub(crate) struct Way {
     pub(crate) from: usize,
     pub(crate) to: usize,
@@ -33,7 +33,7 @@ pub(crate) struct Way {
 }
 
 /// A place of the program.
-#[derive(Clone, Copy, Debug)]
+#[derive(Clone, Copy)]
 pub(crate) struct Node {
     /// The number of its first way.
     pub(crate) first: usize,
@@ -46,7 +46,7 @@ pub(crate) struct Node {
 }
 
 /// The places and the ways between them.
-#[derive(Debug, Drop)]
+#[derive(Drop)]
 pub(crate) struct Graph {
     pub(crate) nodes: Vec<Node>,
     /// In the order of the places where they begin.

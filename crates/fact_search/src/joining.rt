@@ -6,7 +6,7 @@ ghost use Rattle.facts.specs.Rows.{IsRow, RowCovers, SpansCover, row_view};
 ghost use Rattle.fact_search.specs.Searching.{IsJoined};
 
 use crate::widening::Stops;
-use board::Board;
+use board::{Board, board_is_valid};
 use facts::{Part, Row, Span};
 use std::alloc::{AllocError, Global};
 
@@ -16,7 +16,7 @@ pub(crate) fn without_ticks(board: &Board, mut row: Row) -> Row
     ensures row { IsRow board.now (row_view result) }
     ensures same { row_view result ≡ without_ticks (row_view row) }
 {
-    let _rails = board.rails();
+    board_is_valid(board);
     row.base = 0;
     row.coeffs = [0; 4];
     row
@@ -34,7 +34,7 @@ pub(crate) fn joined(
     ensures { IfOk result
         (λ r. IsJoined board.now (row_view r) (row_view row.now) (row_view other.now)) }
 {
-    let _rails = board.rails();
+    board_is_valid(board);
     let mut joined = row.join(alloc, other)?;
     joined.base = 0;
     joined.coeffs = [0; 4];
@@ -59,7 +59,7 @@ pub(crate) fn widened(board: &Board, stops: &Stops, old: &Row, mut row: Row) -> 
     ensures row { IsRow board.now (row_view result) }
     ensures covers { RowCovers board.now (row_view result) (row_view row) }
 {
-    let _rails = board.rails();
+    board_is_valid(board);
     let mut regs = row.regs;
     widen(stops, &old.regs, &mut regs, u16::MAX);
     let mut counters = row.counters;

@@ -20,7 +20,7 @@ use seq_program::Program;
 use std::alloc::{AllocError, Global};
 
 /// The row of each place so far, and whether it changed since the place was visited.
-#[derive(Debug, Drop)]
+#[derive(Drop)]
 pub(crate) struct Known {
     pub rows: Vec<Option<Row>>,
     pub changed: Vec<bool>,

@@ -1,8 +1,8 @@
 ghost use Rattle.fact_search.specs.Searching.{Premises};
 
-use board::Board;
+use board::{Board, board_is_valid};
 use facts::covered_rows_follow;
-use seq_program::Program;
+use seq_program::{Program, program_is_valid};
 use table_check::tables_are_judged_by_place;
 
 /// What a search rests on.
@@ -11,6 +11,6 @@ pub(crate) fn premises(board: &Board, program: &Program)
 {
     covered_rows_follow();
     tables_are_judged_by_place();
-    let _rails = board.rails();
-    let _places = program.places();
+    board_is_valid(board);
+    program_is_valid(program);
 }

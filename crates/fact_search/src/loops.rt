@@ -16,7 +16,7 @@ use std::alloc::{AllocError, Global};
 const MOST_TICKS: u64 = 1 << 40;
 
 /// The ticks that are left at a place, at most: a base, and a coefficient for each counter.
-#[derive(Clone, Copy, Debug)]
+#[derive(Clone, Copy)]
 pub(crate) struct Ticks {
     pub base: u64,
     pub coeffs: [u64; 4],

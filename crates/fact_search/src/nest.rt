@@ -9,7 +9,7 @@ use std::alloc::{AllocError, Global};
 const MOST_DEPTHS: usize = 6;
 
 /// A loop: places each of which leads to each other one.
-#[derive(Clone, Copy, Debug)]
+#[derive(Clone, Copy)]
 pub(crate) struct Loop {
     pub(crate) least_place: usize,
     /// The counters that are set inside.
@@ -39,7 +39,7 @@ impl Loop {
 }
 
 /// The loops of a program.
-#[derive(Debug, Drop)]
+#[derive(Drop)]
 pub(crate) struct Nest {
     pub(crate) loops: Vec<Loop>,
     /// At each depth the loop of each place.

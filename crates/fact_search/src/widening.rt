@@ -12,7 +12,7 @@ use std::alloc::{AllocError, Global};
 const MOST_SUMS: usize = 4096;
 
 /// The numbers at which a span stops that grows along a jump back, ascending.
-#[derive(Debug, Drop)]
+#[derive(Drop)]
 pub(crate) struct Stops {
     numbers: Vec<u16>,
 }

@@ -262,8 +262,8 @@ abbrev pub counter_in : Row → ℕ → Span → Row
 counter_in row c s = record row { counters = slice_set row.counters c s }
 
 -- a counter that is set pays what its least value was worth
-abbrev pub counted : Row → ℕ → ℕ → Row
-counted row c value =
+abbrev pub with_counter : Row → ℕ → ℕ → Row
+with_counter row c value =
     record row {
       counters = slice_set row.counters c (one value);
       base = row.base + slice_index row.coeffs c * Span.lo (span_at row.counters c);
@@ -298,7 +298,7 @@ other_edges place (instr.Above r value jump) row =
     (reg_in row r (above (span_at row.regs r) value))
     ++ edge_if (nat_le (Span.lo (span_at row.regs r)) value) (place + 1)
     (reg_in row r (up_to (span_at row.regs r) value))
-other_edges place (instr.Count c value) row = edge (place + 1) (counted row c value) ∷ []
+other_edges place (instr.Count c value) row = edge (place + 1) (with_counter row c value) ∷ []
 other_edges place (instr.Again c jump) row =
     edge_if (nat_le 1 (Span.hi (span_at row.counters c))) jump (taken_off row c)
     ++ edge_if (Span.lo (span_at row.counters c) == 0) (place + 1) (counter_in row c (one 0))

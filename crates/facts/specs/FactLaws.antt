@@ -3,7 +3,7 @@ use Rattle.std.specs.Prelude.{◌≡◌, ℕ, List, length, replicate}
 use Rattle.board.specs.Boards.{Board}
 use Rattle.board.specs.Valid.{IsBoard}
 use Rattle.seq_program.specs.declared.instr.Instr.{Instr}
-use Rattle.seq_program.specs.Valid.{IsInstr, IsSaid}
+use Rattle.seq_program.specs.Valid.{IsInstr, IsInstrOn}
 use Rattle.facts.specs.declared.rule.Rule.{Rule}
 use Rattle.facts.specs.declared.rule.Rule.TheVariants.{K1}
 use Rattle.simulator.specs.Machines.{Machine, Entry}
@@ -41,13 +41,13 @@ CoveringRowsAdmit =
 abbrev pub DutiesAreKept : Type 0
 DutiesAreKept =
     (b : Board) (i : Instr) (s u : Row) (rule : Rule)
-    → IsSaid (length b.targets) i → Wider b s u → Meets b s i rule → Meets b u i rule
+    → IsInstrOn (length b.targets) i → Wider b s u → Meets b s i rule → Meets b u i rule
 
 -- the wider row's edges cover the other's
 abbrev pub EdgesFollow : Type 0
 EdgesFollow =
     (b : Board) (place : ℕ) (i : Instr) (s u : Row)
-    → IsBoard b → IsSaid (length b.targets) i → Wider b s u
+    → IsBoard b → IsInstrOn (length b.targets) i → Wider b s u
     → EdgesCover b (edges b place i s) (edges b place i u)
 
 -- where K1 is met, edges of a row of the board have such rows, whatever their ticks are

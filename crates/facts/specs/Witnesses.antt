@@ -4,7 +4,7 @@ use Rattle.pmbus_table.specs.Protect.{is_protection}
 use Rattle.board.specs.Boards.{Target, Board}
 use Rattle.board.specs.Valid.{IsBoard, is_page_value}
 use Rattle.seq_program.specs.declared.instr.Instr.{Instr}
-use Rattle.seq_program.specs.Valid.{IsSaid}
+use Rattle.seq_program.specs.Valid.{IsInstrOn}
 use Rattle.simulator.specs.Machines.{Machine, Entry}
 use Rattle.facts.specs.declared.rule.Rule.{Rule}
 use Rattle.facts.specs.declared.source.Source.TheVariants as source
@@ -48,7 +48,7 @@ pub record SomeRowIsWider : Type 0 where
   pub wide : Row
   pub row : Row
   pub is_board : IsBoard board
-  pub said : IsSaid (length board.targets) instr
+  pub said : IsInstrOn (length board.targets) instr
   pub sends : IsSome (sent_in instr)
   pub wider : Wider board wide row
   pub meets : (rule : Rule) → Meets board wide instr rule

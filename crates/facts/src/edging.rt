@@ -16,8 +16,8 @@ use crate::row::Row;
 use crate::sending::sent_ways;
 use crate::ticks::worst_ticks;
 use crate::ways::{Way, Ways};
-use board::Board;
-use seq_program::{Instr, Program};
+use board::{Board, board_is_valid};
+use seq_program::{Instr, Program, program_is_valid};
 use std::alloc::{AllocError, Global};
 
 /// The ways of an instruction that meets its first duty.
@@ -77,13 +77,6 @@ fn instr_edges(
     listed(alloc, ways, worst_ticks(board, instr))
 }
 
-/// What every board keeps to.
-fn board_law(board: &Board)
-    ensures { IsBoard board.now }
-{
-    let _rails = board.rails();
-}
-
 /// Where a place's instruction may lead, the row there, and the most ticks on the way. The
 /// instruction meets its first duty at the row. A place that the program hasn't leads nowhere.
 pub fn edges(
@@ -101,9 +94,9 @@ pub fn edges(
         ≡ timed (worst_ticks board.now i) (edges board.now place i (row_view row.now)))) }
     ensures nowhere { slice_get program.now place ≡ None → IfOk result (λ es. es.items ≡ []) }
 {
-    board_law(board);
+    board_is_valid(board);
     // By its type a program has at most 1024 places.
-    let _places = program.places();
+    program_is_valid(program);
     match program.at(place) {
         Some(instr) => instr_edges(alloc, board, place, instr, row),
         None => Ok(Vec::new(alloc)),

@@ -6,7 +6,7 @@ ghost use Rattle.std.specs.Prelude.{IfOk, slice_index};
 ghost use Rattle.facts.specs.Rows.{row_view, most_ticks, source_at, span_at};
 ghost use Rattle.facts.specs.declared.span.Span.{Span};
 ghost use Rattle.facts.specs.Edges.{edge, edge_if, above, up_to, reg_in, counter_in, taken_off};
-ghost use Rattle.facts.specs.Edges.{other_edges, with_reg, a_byte, plus, counted, one_off};
+ghost use Rattle.facts.specs.Edges.{other_edges, with_reg, a_byte, plus, with_counter, one_off};
 ghost use Rattle.facts.specs.Duties.{one};
 ghost use Rattle.facts.specs.Ways.{way_list, ways_list, IsFit};
 ghost use Rattle.facts.specs.declared.source.Source.TheVariants as source;
@@ -14,7 +14,7 @@ ghost use Rattle.facts.specs.declared.source.Source.TheVariants as source;
 use crate::allowing::one;
 use crate::branching::if_ways;
 use crate::moves::{
-    above, copied, counted, counter_in, plus, reg_at, reg_in, taken_off, up_to, with_reg,
+    above, copied, with_counter, counter_in, plus, reg_at, reg_in, taken_off, up_to, with_reg,
 };
 use crate::row::Row;
 use crate::source::Source;
@@ -135,9 +135,9 @@ fn count_ways(row: &Row, counter: usize, value: u16, to: usize) -> Result<Ways, 
     requires base { row.now.base ≤ most_ticks }
     requires coeff { slice_index row.now.coeffs counter ≤ most_ticks }
     ensures { IfOk result (λ w. ways_list w
-        ≡ edge to (counted (row_view row.now) counter value) ∷ []) }
+        ≡ edge to (with_counter (row_view row.now) counter value) ∷ []) }
 {
-    let row = counted(copied(row)?, counter, value);
+    let row = with_counter(copied(row)?, counter, value);
     Ok(one_way(to, row))
 }
 

@@ -67,7 +67,7 @@ fn is_plain_read(form: Form) -> bool
 impl Command {
     ghost use Rattle.std.specs.Prelude.{◌≡◌, ℕ, IsTrue, true};
     ghost use Rattle.pmbus_table.specs.Commands.{is_command, form_written, form_read, is_paged};
-    ghost use Rattle.pmbus_table.specs.Commands.{takes_form, counts_as_write};
+    ghost use Rattle.pmbus_table.specs.Commands.{is_manufacturer, takes_form, counts_as_write};
 
     /// The command's code.
     pub fn code(self) -> u8
@@ -75,6 +75,13 @@ impl Command {
         ensures known { IsTrue (is_command self) }
     {
         self.code
+    }
+
+    /// Whether it is a manufacturer command, D0h to FDh (PMBus 1.3 Part II, appendix I).
+    pub fn is_manufacturer(self) -> bool
+        ensures { result ≡ is_manufacturer self }
+    {
+        is_manufacturer(self.code)
     }
 
     /// The form that writes a named command, if this profile has one; `None` for a manufacturer's.

@@ -12,7 +12,7 @@ mod table;
 mod voltage;
 
 pub use command::{Command, by_code};
-pub use name::{by_name, name_of};
+pub use name::{by_name, manufacturer_named, name_of};
 pub use operation::enables;
 pub use protect::permits;
 pub use status::{StatusWord, reported_good};

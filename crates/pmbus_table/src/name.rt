@@ -1,14 +1,16 @@
-ghost use Rattle.std.specs.Prelude.{◌≡◌, ℕ, IsTrue, IfSome, IfOk, Some, string_bytes};
-ghost use Rattle.pmbus_table.specs.Commands.{is_command, manufacturer_named, command_named};
-ghost use Rattle.pmbus_table.specs.Commands.{name_text};
+ghost use Rattle.std.specs.Prelude.{◌≡◌, ℕ, IsTrue, true, IfSome, IfOk, Some, string_bytes};
+ghost use Rattle.pmbus_table.specs.Commands.{is_manufacturer, is_command, manufacturer_named};
+ghost use Rattle.pmbus_table.specs.Commands.{command_named, name_text};
 
 use crate::command::{Command, by_code, is_manufacturer};
 use crate::table::{row_named, row_of};
 use std::alloc::{AllocError, Global};
 use texts::{pair_of, push_pair};
 
-fn manufacturer_named(name: &str) -> Option<Command>
-    ensures { result ≡ manufacturer_named name.now }
+/// The manufacturer command of two upper case hexadecimal digits.
+pub fn manufacturer_named(name: &str) -> Option<Command>
+    ensures value { result ≡ manufacturer_named name.now }
+    ensures manufacturer { IfSome result (λ c. is_manufacturer c ≡ true) }
 {
     let code = pair_of(name)?;
     if is_manufacturer(code) {

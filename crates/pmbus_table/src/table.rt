@@ -5,7 +5,7 @@ ghost use Rattle.pmbus_table.specs.Rows.{row_view, find_code, find_name};
 use smbus::Form;
 
 /// How a command goes over the bus, and whether PAGE selects what it is about.
-#[derive(Clone, Copy, Debug)]
+#[derive(Clone, Copy)]
 pub(crate) struct Row {
     pub code: u8,
     pub written: Option<Form>,

@@ -12,12 +12,12 @@ use Rattle.seq_program.specs.declared.instr.Instr.{Instr}
 use Rattle.seq_program.specs.declared.line.MessageWord.{MessageWord}
 use Rattle.seq_program.specs.declared.line.JumpWord.{JumpWord}
 use Rattle.seq_program.specs.declared.line.PlainWord.{PlainWord}
-use Rattle.seq_program.specs.declared.line.Said.{Said}
+use Rattle.seq_program.specs.declared.line.LineInstr.{LineInstr}
 use Rattle.seq_program.specs.Labels.{Label, label_in, places_on, place_of}
 use Rattle.seq_program.specs.Lines.{message_word, jump_word, plain_word, split_else, split_label}
 use Rattle.seq_program.specs.Lines.{message_line, jump_line, plain_line, message_of, jump_of}
 use Rattle.seq_program.specs.Lines.{instr_of}
-use Rattle.seq_program.specs.Passes.{Pass, after_instr, after_words}
+use Rattle.seq_program.specs.Passes.{InstrsSoFar, after_instr, after_words}
 use Rattle.seq_program.specs.Valid.{jump_in}
 use Rattle.seq_program.specs.PrintedWords.{place_name}
 use Rattle.seq_program.specs.Printed.{else_words, words_in}
@@ -65,11 +65,11 @@ label_split_back n front place few =
     rw (enough, at_label, last, before, label_back place few) refl
 
 -- an instruction whose label is known
-abbrev known : Instr → Said
+abbrev known : Instr → LineInstr
 known i = record { instr = i; is_known = true }
 
 -- a line adds its instruction
-instr_read : (board : Board) (labels : List Label) (n : ℕ) (pass : Pass) (i : Instr)
+instr_read : (board : Board) (labels : List Label) (n : ℕ) (pass : InstrsSoFar) (i : Instr)
     (word : List ℕ) (words : List (List ℕ)) → label_in (word ∷ words) ≡ None
     → instr_of board labels n word words ≡ Ok (known i) → length pass.instrs < 1024
     → after_words board labels n pass (word ∷ words) ≡ Ok (with_instr pass i)

@@ -19,7 +19,7 @@ use Rattle.seq_program.specs.declared.instr.Instr.{Instr}
 use Rattle.seq_program.specs.Operands.{label_of}
 use Rattle.seq_program.specs.Labels.{Label, words_on, label_name, label_in, places_on, labels_from}
 use Rattle.seq_program.specs.Labels.{label_named, place_of}
-use Rattle.seq_program.specs.Passes.{Pass, after_words, after_line, after_lines}
+use Rattle.seq_program.specs.Passes.{InstrsSoFar, after_words, after_line, after_lines}
 use Rattle.seq_program.specs.Valid.{jump_in}
 use Rattle.seq_program.specs.PrintedWords.{place_name}
 use Rattle.seq_program.specs.Printed.{words_in, place_lines}
@@ -39,7 +39,7 @@ abbrev pub printed_labels : ℕ → List Instr → List Label
 printed_labels place [] = []
 printed_labels place (i ∷ instrs) = label_at place ∷ printed_labels (place + 1) instrs
 
-abbrev pub with_instr : Pass → Instr → Pass
+abbrev pub with_instr : InstrsSoFar → Instr → InstrsSoFar
 with_instr pass i = record { instrs = pass.instrs ++ i ∷ []; unknown = pass.unknown }
 
 -- the label of its jump leads to its place
@@ -51,7 +51,7 @@ pub record ReadsBack (board : Board) (i : Instr) : Type 0 where
   pub words : list_all is_word (words_in board i) ≡ true
   pub unlabeled : label_in (words_in board i) ≡ None
   pub placed : places_on (words_in board i) None ≡ 1
-  pub read : (labels : List Label) (n : ℕ) (pass : Pass) → IsFound labels i
+  pub read : (labels : List Label) (n : ℕ) (pass : InstrsSoFar) → IsFound labels i
       → length pass.instrs < 1024
       → after_words board labels n pass (words_in board i) ≡ Ok (with_instr pass i)
 
@@ -89,14 +89,14 @@ label_alone place few = named (place_name place) ∙ label_back place few
 same_line : (n : ℕ) → (n == n) ≡ true
 same_line n = grind (arith, nat_tests)
 
-label_read : (board : Board) (labels : List Label) (place : ℕ) (pass : Pass) → place < 1024
+label_read : (board : Board) (labels : List Label) (place : ℕ) (pass : InstrsSoFar) → place < 1024
     → label_named (place_name place) labels ≡ Some (label_at place)
     → after_words board labels (line_at place) pass (label_word place ∷ []) ≡ Ok pass
 label_read board labels place pass few found =
     rw (label_alone place few, found, same_line (line_at place)) refl
 
 -- a line is read by its words
-line_read : (board : Board) (labels : List Label) (n : ℕ) (pass : Pass) (words : List (List ℕ))
+line_read : (board : Board) (labels : List Label) (n : ℕ) (pass : InstrsSoFar) (words : List (List ℕ))
     → list_all is_word words ≡ true
     → after_line board labels n pass (join_with_byte 32 words)
     ≡ after_words board labels n pass words
@@ -154,11 +154,11 @@ abbrev AreNamed : List Label → ℕ → ℕ → Type 0
 AreNamed labels place count = (p : ℕ) → place ≤ p → p < place + count
     → label_named (place_name p) labels ≡ Some (label_at p)
 
-abbrev pub pass_with : List Instr → Pass → Pass
+abbrev pub pass_with : List Instr → InstrsSoFar → InstrsSoFar
 pass_with instrs pass = record { instrs = instrs; unknown = pass.unknown }
 
 pub places_read : (board : Board) (labels : List Label) (instrs : List Instr) (place : ℕ)
-    (pass : Pass) → length pass.instrs ≡ place → place + length instrs ≤ 1024
+    (pass : InstrsSoFar) → length pass.instrs ≡ place → place + length instrs ≤ 1024
     → AreNamed labels place (length instrs) → All (ReadsBack board) instrs
     → All (IsFound labels) instrs
     → after_lines board labels (line_at place) pass (texts_from board place instrs)
@@ -167,7 +167,7 @@ places_read board labels [] place pass here few named back found = rw (append-ni
 places_read board labels (i ∷ instrs) place pass here few named back found =
     let less : place < 1024 = omega arith in
     let own : ReadsBack board i = All-head (ReadsBack board) i instrs back in
-    let after : Pass = with_instr pass i in
+    let after : InstrsSoFar = with_instr pass i in
     let lines : line_at place + 1 + 1 ≡ line_at (place + 1) = omega arith in
     let first : after_line board labels (line_at place) pass
     (join_with_byte 32 (label_word place ∷ [])) ≡ Ok pass =

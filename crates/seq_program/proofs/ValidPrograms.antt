@@ -11,15 +11,15 @@ use Rattle.seq_program.specs.declared.instr.Instr.{Instr}
 use Rattle.seq_program.specs.Labels.{Label, place_of}
 use Rattle.seq_program.specs.PassViews.{AreBelow, IsAmong, Lands}
 use Rattle.seq_program.specs.Programs.{is_end, is_some_end, ends}
-use Rattle.seq_program.specs.Valid.{IsSaid, IsOnBoard, IsProgram}
+use Rattle.seq_program.specs.Valid.{IsInstrOn, IsOnBoard, IsProgram}
 
 -- an instruction more, where there is room
 pub one_more : (targets : ℕ) (before after : List Instr) (i : Instr) → after ≡ before ++ i ∷ []
-    → length before < 1024 → All (λ i. IsSaid targets i) before → IsSaid targets i
-    → (length after ≤ 1024) × All (λ i. IsSaid targets i) after
+    → length before < 1024 → All (λ i. IsInstrOn targets i) before → IsInstrOn targets i
+    → (length after ≤ 1024) × All (λ i. IsInstrOn targets i) after
 one_more targets before after i e room said new =
     let size : length (before ++ i ∷ []) ≡ length before + 1 = length-append before (i ∷ []) in
-    rw e (omega (arith, size, room), All-push (λ i. IsSaid targets i) before i said new)
+    rw e (omega (arith, size, room), All-push (λ i. IsInstrOn targets i) before i said new)
 
 pub is_known_if : (known : Bool) → not known ≡ false → IsTrue known
 is_known_if true e = refl
@@ -66,7 +66,7 @@ nonempty (i ∷ instrs) t = omega arith
 
 -- what was read for a board, and ends
 pub is_program : (targets : ℕ) (labels : List Label) (instrs : List Instr)
-    → length instrs ≤ 1024 → All (λ i. IsSaid targets i) instrs
+    → length instrs ≤ 1024 → All (λ i. IsInstrOn targets i) instrs
     → All (λ i. Lands labels i) instrs → ends labels instrs ≡ true → IsProgram instrs
 is_program targets labels instrs few said lands t =
     let parts = and_parts (is_some_end (slice_get instrs (length instrs - 1)))
@@ -79,6 +79,6 @@ is_program targets labels instrs few said lands t =
       last = ends_in (slice_get instrs (length instrs - 1)) parts.0;
     }
 
-pub on_board : (targets : ℕ) (instrs : List Instr) → All (λ i. IsSaid targets i) instrs
+pub on_board : (targets : ℕ) (instrs : List Instr) → All (λ i. IsInstrOn targets i) instrs
     → All (λ i. IsOnBoard targets i) instrs
 on_board targets instrs said = λ k d less. (said k d less).1

@@ -5,10 +5,11 @@ use Rattle.std.specs.List.{list_any, before_first}
 use Rattle.std.specs.Str.{bytes_eq}
 use Rattle.texts.specs.Words.{words_of}
 use Rattle.seq_program.specs.Operands.{label_of}
+use Rattle.texts.specs.Ascii as ascii
 
 -- what stands before a `#`
 abbrev pub without_comment : List ℕ → List ℕ
-without_comment line = before_first (λ b. b == 35) line
+without_comment line = before_first (λ b. b == ascii.number_sign) line
 
 abbrev pub words_on : List ℕ → List (List ℕ)
 words_on line = words_of (without_comment line)
@@ -16,7 +17,7 @@ words_on line = words_of (without_comment line)
 -- the name before a colon
 abbrev pub label_name : List ℕ → Option (List ℕ)
 label_name word =
-    if slice_index word (length word - 1) == 58 then label_of (take (length word - 1) word)
+    if slice_index word (length word - 1) == ascii.colon then label_of (take (length word - 1) word)
     else None
 
 -- the label that a line's words are: one word with a colon

@@ -15,7 +15,7 @@ use Rattle.seq_program.specs.declared.line.JumpWord.TheVariants as jump
 use Rattle.seq_program.specs.declared.line.PlainWord.{PlainWord}
 use Rattle.seq_program.specs.declared.line.PlainWord.TheVariants as plain
 use Rattle.seq_program.specs.declared.line.Jump.{Jump}
-use Rattle.seq_program.specs.declared.line.Said.{Said}
+use Rattle.seq_program.specs.declared.line.LineInstr.{LineInstr}
 use Rattle.seq_program.specs.Operands.{label_of}
 use Rattle.seq_program.specs.Labels.{Label, place_of}
 use Rattle.seq_program.specs.MessageLines.{Parsed, quick_of, send_of, receive_of, write_of, read_of}
@@ -115,31 +115,31 @@ jump_to labels name = record {
 }
 
 -- an instruction whose label is known or not
-abbrev pub said : Bool → Parsed → Result Said ProgramFault
-said is_known parsed = parsed >>= λ i. Ok (record { instr = i; is_known = is_known })
+abbrev pub line_instr : Bool → Parsed → Result LineInstr ProgramFault
+line_instr is_known parsed = parsed >>= λ i. Ok (record { instr = i; is_known = is_known })
 
 unfoldable pub message_of : Board → List Label → ℕ → MessageWord → List (List ℕ)
-    → Result Said ProgramFault
+    → Result LineInstr ProgramFault
 message_of board labels n word words = do
   parts ← split_else n words
-  said (jump_to labels parts.1).is_known
+  line_instr (jump_to labels parts.1).is_known
       (message_line board n word (jump_to labels parts.1).place parts.0)
 
-unfoldable pub jump_of : List Label → ℕ → JumpWord → List (List ℕ) → Result Said ProgramFault
+unfoldable pub jump_of : List Label → ℕ → JumpWord → List (List ℕ) → Result LineInstr ProgramFault
 jump_of labels n word words = do
   parts ← split_label n words
-  said (jump_to labels parts.1).is_known
+  line_instr (jump_to labels parts.1).is_known
       (jump_line n word (jump_to labels parts.1).place parts.0)
 
 abbrev pub worded : Board → List Label → ℕ → Option MessageWord → Option JumpWord
-    → Option PlainWord → List (List ℕ) → Result Said ProgramFault
+    → Option PlainWord → List (List ℕ) → Result LineInstr ProgramFault
 worded board labels n (Some word) jumping other words = message_of board labels n word words
 worded board labels n None (Some word) other words = jump_of labels n word words
-worded board labels n None None (Some word) words = said true (plain_line n word words)
+worded board labels n None None (Some word) words = line_instr true (plain_line n word words)
 worded board labels n None None None words = Err (UnknownWord n)
 
 -- what a line's words say
 unfoldable pub instr_of : Board → List Label → ℕ → List ℕ → List (List ℕ)
-    → Result Said ProgramFault
+    → Result LineInstr ProgramFault
 instr_of board labels n word words =
     worded board labels n (message_word word) (jump_word word) (plain_word word) words

@@ -8,20 +8,22 @@ use Rattle.std.specs.Str.Parse.{digits_value}
 use Rattle.texts.specs.Decimal.{decimal_within}
 use Rattle.texts.specs.Hex.{pairs_of}
 use Rattle.texts.specs.Names.{is_name}
+use Rattle.texts.specs.Ascii as ascii
 
 -- a letter and a digit below a limit
 abbrev pub numbered : ℕ → ℕ → List ℕ → Option ℕ
 numbered letter limit (first ∷ digit ∷ []) =
-    if (first == letter) && (nat_le 48 digit && nat_lt digit (limit + 48)) then Some (digit - 48)
-    else None
+    if (first == letter)
+    && (nat_le ascii.digit_zero digit && nat_lt digit (limit + ascii.digit_zero))
+    then Some (digit - ascii.digit_zero) else None
 numbered letter limit _ = None
 
 -- r0 to r7, c0 to c3
 abbrev pub register_of : List ℕ → Option ℕ
-register_of word = numbered 114 8 word
+register_of word = numbered ascii.lower_r 8 word
 
 abbrev pub counter_of : List ℕ → Option ℕ
-counter_of word = numbered 99 4 word
+counter_of word = numbered ascii.lower_c 4 word
 
 -- the name of a label
 abbrev pub label_of : List ℕ → Option (List ℕ)
@@ -36,7 +38,9 @@ direction_of word =
 -- 0 to 9, A to F or a to f
 abbrev pub is_digit : ℕ → Bool
 is_digit c =
-    ((nat_le 48 c && nat_le c 57) || (nat_le 65 c && nat_le c 70)) || (nat_le 97 c && nat_le c 102)
+    ((nat_le ascii.digit_zero c && nat_le c ascii.digit_nine)
+    || (nat_le ascii.upper_a c && nat_le c ascii.upper_f))
+    || (nat_le ascii.lower_a c && nat_le c ascii.lower_f)
 
 -- one to four hexadecimal digits of either case
 abbrev pub hexadecimal_of : List ℕ → Option ℕ

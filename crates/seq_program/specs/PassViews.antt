@@ -7,10 +7,10 @@ use Rattle.std.specs.declared.alloc.Global.{Global}
 use Rattle.indexmap.specs.IndexMap.{IndexMap}
 use Rattle.seq_program.specs.declared.instr.Instr.{Instr}
 use Rattle.seq_program.specs.declared.labels.LabelAt.{LabelAt}
-use Rattle.seq_program.specs.declared.pass.Pass.{Pass}
+use Rattle.seq_program.specs.declared.pass.InstrsSoFar.{InstrsSoFar}
 use Rattle.seq_program.specs.Labels.{Label}
 use Rattle.seq_program.specs.Passes as specs
-use Rattle.seq_program.specs.Valid.{IsSaid, jump_in}
+use Rattle.seq_program.specs.Valid.{IsInstrOn, jump_in}
 
 abbrev pub label_view : String Global × LabelAt → Label
 label_view e = record { name = string_bytes e.0; place = e.1.place; line = e.1.line }
@@ -18,7 +18,7 @@ label_view e = record { name = string_bytes e.0; place = e.1.place; line = e.1.l
 abbrev pub labels_view : {S : Type 0} → IndexMap (String Global) LabelAt S → List Label
 labels_view m = map label_view m.entries
 
-abbrev pub pass_view : Pass → specs.Pass
+abbrev pub pass_view : InstrsSoFar → specs.InstrsSoFar
 pass_view p = record { instrs = p.instrs.items; unknown = p.unknown }
 
 -- each label stands before so many places
@@ -35,8 +35,8 @@ Lands labels i = IfSome (jump_in i) (λ place. IsAmong labels place)
 
 -- instructions that were read for a board, no more than a program has; if no label was unknown,
 -- their jumps land
-abbrev pub IsPass : ℕ → List Label → Pass → Type 0
-IsPass targets labels pass =
+abbrev pub AreInstrsSoFar : ℕ → List Label → InstrsSoFar → Type 0
+AreInstrsSoFar targets labels pass =
     (length pass.instrs.items ≤ 1024)
-    × All (λ i. IsSaid targets i) pass.instrs.items
+    × All (λ i. IsInstrOn targets i) pass.instrs.items
     × (pass.unknown ≡ None → All (λ i. Lands labels i) pass.instrs.items)

@@ -12,6 +12,7 @@ use Rattle.seq_program.specs.declared.instr.Written.{Written}
 use Rattle.seq_program.specs.declared.instr.Written.TheVariants as written
 use Rattle.seq_program.specs.PrintedWords.{place_name, register_name, counter_name, target_name}
 use Rattle.seq_program.specs.PrintedWords.{direction_name, sized_name}
+use Rattle.texts.specs.Ascii as ascii
 
 -- where a message leads that isn't done
 abbrev pub else_words : ℕ → List (List ℕ)
@@ -75,7 +76,7 @@ place_lines board e = ((place_name e.0 ++ codes ":") ∷ []) ∷ words_in board 
 
 -- one space between words, and LF at the end
 abbrev pub line_text : List (List ℕ) → List ℕ
-line_text words = join_with_byte 32 words ++ 10 ∷ []
+line_text words = join_with_byte ascii.space words ++ ascii.line_feed ∷ []
 
 abbrev pub printed : Board → List Instr → List ℕ
 printed board instrs = flat_map line_text (flat_map (place_lines board) (enumerate_from 0 instrs))

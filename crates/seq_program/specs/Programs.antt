@@ -10,7 +10,7 @@ use Rattle.seq_program.specs.declared.fault.ProgramFault.TheVariants.{UnknownLab
 use Rattle.seq_program.specs.declared.instr.Instr.{Instr}
 use Rattle.seq_program.specs.declared.instr.Instr.TheVariants as instr
 use Rattle.seq_program.specs.Labels.{Label, labels_of}
-use Rattle.seq_program.specs.Passes.{Pass, after_lines}
+use Rattle.seq_program.specs.Passes.{InstrsSoFar, after_lines}
 
 -- the program ends there
 abbrev pub is_end : Instr → Bool
@@ -29,7 +29,7 @@ ends labels instrs =
     && list_all (λ (l : Label). nat_lt l.place (length instrs)) labels
 
 -- what a text says before anything
-abbrev pub no_pass : Pass
+abbrev pub no_pass : InstrsSoFar
 no_pass = record { instrs = []; unknown = None }
 
 -- the instructions, if no line's label is unknown

@@ -105,8 +105,8 @@ abbrev pub IsOnBoard : ℕ → Instr → Type 0
 IsOnBoard targets i = IfSome (target_in i) (λ t. t < targets)
 
 -- an instruction that was read for a board
-abbrev pub IsSaid : ℕ → Instr → Type 0
-IsSaid targets i = IsInstr i × IsOnBoard targets i
+abbrev pub IsInstrOn : ℕ → Instr → Type 0
+IsInstrOn targets i = IsInstr i × IsOnBoard targets i
 
 pub record IsProgram (instrs : List Instr) : Type 0 where
   pub some : 1 ≤ length instrs

@@ -1,16 +1,14 @@
 //! Commands as words of a program.
 
 ghost use Rattle.std.specs.Prelude.{◌≡◌, option_copied, IfSome, IsTrue, true};
-ghost use Rattle.pmbus_table.specs.Commands.{is_manufacturer, is_manufacturer_form};
-ghost use Rattle.pmbus_table.specs.Commands.{manufacturer_named, takes_form};
+ghost use Rattle.pmbus_table.specs.Commands.{is_manufacturer, is_manufacturer_form, takes_form};
 ghost use Rattle.seq_program.specs.CommandWords.{form_at, command_in, width_of, named_sized};
 ghost use Rattle.seq_program.specs.CommandWords.{before, manufacturer_word, manufacturer_sized};
 ghost use Rattle.seq_program.specs.CommandWords.{sized_in};
 
 use crate::instr::Width;
-use pmbus_table::{Command, by_code, by_name};
+use pmbus_table::{Command, by_name, manufacturer_named};
 use smbus::Form;
-use texts::pair_of;
 
 /// The command of a word, if it takes the form.
 pub fn command_in(form: Form, word: &str) -> Option<Command>
@@ -25,18 +23,12 @@ pub fn command_in(form: Form, word: &str) -> Option<Command>
     }
 }
 
-fn is_manufacturer(code: u8) -> bool
-    ensures { result ≡ is_manufacturer code }
-{
-    (0xD0..=0xFD).contains(&code)
-}
-
 /// In which of two forms a named command is taken.
 fn width_of(byte: Form, word: Form, command: Command) -> Option<Width>
     ensures value { result ≡ width_of byte word command }
     ensures taken { IfSome result (λ w. IsTrue (takes_form command (form_at byte word w))) }
 {
-    if is_manufacturer(command.code()) {
+    if command.is_manufacturer() {
         None
     } else if command.takes(byte) {
         Some(Width::Byte)
@@ -54,19 +46,6 @@ fn named_sized(byte: Form, word: Form, text: &str) -> Option<(Command, Width)>
     let command = by_name(text)?;
     let width = width_of(byte, word, command)?;
     Some((command, width))
-}
-
-/// The manufacturer command of two digits.
-fn manufacturer_named(digits: &str) -> Option<Command>
-    ensures value { result ≡ manufacturer_named digits.now }
-    ensures manufacturer { IfSome result (λ c. is_manufacturer c ≡ true) }
-{
-    let code = pair_of(digits)?;
-    if is_manufacturer(code) {
-        by_code(code)
-    } else {
-        None
-    }
 }
 
 /// What stands before the ending of a word.

@@ -61,7 +61,7 @@ impl Counter {
 }
 
 /// The bytes of a block that is written, 1 to 255. Contracts see the list of them.
-#[derive(Debug, Drop)]
+#[derive(Drop)]
 pub struct Block {
     pub(crate) bytes: Vec<u8>,
 }
@@ -113,7 +113,7 @@ pub enum Written {
 
 /// An instruction. Targets are numbered as on the board, and jumps are places; `otherwise` is where
 /// a message leads that isn't done.
-#[derive(Debug, Drop)]
+#[derive(Drop)]
 pub enum Instr {
     Quick {
         target: usize,

@@ -2,7 +2,7 @@
 
 ghost use Rattle.std.specs.Prelude.{◌≡◌, ◌≤◌, ℕ, map, IfOk};
 ghost use Rattle.seq_program.specs.Reading.{Gives};
-ghost use Rattle.seq_program.specs.Valid.{IsSaid, JumpsTo};
+ghost use Rattle.seq_program.specs.Valid.{IsInstrOn, JumpsTo};
 ghost use Rattle.seq_program.specs.JumpLines.{if_alert_of, bits_of, if_of, above_of};
 ghost use Rattle.seq_program.specs.JumpLines.{again_of, goto_of};
 
@@ -12,7 +12,7 @@ use crate::message_line::{Parsed, word_in};
 use crate::operand::{counter_of, register_of};
 
 pub(crate) fn if_alert_of(line: usize, jump: usize, words: &[&str]) -> Parsed
-    ensures fits { IfOk result (λ i. (targets : ℕ) → IsSaid targets i) }
+    ensures fits { IfOk result (λ i. (targets : ℕ) → IsInstrOn targets i) }
     ensures jumps { IfOk result (λ i. JumpsTo jump i) }
     ensures value { Gives (λ i. i) result
         (if_alert_of line jump (map (λ w. w.now) words.now)) }
@@ -36,7 +36,7 @@ fn bits_of(line: usize, mask: &str, value: &str) -> Result<(u16, u16), ProgramFa
 
 #[tactic(auto, unfolding(crate::specs::JumpLines::if_of))]
 pub(crate) fn if_of(line: usize, jump: usize, words: &[&str]) -> Parsed
-    ensures fits { IfOk result (λ i. (targets : ℕ) → IsSaid targets i) }
+    ensures fits { IfOk result (λ i. (targets : ℕ) → IsInstrOn targets i) }
     ensures jumps { IfOk result (λ i. JumpsTo jump i) }
     ensures value { Gives (λ i. i) result (if_of line jump (map (λ w. w.now) words.now)) }
 {
@@ -55,7 +55,7 @@ pub(crate) fn if_of(line: usize, jump: usize, words: &[&str]) -> Parsed
 
 #[tactic(auto, unfolding(crate::specs::JumpLines::above_of))]
 pub(crate) fn above_of(line: usize, jump: usize, words: &[&str]) -> Parsed
-    ensures fits { IfOk result (λ i. (targets : ℕ) → IsSaid targets i) }
+    ensures fits { IfOk result (λ i. (targets : ℕ) → IsInstrOn targets i) }
     ensures jumps { IfOk result (λ i. JumpsTo jump i) }
     ensures value { Gives (λ i. i) result
         (above_of line jump (map (λ w. w.now) words.now)) }
@@ -74,7 +74,7 @@ pub(crate) fn above_of(line: usize, jump: usize, words: &[&str]) -> Parsed
 
 #[tactic(auto, unfolding(crate::specs::JumpLines::again_of))]
 pub(crate) fn again_of(line: usize, jump: usize, words: &[&str]) -> Parsed
-    ensures fits { IfOk result (λ i. (targets : ℕ) → IsSaid targets i) }
+    ensures fits { IfOk result (λ i. (targets : ℕ) → IsInstrOn targets i) }
     ensures jumps { IfOk result (λ i. JumpsTo jump i) }
     ensures value { Gives (λ i. i) result
         (again_of line jump (map (λ w. w.now) words.now)) }
@@ -87,7 +87,7 @@ pub(crate) fn again_of(line: usize, jump: usize, words: &[&str]) -> Parsed
 }
 
 pub(crate) fn goto_of(line: usize, jump: usize, words: &[&str]) -> Parsed
-    ensures fits { IfOk result (λ i. (targets : ℕ) → IsSaid targets i) }
+    ensures fits { IfOk result (λ i. (targets : ℕ) → IsInstrOn targets i) }
     ensures jumps { IfOk result (λ i. JumpsTo jump i) }
     ensures value { Gives (λ i. i) result
         (goto_of line jump (map (λ w. w.now) words.now)) }

@@ -19,7 +19,7 @@ use std::alloc::Global;
 use texts::{first_by_feed, words_of};
 
 /// The place that a label names, and its line.
-#[derive(Clone, Copy, Debug)]
+#[derive(Clone, Copy)]
 pub(crate) struct LabelAt {
     pub place: usize,
     pub line: usize,

@@ -1,4 +1,7 @@
 ghost use Rattle.seq_program.specs.PrintedLaw.{PrintedProgramsReadBack, BoardsHavePrograms};
+ghost use Rattle.seq_program.specs.Valid.{IsProgram};
+
+use crate::program::Program;
 
 /// A program of a board, printed with a label at each place, is read as itself.
 pub fn printed_programs_read_back()
@@ -6,3 +9,11 @@ pub fn printed_programs_read_back()
     // There are such programs.
     ensures case { BoardsHavePrograms }
 {}
+
+/// What every program keeps to: it has 1 to 1024 instructions, whose jumps land, and ends.
+pub fn program_is_valid(program: &Program)
+    ensures { IsProgram program.now }
+{
+    // It is what a reader says of the program that it reads.
+    let _places = program.places();
+}

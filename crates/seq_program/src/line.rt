@@ -2,7 +2,7 @@
 
 ghost use Rattle.std.specs.Prelude.{◌≡◌, ℕ, length, map, option_copied, IfOk, IsTrue, None};
 ghost use Rattle.seq_program.specs.Reading.{Gives};
-ghost use Rattle.seq_program.specs.Valid.{IsSaid, JumpsTo, jump_in};
+ghost use Rattle.seq_program.specs.Valid.{IsInstrOn, JumpsTo, jump_in};
 ghost use Rattle.seq_program.specs.PassViews.{labels_view, IsAmong, Lands};
 ghost use Rattle.seq_program.specs.Lines.{message_word, jump_word, plain_word, else_label};
 ghost use Rattle.seq_program.specs.Lines.{split_else, split_label, message_line, jump_line};
@@ -18,7 +18,7 @@ use board::Board;
 use std::alloc::Global;
 
 /// The first word of a line that sends a message.
-#[derive(Clone, Copy, Debug, PartialEq, Eq)]
+#[derive(Clone, Copy)]
 pub(crate) enum MessageWord {
     Quick,
     Send,
@@ -33,7 +33,7 @@ pub(crate) enum MessageWord {
 }
 
 /// The first word of a line that jumps and sends nothing.
-#[derive(Clone, Copy, Debug, PartialEq, Eq)]
+#[derive(Clone, Copy)]
 pub(crate) enum JumpWord {
     IfAlert,
     If,
@@ -43,7 +43,7 @@ pub(crate) enum JumpWord {
 }
 
 /// The first word of another line.
-#[derive(Clone, Copy, Debug, PartialEq, Eq)]
+#[derive(Clone, Copy)]
 pub(crate) enum PlainWord {
     Set,
     Add,
@@ -54,15 +54,15 @@ pub(crate) enum PlainWord {
 }
 
 /// Where a label leads: to some place if it stands nowhere.
-#[derive(Clone, Copy, Debug)]
+#[derive(Clone, Copy)]
 pub(crate) struct Jump {
     pub place: usize,
     pub is_known: bool,
 }
 
 /// An instruction, and whether the label of its jump stands anywhere.
-#[derive(Debug, Drop)]
-pub(crate) struct Said {
+#[derive(Drop)]
+pub(crate) struct LineInstr {
     pub instr: Instr,
     pub is_known: bool,
 }
@@ -162,7 +162,7 @@ fn message_line(
     otherwise: usize,
     words: &[&str],
 ) -> Parsed
-    ensures fits { IfOk result (λ i. IsSaid (length board.now.targets) i) }
+    ensures fits { IfOk result (λ i. IsInstrOn (length board.now.targets) i) }
     ensures jumps { IfOk result (λ i. JumpsTo otherwise i) }
     ensures value { Gives (λ i. i) result
         (message_line board.now line word otherwise (map (λ w. w.now) words.now)) }
@@ -182,7 +182,7 @@ fn message_line(
 }
 
 fn jump_line(line: usize, word: JumpWord, place: usize, words: &[&str]) -> Parsed
-    ensures fits { IfOk result (λ i. (targets : ℕ) → IsSaid targets i) }
+    ensures fits { IfOk result (λ i. (targets : ℕ) → IsInstrOn targets i) }
     ensures jumps { IfOk result (λ i. JumpsTo place i) }
     ensures value { Gives (λ i. i) result
         (jump_line line word place (map (λ w. w.now) words.now)) }
@@ -197,7 +197,7 @@ fn jump_line(line: usize, word: JumpWord, place: usize, words: &[&str]) -> Parse
 }
 
 fn plain_line(line: usize, word: PlainWord, words: &[&str]) -> Parsed
-    ensures fits { IfOk result (λ i. (targets : ℕ) → IsSaid targets i) }
+    ensures fits { IfOk result (λ i. (targets : ℕ) → IsInstrOn targets i) }
     ensures jumps { IfOk result (λ i. jump_in i ≡ None) }
     ensures value { Gives (λ i. i) result (plain_line line word (map (λ w. w.now) words.now)) }
 {
@@ -230,17 +230,17 @@ fn message_of(
     line: usize,
     word: MessageWord,
     words: &[&str],
-) -> Result<Said, ProgramFault>
-    ensures fits { IfOk result (λ said. IsSaid (length board.now.targets) said.instr) }
+) -> Result<LineInstr, ProgramFault>
+    ensures fits { IfOk result (λ found. IsInstrOn (length board.now.targets) found.instr) }
     ensures lands { IfOk result
-        (λ said. IsTrue said.is_known → Lands (labels_view labels.now) said.instr) }
-    ensures value { Gives (λ said. said) result
+        (λ found. IsTrue found.is_known → Lands (labels_view labels.now) found.instr) }
+    ensures value { Gives (λ found. found) result
         (message_of board.now (labels_view labels.now) line word (map (λ w. w.now) words.now)) }
 {
     let (operands, label) = split_else(line, words)?;
     let jump = jump_to(labels, label);
     let instr = message_line(alloc, board, line, word, jump.place, operands)?;
-    Ok(Said {
+    Ok(LineInstr {
         instr,
         is_known: jump.is_known,
     })
@@ -252,17 +252,17 @@ fn jump_of(
     line: usize,
     word: JumpWord,
     words: &[&str],
-) -> Result<Said, ProgramFault>
-    ensures fits { IfOk result (λ said. (targets : ℕ) → IsSaid targets said.instr) }
+) -> Result<LineInstr, ProgramFault>
+    ensures fits { IfOk result (λ found. (targets : ℕ) → IsInstrOn targets found.instr) }
     ensures lands { IfOk result
-        (λ said. IsTrue said.is_known → Lands (labels_view labels.now) said.instr) }
-    ensures value { Gives (λ said. said) result
+        (λ found. IsTrue found.is_known → Lands (labels_view labels.now) found.instr) }
+    ensures value { Gives (λ found. found) result
         (jump_of (labels_view labels.now) line word (map (λ w. w.now) words.now)) }
 {
     let (operands, label) = split_label(line, words)?;
     let jump = jump_to(labels, label);
     let instr = jump_line(line, word, jump.place, operands)?;
-    Ok(Said {
+    Ok(LineInstr {
         instr,
         is_known: jump.is_known,
     })
@@ -277,11 +277,11 @@ pub(crate) fn instr_of(
     line: usize,
     word: &str,
     words: &[&str],
-) -> Result<Said, ProgramFault>
-    ensures fits { IfOk result (λ said. IsSaid (length board.now.targets) said.instr) }
+) -> Result<LineInstr, ProgramFault>
+    ensures fits { IfOk result (λ found. IsInstrOn (length board.now.targets) found.instr) }
     ensures lands { IfOk result
-        (λ said. IsTrue said.is_known → Lands (labels_view labels.now) said.instr) }
-    ensures value { Gives (λ said. said) result
+        (λ found. IsTrue found.is_known → Lands (labels_view labels.now) found.instr) }
+    ensures value { Gives (λ found. found) result
         (instr_of board.now (labels_view labels.now) line word.now (map (λ w. w.now) words.now)) }
 {
     if let Some(word) = message_word(word) {
@@ -292,7 +292,7 @@ pub(crate) fn instr_of(
     }
     let word = plain_word(word).ok_or(ProgramFault::UnknownWord(line))?;
     let instr = plain_line(line, word, words)?;
-    Ok(Said {
+    Ok(LineInstr {
         instr,
         is_known: true,
     })

@@ -7,7 +7,7 @@ ghost use Rattle.seq_program.specs.Messages.{low_byte_first, form_of, data_of, m
 ghost use Rattle.seq_program.specs.Messages.{alert_message, message_of};
 
 use crate::instr::{Instr, Width, Written};
-use board::Board;
+use board::{Board, board_is_valid};
 use smbus::{Form, Message};
 use std::alloc::{AllocError, Global};
 
@@ -61,7 +61,7 @@ fn address_of(board: &Board, target: usize) -> Option<u8>
     ensures value { result ≡ option_map (λ t. t.address) (slice_get board.now.targets target) }
     ensures seven_bits { IfSome result (λ address. address ≤ 127) }
 {
-    let _targets = board.targets();
+    board_is_valid(board);
     Some(board.target(target)?.address())
 }
 

@@ -3,7 +3,7 @@
 ghost use Rattle.std.specs.Prelude.{◌≡◌, ◌≤◌, ◌<◌, ℕ, length, map, codes, IfOk, IfSome};
 ghost use Rattle.board.specs.Boards.{place_of_name};
 ghost use Rattle.seq_program.specs.Reading.{Gives};
-ghost use Rattle.seq_program.specs.Valid.{IsSaid, JumpsTo, IsWritten, written_form};
+ghost use Rattle.seq_program.specs.Valid.{IsInstrOn, JumpsTo, IsWritten, written_form};
 ghost use Rattle.seq_program.specs.MessageLines.{target_of, number_in, word_in, quick_of};
 ghost use Rattle.seq_program.specs.MessageLines.{send_of};
 ghost use Rattle.seq_program.specs.MessageLines.{receive_of, source_for, source_of, written_of};
@@ -56,7 +56,7 @@ pub(crate) fn word_in(line: usize, word: &str) -> Result<u16, ProgramFault>
 
 #[tactic(auto, unfolding(crate::specs::MessageLines::quick_of))]
 pub(crate) fn quick_of(board: &Board, line: usize, otherwise: usize, words: &[&str]) -> Parsed
-    ensures fits { IfOk result (λ i. IsSaid (length board.now.targets) i) }
+    ensures fits { IfOk result (λ i. IsInstrOn (length board.now.targets) i) }
     ensures jumps { IfOk result (λ i. JumpsTo otherwise i) }
     ensures value { Gives (λ i. i) result
         (quick_of board.now line otherwise (map (λ w. w.now) words.now)) }
@@ -75,7 +75,7 @@ pub(crate) fn quick_of(board: &Board, line: usize, otherwise: usize, words: &[&s
 
 #[tactic(auto, unfolding(crate::specs::MessageLines::send_of))]
 pub(crate) fn send_of(board: &Board, line: usize, otherwise: usize, words: &[&str]) -> Parsed
-    ensures fits { IfOk result (λ i. IsSaid (length board.now.targets) i) }
+    ensures fits { IfOk result (λ i. IsInstrOn (length board.now.targets) i) }
     ensures jumps { IfOk result (λ i. JumpsTo otherwise i) }
     ensures value { Gives (λ i. i) result
         (send_of board.now line otherwise (map (λ w. w.now) words.now)) }
@@ -94,7 +94,7 @@ pub(crate) fn send_of(board: &Board, line: usize, otherwise: usize, words: &[&st
 
 #[tactic(auto, unfolding(crate::specs::MessageLines::receive_of))]
 pub(crate) fn receive_of(board: &Board, line: usize, otherwise: usize, words: &[&str]) -> Parsed
-    ensures fits { IfOk result (λ i. IsSaid (length board.now.targets) i) }
+    ensures fits { IfOk result (λ i. IsInstrOn (length board.now.targets) i) }
     ensures jumps { IfOk result (λ i. JumpsTo otherwise i) }
     ensures value { Gives (λ i. i) result
         (receive_of board.now line otherwise (map (λ w. w.now) words.now)) }
@@ -155,7 +155,7 @@ fn written_of(width: Width, source: Option<Register>, value: &str) -> Option<Wri
 
 #[tactic(auto, unfolding(crate::specs::MessageLines::write_of))]
 pub(crate) fn write_of(board: &Board, line: usize, otherwise: usize, words: &[&str]) -> Parsed
-    ensures fits { IfOk result (λ i. IsSaid (length board.now.targets) i) }
+    ensures fits { IfOk result (λ i. IsInstrOn (length board.now.targets) i) }
     ensures jumps { IfOk result (λ i. JumpsTo otherwise i) }
     ensures value { Gives (λ i. i) result
         (write_of board.now line otherwise (map (λ w. w.now) words.now)) }
@@ -179,7 +179,7 @@ pub(crate) fn write_of(board: &Board, line: usize, otherwise: usize, words: &[&s
 
 #[tactic(auto, unfolding(crate::specs::MessageLines::read_of))]
 pub(crate) fn read_of(board: &Board, line: usize, otherwise: usize, words: &[&str]) -> Parsed
-    ensures fits { IfOk result (λ i. IsSaid (length board.now.targets) i) }
+    ensures fits { IfOk result (λ i. IsInstrOn (length board.now.targets) i) }
     ensures jumps { IfOk result (λ i. JumpsTo otherwise i) }
     ensures value { Gives (λ i. i) result
         (read_of board.now line otherwise (map (λ w. w.now) words.now)) }
@@ -203,7 +203,7 @@ pub(crate) fn read_of(board: &Board, line: usize, otherwise: usize, words: &[&st
 
 #[tactic(auto, unfolding(crate::specs::MessageLines::call_of))]
 pub(crate) fn call_of(board: &Board, line: usize, otherwise: usize, words: &[&str]) -> Parsed
-    ensures fits { IfOk result (λ i. IsSaid (length board.now.targets) i) }
+    ensures fits { IfOk result (λ i. IsInstrOn (length board.now.targets) i) }
     ensures jumps { IfOk result (λ i. JumpsTo otherwise i) }
     ensures value { Gives (λ i. i) result
         (call_of board.now line otherwise (map (λ w. w.now) words.now)) }
@@ -232,7 +232,7 @@ pub(crate) fn block_write_of(
     otherwise: usize,
     words: &[&str],
 ) -> Parsed
-    ensures fits { IfOk result (λ i. IsSaid (length board.now.targets) i) }
+    ensures fits { IfOk result (λ i. IsInstrOn (length board.now.targets) i) }
     ensures jumps { IfOk result (λ i. JumpsTo otherwise i) }
     ensures value { Gives (λ i. i) result
         (block_write_of board.now line otherwise (map (λ w. w.now) words.now)) }
@@ -253,7 +253,7 @@ pub(crate) fn block_write_of(
 
 #[tactic(auto, unfolding(crate::specs::MessageLines::block_read_of))]
 pub(crate) fn block_read_of(board: &Board, line: usize, otherwise: usize, words: &[&str]) -> Parsed
-    ensures fits { IfOk result (λ i. IsSaid (length board.now.targets) i) }
+    ensures fits { IfOk result (λ i. IsInstrOn (length board.now.targets) i) }
     ensures jumps { IfOk result (λ i. JumpsTo otherwise i) }
     ensures value { Gives (λ i. i) result
         (block_read_of board.now line otherwise (map (λ w. w.now) words.now)) }
@@ -280,7 +280,7 @@ pub(crate) fn block_call_of(
     otherwise: usize,
     words: &[&str],
 ) -> Parsed
-    ensures fits { IfOk result (λ i. IsSaid (length board.now.targets) i) }
+    ensures fits { IfOk result (λ i. IsInstrOn (length board.now.targets) i) }
     ensures jumps { IfOk result (λ i. JumpsTo otherwise i) }
     ensures value { Gives (λ i. i) result
         (block_call_of board.now line otherwise (map (λ w. w.now) words.now)) }
@@ -305,7 +305,7 @@ pub(crate) fn block_call_of(
 
 #[tactic(auto, unfolding(crate::specs::MessageLines::alert_of))]
 pub(crate) fn alert_of(line: usize, otherwise: usize, words: &[&str]) -> Parsed
-    ensures fits { IfOk result (λ i. (targets : ℕ) → IsSaid targets i) }
+    ensures fits { IfOk result (λ i. (targets : ℕ) → IsInstrOn targets i) }
     ensures jumps { IfOk result (λ i. JumpsTo otherwise i) }
     ensures value { Gives (λ i. i) result
         (alert_of line otherwise (map (λ w. w.now) words.now)) }

@@ -3,7 +3,7 @@
 ghost use Rattle.std.specs.Prelude.{◌≡◌, length, map, OnOk};
 ghost use Rattle.seq_program.specs.Reading.{Gives};
 ghost use Rattle.seq_program.specs.Passes.{after_instr, after_words, after_line};
-ghost use Rattle.seq_program.specs.PassViews.{labels_view, pass_view, IsPass};
+ghost use Rattle.seq_program.specs.PassViews.{labels_view, pass_view, AreInstrsSoFar};
 
 use crate::fault::ProgramFault;
 use crate::instr::Instr;
@@ -18,12 +18,12 @@ const MOST_PLACES: usize = 1024;
 
 /// The instructions so far, and the first line so far whose label stands nowhere.
 #[derive(Drop)]
-pub(crate) struct Pass {
+pub(crate) struct InstrsSoFar {
     pub instrs: Vec<Instr>,
     pub unknown: Option<usize>,
 }
 
-impl Pass {
+impl InstrsSoFar {
     /// An instruction more.
     #[tactic(auto, unfolding(crate::specs::Passes::after_instr))]
     fn add_instr(
@@ -35,9 +35,9 @@ impl Pass {
         word: &str,
         words: &[&str],
     ) -> Result<(), ProgramFault>
-        requires said { IsPass (length board.now.targets) (labels_view labels.now) self.old }
+        requires said { AreInstrsSoFar (length board.now.targets) (labels_view labels.now) self.old }
         ensures said { OnOk result
-            (IsPass (length board.now.targets) (labels_view labels.now) self.new) }
+            (AreInstrsSoFar (length board.now.targets) (labels_view labels.now) self.new) }
         ensures value { Gives (λ _. pass_view self.new) result
             (after_instr board.now (labels_view labels.now) line (pass_view self.old) word.now
             (map (λ w. w.now) words.now)) }
@@ -61,9 +61,9 @@ impl Pass {
         line: usize,
         words: &[&str],
     ) -> Result<(), ProgramFault>
-        requires said { IsPass (length board.now.targets) (labels_view labels.now) self.old }
+        requires said { AreInstrsSoFar (length board.now.targets) (labels_view labels.now) self.old }
         ensures said { OnOk result
-            (IsPass (length board.now.targets) (labels_view labels.now) self.new) }
+            (AreInstrsSoFar (length board.now.targets) (labels_view labels.now) self.new) }
         ensures value { Gives (λ _. pass_view self.new) result
             (after_words board.now (labels_view labels.now) line (pass_view self.old)
             (map (λ w. w.now) words.now)) }
@@ -88,9 +88,9 @@ impl Pass {
         number: usize,
         line: &str,
     ) -> Result<(), ProgramFault>
-        requires said { IsPass (length board.now.targets) (labels_view labels.now) self.old }
+        requires said { AreInstrsSoFar (length board.now.targets) (labels_view labels.now) self.old }
         ensures said { OnOk result
-            (IsPass (length board.now.targets) (labels_view labels.now) self.new) }
+            (AreInstrsSoFar (length board.now.targets) (labels_view labels.now) self.new) }
         ensures value { Gives (λ _. pass_view self.new) result
             (after_line board.now (labels_view labels.now) number (pass_view self.old)
             line.now) }

@@ -2,7 +2,7 @@
 
 ghost use Rattle.std.specs.Prelude.{◌≡◌, ℕ, map, IfOk, None};
 ghost use Rattle.seq_program.specs.Reading.{Gives};
-ghost use Rattle.seq_program.specs.Valid.{IsSaid, jump_in};
+ghost use Rattle.seq_program.specs.Valid.{IsInstrOn, jump_in};
 ghost use Rattle.seq_program.specs.PlainLines.{set_of, add_of, count_of, wait_of, end_of, fail_of};
 
 use crate::fault::ProgramFault;
@@ -12,7 +12,7 @@ use crate::operand::{counter_of, register_of};
 
 #[tactic(auto, unfolding(crate::specs::PlainLines::set_of))]
 pub(crate) fn set_of(line: usize, words: &[&str]) -> Parsed
-    ensures fits { IfOk result (λ i. (targets : ℕ) → IsSaid targets i) }
+    ensures fits { IfOk result (λ i. (targets : ℕ) → IsInstrOn targets i) }
     ensures jumps { IfOk result (λ i. jump_in i ≡ None) }
     ensures value { Gives (λ i. i) result
         (set_of line (map (λ w. w.now) words.now)) }
@@ -27,7 +27,7 @@ pub(crate) fn set_of(line: usize, words: &[&str]) -> Parsed
 
 #[tactic(auto, unfolding(crate::specs::PlainLines::add_of))]
 pub(crate) fn add_of(line: usize, words: &[&str]) -> Parsed
-    ensures fits { IfOk result (λ i. (targets : ℕ) → IsSaid targets i) }
+    ensures fits { IfOk result (λ i. (targets : ℕ) → IsInstrOn targets i) }
     ensures jumps { IfOk result (λ i. jump_in i ≡ None) }
     ensures value { Gives (λ i. i) result
         (add_of line (map (λ w. w.now) words.now)) }
@@ -42,7 +42,7 @@ pub(crate) fn add_of(line: usize, words: &[&str]) -> Parsed
 
 #[tactic(auto, unfolding(crate::specs::PlainLines::count_of))]
 pub(crate) fn count_of(line: usize, words: &[&str]) -> Parsed
-    ensures fits { IfOk result (λ i. (targets : ℕ) → IsSaid targets i) }
+    ensures fits { IfOk result (λ i. (targets : ℕ) → IsInstrOn targets i) }
     ensures jumps { IfOk result (λ i. jump_in i ≡ None) }
     ensures value { Gives (λ i. i) result
         (count_of line (map (λ w. w.now) words.now)) }
@@ -57,7 +57,7 @@ pub(crate) fn count_of(line: usize, words: &[&str]) -> Parsed
 
 #[tactic(auto, unfolding(crate::specs::PlainLines::wait_of))]
 pub(crate) fn wait_of(line: usize, words: &[&str]) -> Parsed
-    ensures fits { IfOk result (λ i. (targets : ℕ) → IsSaid targets i) }
+    ensures fits { IfOk result (λ i. (targets : ℕ) → IsInstrOn targets i) }
     ensures jumps { IfOk result (λ i. jump_in i ≡ None) }
     ensures value { Gives (λ i. i) result
         (wait_of line (map (λ w. w.now) words.now)) }
@@ -70,7 +70,7 @@ pub(crate) fn wait_of(line: usize, words: &[&str]) -> Parsed
 }
 
 pub(crate) fn end_of(line: usize, words: &[&str]) -> Parsed
-    ensures fits { IfOk result (λ i. (targets : ℕ) → IsSaid targets i) }
+    ensures fits { IfOk result (λ i. (targets : ℕ) → IsInstrOn targets i) }
     ensures jumps { IfOk result (λ i. jump_in i ≡ None) }
     ensures value { Gives (λ i. i) result
         (end_of line (map (λ w. w.now) words.now)) }
@@ -82,7 +82,7 @@ pub(crate) fn end_of(line: usize, words: &[&str]) -> Parsed
 }
 
 pub(crate) fn fail_of(line: usize, words: &[&str]) -> Parsed
-    ensures fits { IfOk result (λ i. (targets : ℕ) → IsSaid targets i) }
+    ensures fits { IfOk result (λ i. (targets : ℕ) → IsInstrOn targets i) }
     ensures jumps { IfOk result (λ i. jump_in i ≡ None) }
     ensures value { Gives (λ i. i) result
         (fail_of line (map (λ w. w.now) words.now)) }

@@ -4,7 +4,7 @@ ghost use Rattle.std.specs.Prelude.{◌≡◌, length, slice_get, option_map, op
 ghost use Rattle.std.specs.Prelude.{IfOk};
 ghost use Rattle.seq_program.specs.Reading.{Gives};
 ghost use Rattle.seq_program.specs.Passes.{after_lines};
-ghost use Rattle.seq_program.specs.PassViews.{labels_view, pass_view, IsPass};
+ghost use Rattle.seq_program.specs.PassViews.{labels_view, pass_view, AreInstrsSoFar};
 ghost use Rattle.seq_program.specs.Valid.{IsOnBoard};
 ghost use Rattle.seq_program.specs.Programs.{is_end, is_some_end, ends, no_pass, program_of};
 ghost use Rattle.texts.specs.Words.{lines_by_feed};
@@ -12,7 +12,7 @@ ghost use Rattle.texts.specs.Words.{lines_by_feed};
 use crate::fault::ProgramFault;
 use crate::instr::Instr;
 use crate::labels::{Labels, are_below, labels_of};
-use crate::pass::Pass;
+use crate::pass::InstrsSoFar;
 use board::Board;
 use std::alloc::Global;
 use std::marker::Model;
@@ -20,7 +20,7 @@ use texts::{first_by_feed, line_count};
 
 /// The instructions of a program, by their places: 1 to 1024, whose jumps land, and of which the
 /// last ends.
-#[derive(Debug, Drop)]
+#[derive(Drop)]
 pub struct Program {
     instrs: Vec<Instr>,
 }
@@ -57,13 +57,18 @@ impl Program {
 }
 
 /// What the lines of a text say.
-fn pass_of(alloc: Global, board: &Board, labels: &Labels, text: &str) -> Result<Pass, ProgramFault>
+fn pass_of(
+    alloc: Global,
+    board: &Board,
+    labels: &Labels,
+    text: &str,
+) -> Result<InstrsSoFar, ProgramFault>
     ensures said { IfOk result
-        (λ p. IsPass (length board.now.targets) (labels_view labels.now) p) }
+        (λ p. AreInstrsSoFar (length board.now.targets) (labels_view labels.now) p) }
     ensures value { Gives pass_view result
         (after_lines board.now (labels_view labels.now) 1 no_pass (lines_by_feed text.now)) }
 {
-    let mut pass = Pass {
+    let mut pass = InstrsSoFar {
         instrs: Vec::new(alloc),
         unknown: None,
     };

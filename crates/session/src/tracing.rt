@@ -8,6 +8,7 @@ use crate::fault::InputFault;
 use crate::reply::{Reply, Status, refused};
 use crate::report::{Report, Telling};
 use crate::scenario::Scenario;
+use seq_program::program_is_valid;
 use simulator::{Entry, RunFault, start, step_at};
 use std::alloc::{AllocError, Global};
 
@@ -19,7 +20,7 @@ fn run_text(alloc: Global, scenario: &Scenario<'_>, telling: Telling) -> Result<
     ensures fault { IfErr result (λ e. e ≢ Memory → IsFaultOf scenario.now e) }
 {
     let (board, program) = (&scenario.board, &scenario.program);
-    let _places = program.places();
+    program_is_valid(program);
     let answered = &scenario.answers;
     let mut machine = start(alloc, board, &answered.pages, &answered.protects)?;
     let mut spare = Entry::empty(alloc);

@@ -52,8 +52,8 @@ message_allowed b s m a e before sees ok =
             message = m;
             answer = a;
             wire = sees.asked.wire;
-            sized = sees.asked.can_be_sent.has_good_data.has_length;
-            counted = sees.asked.can_be_sent.has_good_block;
+            has_length = sees.asked.can_be_sent.has_good_data.has_length;
+            has_good_block = sees.asked.can_be_sent.has_good_block;
             shown = rw same shape;
             allowed = rw before ok;
           };

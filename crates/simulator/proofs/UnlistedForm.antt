@@ -36,8 +36,8 @@ asked_so : (b : Board) (s : BusState) (samples : List Sample) (f : Shown)
     → AreAsked al.message (answering refuse al.answer)
 asked_so b s samples f al refuse numbered = record {
   can_be_sent = record {
-    has_good_data = record { has_length = al.sized; is_numbered = numbered };
-    has_good_block = al.counted;
+    has_good_data = record { has_length = al.has_length; is_numbered = numbered };
+    has_good_block = al.has_good_block;
     holds = All-nil (λ hold. hold ≤ 6999);
   };
   wire = record {

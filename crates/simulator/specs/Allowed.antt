@@ -80,8 +80,8 @@ pub record IsAllowed (b : Board) (s : BusState) (samples : List Sample) (f : Sho
   pub answer : Answered
   pub wire : AreWireBytes message answer
   -- with as many data bytes as its form has, and blocks that can be counted
-  pub sized : HasLength message.form (length message.out)
-  pub counted : IsGoodBlock message answer
+  pub has_length : HasLength message.form (length message.out)
+  pub has_good_block : IsGoodBlock message answer
   pub shown : IsWhole message answer.value answer.bytes f
       ⊎ IsBrokenOff samples message answer.value answer.bytes f
   pub allowed : IsAllowedBy b s message answer

@@ -1,5 +1,5 @@
 -- What holds of every run of a program that is safe within a bound.
-use Rattle.std.specs.Prelude.{◌≡◌, ◌≤◌, ℕ, List, [], ◌∷◌, ◌++◌, map, slice_get, Some, All}
+use Rattle.std.specs.Prelude.{◌≡◌, ◌≤◌, ℕ, List, [], ◌∷◌, ◌++◌, slice_get, Some, All}
 use Rattle.wires.specs.declared.lines.Sample.{Sample}
 use Rattle.wires.specs.Events.{events_of}
 use Rattle.bit_bus.specs.Levels.{EndsHigh}
@@ -13,8 +13,7 @@ use Rattle.seq_program.specs.declared.instr.Instr.{Instr}
 use Rattle.seq_program.specs.Messages.{message_of}
 use Rattle.simulator.specs.declared.machine.Ending.TheVariants.{Running}
 use Rattle.simulator.specs.Machines.{Machine, Entry, start_at}
-use Rattle.simulator.specs.Steps.{IsRun, total_ticks}
-use Rattle.simulator.specs.Entries.{joined}
+use Rattle.simulator.specs.Steps.{IsRun, run_samples, total_ticks}
 use Rattle.simulator.specs.Allowed.{IsAllowed}
 use Rattle.simulator.specs.Safe.{AreSafe}
 
@@ -25,9 +24,6 @@ AreAllowedFrames b (e ∷ later) frames =
     (own : List Shown) × (rest : List Shown) × (frames ≡ own ++ rest)
     × AreFrames (events_of e.samples) own
     × All (IsAllowed b e.before e.samples) own × AreAllowedFrames b later rest
-
-abbrev pub run_samples : List Entry → List Sample
-run_samples entries = joined (map (λ (e : Entry). e.samples) entries)
 
 -- the lines of the whole run are read as these frames, and as no others
 pub record ReadsAllowed (b : Board) (entries : List Entry) : Type 0 where

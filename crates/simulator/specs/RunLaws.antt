@@ -1,5 +1,5 @@
 -- What a run of the model is seen to do.
-use Rattle.std.specs.Prelude.{◌≡◌, List, [], ◌∷◌, map, slice_get, Option, Some}
+use Rattle.std.specs.Prelude.{◌≡◌, List, [], ◌∷◌, slice_get, Option, Some}
 use Rattle.std.specs.Prelude.{None}
 use Rattle.wires.specs.declared.lines.Sample.{Sample}
 use Rattle.wires.specs.Events.{events_of}
@@ -17,9 +17,9 @@ use Rattle.targets.specs.Outcomes.{outcome_of}
 use Rattle.seq_program.specs.declared.instr.Instr.{Instr}
 use Rattle.seq_program.specs.Messages.{message_of}
 use Rattle.seq_program.specs.Valid.{IsProgram}
-use Rattle.simulator.specs.Entries.{joined, all_frames}
+use Rattle.simulator.specs.Entries.{all_frames}
 use Rattle.simulator.specs.Machines.{Machine, Entry}
-use Rattle.simulator.specs.Steps.{IsStep, IsRun}
+use Rattle.simulator.specs.Steps.{IsStep, IsRun, run_samples}
 use Rattle.simulator.specs.StepLaws.{IsReady}
 
 -- a frame is whole where its message is done, and broken off otherwise: in a refused byte, or where
@@ -52,9 +52,6 @@ AreRunFrames b p m (a ∷ answers) (e ∷ entries) (fs ∷ frames) =
     (next : Machine) × StepHasFrames b p m a e next fs
     × AreRunFrames b p next answers entries frames
 AreRunFrames b p m answers entries frames = ⊥
-
-abbrev pub run_samples : List Entry → List Sample
-run_samples entries = joined (map (λ (e : Entry). e.samples) entries)
 
 -- the lines of the whole run are read as the frames of its steps in order, and as no others
 pub record RunIsSeen (b : Board) (p : List Instr) (m : Machine) (answers : List Answered)

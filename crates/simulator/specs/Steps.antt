@@ -1,5 +1,5 @@
 -- Steps of a program on a board, and runs: lists of steps.
-use Rattle.std.specs.Prelude.{◌≡◌, ◌+◌, ◌==◌, ℕ, suc, Bool, List, [], ◌∷◌, length, slice_get}
+use Rattle.std.specs.Prelude.{◌≡◌, ◌+◌, ◌==◌, ℕ, suc, Bool, List, [], ◌∷◌, length, map, slice_get}
 use Rattle.std.specs.Prelude.{Option, Some, None}
 use Rattle.wires.specs.declared.lines.Sample.{Sample}
 use Rattle.smbus.specs.Asked.{Asked}
@@ -15,7 +15,7 @@ use Rattle.seq_program.specs.declared.instr.Instr.TheVariants.{Wait}
 use Rattle.seq_program.specs.Messages.{message_of}
 use Rattle.simulator.specs.declared.machine.Ending.TheVariants.{Running}
 use Rattle.smbus.specs.Slots.{samples_of}
-use Rattle.simulator.specs.Entries.{idle_samples}
+use Rattle.simulator.specs.Entries.{idle_samples, joined}
 use Rattle.simulator.specs.Machines.{Machine, Entry}
 use Rattle.simulator.specs.Moves.{moved}
 
@@ -75,3 +75,7 @@ IsRun b p m answers entries last = ⊥
 abbrev pub total_ticks : List Entry → ℕ
 total_ticks [] = 0
 total_ticks (e ∷ entries) = e.ticks + total_ticks entries
+
+-- the samples of a run, step after step
+abbrev pub run_samples : List Entry → List Sample
+run_samples entries = joined (map (λ (e : Entry). e.samples) entries)

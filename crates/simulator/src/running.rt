@@ -10,8 +10,8 @@ use crate::fault::RunFault;
 use crate::law::runs_are_seen;
 use crate::machine::{Entry, Machine, registers_are_words};
 use crate::stepping::step_at;
-use board::Board;
-use seq_program::Program;
+use board::{Board, board_is_valid};
+use seq_program::{Program, program_is_valid};
 use smbus::Answer;
 use std::alloc::Global;
 use std::marker::Model;
@@ -59,8 +59,8 @@ pub fn run(
     ensures fault { IfErr result
         (λ e. e ≢ Memory → FailsAt board.now program.now machine.now answers.now e) }
 {
-    let _targets = board.targets();
-    let _places = program.places();
+    board_is_valid(board);
+    program_is_valid(program);
     registers_are_words(&machine.regs);
     runs_are_seen();
     let mut last = machine.copied()?;

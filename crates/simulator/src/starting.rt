@@ -7,7 +7,7 @@ ghost use Rattle.simulator.specs.Machines.{start_at, start_state, IsMachine};
 
 use crate::fault::RunFault;
 use crate::machine::{Ending, Machine};
-use board::Board;
+use board::{Board, board_is_valid};
 use std::alloc::Global;
 use targets::{BusState, starts, states_belong};
 
@@ -31,7 +31,7 @@ pub fn start(
         → IsStart board.now (start_state pages.now protects.now) → ⊥ }
     ensures only { IfErr result (λ e. (e ≡ RunFault.Memory) ⊎ (e ≡ RunFault.BadStart)) }
 {
-    let _targets = board.targets();
+    board_is_valid(board);
     states_belong();
     let bus = BusState {
         page: pages.to_vec(alloc)?,

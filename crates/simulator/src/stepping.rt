@@ -18,8 +18,8 @@ use crate::lines::step_samples;
 use crate::machine::{Ending, Entry, Machine};
 use crate::moves::{after_message, silently};
 use bit_bus::reads_back;
-use board::Board;
-use seq_program::{Instr, Program, message_of};
+use board::{Board, board_is_valid};
+use seq_program::{Instr, Program, message_of, program_is_valid};
 use smbus::{Answer, Message, slots_are_one_frame};
 use std::alloc::{AllocError, Global};
 use targets::{BusState, Outcome, after_in, fits, states_belong};
@@ -41,7 +41,7 @@ fn instr_of<'a>(program: &'a Program, machine: &Machine) -> &'a Instr
     ensures few { machine.now.place < 1024 }
     ensures program { IsProgram program.now }
 {
-    let _count = program.places();
+    program_is_valid(program);
     match program.at(machine.place) {
         Some(instr) => instr,
         None => unreachable!(),
@@ -97,7 +97,7 @@ fn step_by(
     ensures belongs { IfOk result
         (λ r. Belongs board.now last.0.bus → Belongs board.now r.0.bus) }
 {
-    let _targets = board.targets();
+    board_is_valid(board);
     slots_are_one_frame();
     reads_back();
     states_belong();

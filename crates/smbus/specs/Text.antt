@@ -3,6 +3,7 @@ use Rattle.std.specs.Prelude.{ℕ, Bool, if◌then◌else◌, List, [], ◌∷�
 use Rattle.std.specs.List.{flat_map, join_with_byte}
 use Rattle.texts.specs.Hex.{pair_text}
 use Rattle.smbus.specs.Shown.{Shown}
+use Rattle.texts.specs.Ascii as ascii
 
 -- a byte as two upper case hexadecimal digits, and A where it was acknowledged, else N
 abbrev pub byte_word : ℕ × Bool → List ℕ
@@ -20,7 +21,7 @@ segments_words [] = []
 segments_words (s ∷ later) = bytes_words s ++ flat_map repeated_words later
 
 abbrev pub bit_digit : Bool → ℕ
-bit_digit b = if b then 49 else 48
+bit_digit b = if b then ascii.digit_one else ascii.digit_zero
 
 -- a slash and the bits that were left over, if there are any
 abbrev pub tail_words : List Bool → List (List ℕ)
@@ -33,8 +34,8 @@ frame_words f = segments_words f.segments ++ tail_words f.tail ++ codes "P" ∷ 
 
 -- one space between the words
 unfoldable pub text_of : Shown → List ℕ
-text_of f = join_with_byte 32 (codes "S" ∷ frame_words f)
+text_of f = join_with_byte ascii.space (codes "S" ∷ frame_words f)
 
 -- words with a space before each
 abbrev pub spaced : List (List ℕ) → List ℕ
-spaced words = flat_map (λ (w : List ℕ). 32 ∷ w) words
+spaced words = flat_map (λ (w : List ℕ). ascii.space ∷ w) words

@@ -4,7 +4,7 @@ ghost use Rattle.smbus.specs.Control.{control_after, control_step};
 use wires::Event;
 
 /// What decides whether an event goes on (UM10204, 3.1.4 to 3.1.6), without the bytes.
-#[derive(Clone, Copy, Debug)]
+#[derive(Clone, Copy)]
 pub(crate) enum Control {
     /// No frame is open.
     Free,

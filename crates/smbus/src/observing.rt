@@ -111,7 +111,7 @@ impl Reading {
         Ok(true)
     }
 
-    fn take(&mut self, alloc: Global, event: Event) -> Result<bool, AllocError>
+    fn accept(&mut self, alloc: Global, event: Event) -> Result<bool, AllocError>
         ensures { IfOk result (λ taken. MatchBool taken (step (reading_of self.old) event
             ≡ Some (reading_of self.new)) (step (reading_of self.old) event ≡ None)) }
     {
@@ -134,7 +134,7 @@ impl Reading {
             ≡ Some (reading_of self.new)) (run events.now (reading_of self.old) ≡ None)) }
     {
         for event in events {
-            if !self.take(alloc, *event)? {
+            if !self.accept(alloc, *event)? {
                 return Ok(false);
             }
         }
@@ -173,7 +173,7 @@ pub fn observe(alloc: Global, events: &[Event]) -> Result<Vec<Frame>, ObserveFau
 {
     let mut reading = Reading::new(alloc);
     for (place, event) in events.iter().enumerate() {
-        if !reading.take(alloc, *event)? {
+        if !reading.accept(alloc, *event)? {
             return Err(ObserveFault::NotFrames(place));
         }
     }

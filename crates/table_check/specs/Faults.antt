@@ -1,6 +1,7 @@
 -- The numbers, the names and the lines of the faults, and what it means that a function reads a
 -- part of a table.
-use Rattle.std.specs.Prelude.{◌≡◌, ◌≢◌, ℕ, List, Option, Some, None, Result, Ok, Err, codes}
+use Rattle.std.specs.Prelude.{ℕ, List, Option, Some, None, Result, codes}
+use Rattle.texts.specs.Reading.{GivesUnless}
 use Rattle.table_check.specs.declared.fault.TableFault.{TableFault}
 use Rattle.table_check.specs.declared.fault.TableFault.TheVariants as fault
 
@@ -18,5 +19,4 @@ line_of (fault.BadLine line) = Some line
 
 -- what a function returned, seen by view, is what reading gives, unless memory ran out
 abbrev pub Gives : {X Y : Type 0} → (X → Y) → Result X TableFault → Result Y TableFault → Type 0
-Gives view (Ok x) read = read ≡ Ok (view x)
-Gives view (Err e) read = e ≢ fault.Memory → read ≡ Err e
+Gives view result read = GivesUnless fault.Memory view result read

@@ -11,6 +11,7 @@ use Rattle.facts.specs.declared.source.Source.{Source}
 use Rattle.facts.specs.declared.source.Source.TheVariants as source
 use Rattle.facts.specs.declared.span.Span.{Span}
 use Rattle.table_check.specs.Tables.{Table}
+use Rattle.texts.specs.Ascii as ascii
 
 -- the words of a line
 abbrev pub Words : Type 0
@@ -102,14 +103,14 @@ lines_from b place (r ∷ rows) = place_lines b place r ++ lines_from b (place +
 
 -- words are parted by one space
 abbrev pub line_of : Words → List ℕ
-line_of words = join_with_byte 32 words
+line_of words = join_with_byte ascii.space words
 
 abbrev pub table_lines : Board → Table → List (List ℕ)
 table_lines b t = map line_of (lines_from b 0 t)
 
 -- each line ends with LF
 abbrev pub ended : List ℕ → List ℕ
-ended line = line ++ 10 ∷ []
+ended line = line ++ ascii.line_feed ∷ []
 
 abbrev pub table_text : Board → Table → List ℕ
 table_text b t = flat_map ended (table_lines b t)

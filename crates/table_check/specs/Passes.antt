@@ -13,12 +13,13 @@ use Rattle.facts.specs.declared.span.Span.{Span}
 use Rattle.table_check.specs.declared.fault.TableFault.{TableFault}
 use Rattle.table_check.specs.declared.fault.TableFault.TheVariants.{BadLine}
 use Rattle.table_check.specs.declared.part.Part.{Part as CodePart}
-use Rattle.table_check.specs.declared.pass.Pass.{Pass as CodePass}
+use Rattle.table_check.specs.declared.pass.RowsSoFar.{RowsSoFar as CodePass}
 use Rattle.table_check.specs.Tables.{Table, rows_view}
 use Rattle.table_check.specs.Lines.{Words}
 use Rattle.table_check.specs.Saying.{page_said, protect_said, good_said, register_said}
 use Rattle.table_check.specs.Saying.{counter_said}
 use Rattle.table_check.specs.Saying.{ticks_said, head_said}
+use Rattle.texts.specs.Ascii as ascii
 
 -- what is read of a row
 pub record Part : Type 0 where
@@ -29,7 +30,7 @@ pub record Part : Type 0 where
   pub counters : List Span
 
 -- the rows so far, and what is read of the next one
-pub record Pass : Type 0 where
+pub record RowsSoFar : Type 0 where
   pub rows : Table
   pub part : Option Part
 
@@ -42,13 +43,13 @@ part_view p = record {
   counters = p.counters.items;
 }
 
-abbrev pub pass_view : CodePass → Pass
+abbrev pub pass_view : CodePass → RowsSoFar
 pass_view p = record { rows = rows_view p.rows.items; part = option_map part_view p.part }
 
 abbrev pub no_part : Part
 no_part = record { pages = []; protects = []; good = None; regs = []; counters = [] }
 
-abbrev pub no_pass : Pass
+abbrev pub no_pass : RowsSoFar
 no_pass = record { rows = []; part = None }
 
 -- a line more of each kind
@@ -110,53 +111,53 @@ finished p words =
     option_and_then (λ good. option_map (row_from p good) (ticks_said words)) p.good
 
 -- the first line of a place
-abbrev pub with_head : Pass → Bool → Pass
+abbrev pub with_head : RowsSoFar → Bool → RowsSoFar
 with_head pass true = record pass { part = Some no_part }
 with_head pass false = record pass { rows = pass.rows ++ None ∷ [] }
 
-abbrev pub with_first : Pass → Words → Option Pass
+abbrev pub with_first : RowsSoFar → Words → Option RowsSoFar
 with_first pass words = option_map (with_head pass) (head_said (length pass.rows) words)
 
 -- the last line of a row
-abbrev pub with_last : Pass → Part → Words → Option Pass
+abbrev pub with_last : RowsSoFar → Part → Words → Option RowsSoFar
 with_last pass p words =
     option_map (λ row. record { rows = pass.rows ++ Some row ∷ []; part = None })
     (finished p words)
 
 -- the first line of a row, or its last one
-abbrev pub with_end : Pass → Option Part → Words → Option Pass
+abbrev pub with_end : RowsSoFar → Option Part → Words → Option RowsSoFar
 with_end pass None words = with_first pass words
 with_end pass (Some p) words = with_last pass p words
 
 -- a line more
-abbrev pub in_part : Board → Pass → Part → Words → Option Pass
+abbrev pub in_part : Board → RowsSoFar → Part → Words → Option RowsSoFar
 in_part b pass p words =
     if is_full p then with_last pass p words
     else option_map (λ q. record pass { part = Some q }) (with_line b p words)
 
-abbrev pub after_words : Board → Pass → Option Part → Words → Option Pass
+abbrev pub after_words : Board → RowsSoFar → Option Part → Words → Option RowsSoFar
 after_words b pass None words = with_first pass words
 after_words b pass (Some p) words = in_part b pass p words
 
 -- words are parted by one space
 abbrev pub parted : List ℕ → Words
-parted line = slice_split (λ c. c == 32) line
+parted line = slice_split (λ c. c == ascii.space) line
 
-unfoldable pub after_line : Board → Pass → List ℕ → Option Pass
+unfoldable pub after_line : Board → RowsSoFar → List ℕ → Option RowsSoFar
 after_line b pass line = after_words b pass pass.part (parted line)
 
 -- the lines from the one with this number on
-abbrev pub after_lines : Board → ℕ → Pass → List (List ℕ) → Result Pass TableFault
+abbrev pub after_lines : Board → ℕ → RowsSoFar → List (List ℕ) → Result RowsSoFar TableFault
 after_lines b n pass [] = Ok pass
 after_lines b n pass (line ∷ more) =
     some_or (BadLine n) (after_line b pass line) >>= λ next. after_lines b (n + 1) next more
 
 -- the table, where no row is left unfinished
-abbrev pub whole_of : ℕ → Pass → Option Part → Result Table TableFault
+abbrev pub whole_of : ℕ → RowsSoFar → Option Part → Result Table TableFault
 whole_of lines pass None = Ok pass.rows
 whole_of lines pass (Some part) = Err (BadLine (lines + 1))
 
-abbrev pub whole : ℕ → Pass → Result Table TableFault
+abbrev pub whole : ℕ → RowsSoFar → Result Table TableFault
 whole lines pass = whole_of lines pass pass.part
 
 unfoldable pub table_in : Board → List (List ℕ) → Result Table TableFault

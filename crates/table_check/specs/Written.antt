@@ -4,18 +4,19 @@ use Rattle.std.specs.Prelude.{ℕ, Bool, if◌then◌else◌, ◌-◌, List, [],
 use Rattle.std.specs.List.{flat_map, range_with_len}
 use Rattle.facts.specs.Sets.{Set}
 use Rattle.table_check.specs.Lines.{Words}
+use Rattle.texts.specs.Ascii as ascii
 
 -- a word behind a space
 abbrev pub spaced : List ℕ → List ℕ
-spaced word = 32 ∷ word
+spaced word = ascii.space ∷ word
 
 abbrev pub all_spaced : Words → List ℕ
 all_spaced words = flat_map spaced words
 
 -- a line with its end
 abbrev pub line_text : Words → List ℕ
-line_text [] = 10 ∷ []
-line_text (word ∷ words) = word ++ (all_spaced words ++ 10 ∷ [])
+line_text [] = ascii.line_feed ∷ []
+line_text (word ∷ words) = word ++ (all_spaced words ++ ascii.line_feed ∷ [])
 
 abbrev pub text_of : List Words → List ℕ
 text_of lines = flat_map line_text lines

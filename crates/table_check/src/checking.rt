@@ -12,12 +12,12 @@ ghost use Rattle.table_check.specs.SafeTables.{IsSafeVerdict};
 
 use crate::forming::{form_fault, row_at};
 use crate::law::inductive_runs_are_safe;
-use crate::leading::{board_law, edges_fault, end_fault, shaped_edges};
+use crate::leading::{edges_fault, end_fault, shaped_edges};
 use crate::table::Table;
 use crate::verdict::Verdict;
-use board::Board;
+use board::{Board, board_is_valid};
 use facts::{Row, Rule, duty};
-use seq_program::{Instr, Program};
+use seq_program::{Instr, Program, program_is_valid};
 use std::alloc::{AllocError, Global};
 
 /// The first rule that an instruction breaks at its row, or one of its edges.
@@ -129,13 +129,6 @@ fn verdict_on(
     }
 }
 
-/// What every program keeps to.
-fn program_law(program: &Program)
-    ensures { IsProgram program.now }
-{
-    let _places = program.places();
-}
-
 /// The verdict on a table of facts for a program on a board.
 ///
 /// A table that keeps the rule book is accepted. Then, whatever the targets answer within the
@@ -156,7 +149,7 @@ pub fn check(
     ensures safe { IfOk result (λ v. IsSafeVerdict board.now program.now v) }
 {
     inductive_runs_are_safe();
-    board_law(board);
-    program_law(program);
+    board_is_valid(board);
+    program_is_valid(program);
     verdict_on(alloc, board, program, &table.rows)
 }

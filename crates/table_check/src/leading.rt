@@ -19,17 +19,10 @@ ghost use Rattle.table_check.specs.Obligations.{FallsEnd, IsFirstFault, of_end};
 
 use crate::forming::row_at;
 use crate::paying::{pays, pays_end};
-use board::Board;
+use board::{Board, board_is_valid};
 use facts::{Part, Row, Rule, covered_rows_follow, edges};
-use seq_program::{Instr, Program};
+use seq_program::{Instr, Program, program_is_valid};
 use std::alloc::{AllocError, Global};
-
-/// What every board keeps to.
-pub(crate) fn board_law(board: &Board)
-    ensures { IsBoard board.now }
-{
-    let _rails = board.rails();
-}
 
 /// The edges of a place whose instruction meets its first duty; their rows are rows of the board
 /// but for their ticks.
@@ -50,8 +43,8 @@ pub(crate) fn shaped_edges(
     ensures shaped { IfOk result (λ es. AreShapedEdges board.now es.items) }
 {
     covered_rows_follow();
-    board_law(board);
-    let _places = program.places();
+    board_is_valid(board);
+    program_is_valid(program);
     edges(alloc, board, program, place, row)
 }
 

@@ -20,17 +20,17 @@ use texts::line_count;
 
 /// The rows so far, and what is read of the next one.
 #[derive(Drop)]
-pub(crate) struct Pass {
+pub(crate) struct RowsSoFar {
     pub rows: Vec<Option<Row>>,
     pub part: Option<Part>,
 }
 
-impl Pass {
+impl RowsSoFar {
     /// No line of a text.
-    pub(crate) fn new(alloc: Global) -> Pass
+    pub(crate) fn new(alloc: Global) -> RowsSoFar
         ensures { pass_view result ≡ no_pass }
     {
-        Pass {
+        RowsSoFar {
             rows: Vec::new(alloc),
             part: None,
         }

@@ -9,7 +9,7 @@ ghost use Rattle.table_check.specs.Passes.{pass_view, after_lines, no_pass, part
 ghost use Rattle.table_check.specs.Passes.{table_in};
 
 use crate::fault::TableFault;
-use crate::pass::Pass;
+use crate::pass::RowsSoFar;
 use crate::shape::is_board;
 use crate::table::Table;
 use board::Board;
@@ -29,11 +29,11 @@ fn take_words<'a>(words: &mut Vec<&'a str>, line: &'a str) -> Result<(), AllocEr
 
 /// All lines of a text.
 #[tactic(auto, unfolding(crate::specs::Passes::after_line))]
-fn pass_of(alloc: Global, board: &Board, text: &str) -> Result<Pass, TableFault>
+fn pass_of(alloc: Global, board: &Board, text: &str) -> Result<RowsSoFar, TableFault>
     ensures { Gives pass_view result
         (after_lines board.now 1 no_pass (lines_by_feed text.now)) }
 {
-    let mut pass = Pass::new(alloc);
+    let mut pass = RowsSoFar::new(alloc);
     let mut words = Vec::new(alloc);
     let mut number = 1;
     let mut rest = text;

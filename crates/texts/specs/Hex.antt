@@ -4,10 +4,12 @@ use Rattle.std.specs.Prelude.{◌||◌, length, Option, Some, None, option_map, 
 use Rattle.std.specs.Prelude.{if◌then◌else◌}
 use Rattle.std.specs.List.{list_all, flat_map}
 use Rattle.std.specs.Str.Parse.{digits_value}
+use Rattle.texts.specs.Ascii as ascii
 
 -- 0 to 9 or A to F
 abbrev pub is_digit : ℕ → Bool
-is_digit c = (nat_le 48 c && nat_le c 57) || (nat_le 65 c && nat_le c 70)
+is_digit c = (nat_le ascii.digit_zero c && nat_le c ascii.digit_nine)
+    || (nat_le ascii.upper_a c && nat_le c ascii.upper_f)
 
 -- the number that a text of so many digits, least to most, spells
 abbrev pub number_of_digits : ℕ → ℕ → List ℕ → Option ℕ
@@ -32,7 +34,7 @@ pairs_of (high ∷ low ∷ rest) =
 
 -- the digit of a number below 16
 abbrev pub digit_of : ℕ → ℕ
-digit_of n = if nat_lt n 10 then n + 48 else n + 55
+digit_of n = if nat_lt n 10 then n + ascii.digit_zero else n + 55
 
 -- the two digits of a byte
 abbrev pub pair_text : ℕ → List ℕ

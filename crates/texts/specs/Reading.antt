@@ -1,5 +1,5 @@
 -- Reading that ends at the first fault, of any type of fault.
-use Rattle.std.specs.Prelude.{◌≡◌, Bool, Option, Some, None, Result, Ok, Err, if◌then◌else◌}
+use Rattle.std.specs.Prelude.{◌≡◌, ◌≢◌, Bool, Option, Some, None, Result, Ok, Err, if◌then◌else◌}
 use Rattle.texts.specs.declared.reading.ReadError.{ReadError}
 use Rattle.texts.specs.declared.reading.ReadError.TheVariants as errors
 
@@ -18,6 +18,11 @@ Fails (errors.Fault f) read = read ≡ Err f
 abbrev pub Gives : {F X Y : Type 0} → (X → Y) → Result X (ReadError F) → Result Y F → Type 0
 Gives view (Ok x) read = read ≡ Ok (view x)
 Gives view (Err e) read = Fails e read
+
+-- the same where a fault of its own says that memory ran out
+abbrev pub GivesUnless : {F X Y : Type 0} → F → (X → Y) → Result X F → Result Y F → Type 0
+GivesUnless memory view (Ok x) read = read ≡ Ok (view x)
+GivesUnless memory view (Err e) read = e ≢ memory → read ≡ Err e
 
 -- the value, or the fault where there is none
 abbrev pub some_or : {F A : Type 0} → F → Option A → Result A F

@@ -1,13 +1,14 @@
 -- The lines of a text, and the words of a line.
 use Rattle.std.specs.Prelude.{ℕ, List, [], ◌∷◌, Bool, ◌==◌, filter, length, nat_lt, if◌then◌else◌}
 use Rattle.std.specs.List.{slice_split}
+use Rattle.texts.specs.Ascii as ascii
 
 abbrev pub is_nonempty : List ℕ → Bool
 is_nonempty xs = nat_lt 0 (length xs)
 
 -- the nonempty parts between spaces
 abbrev pub words_of : List ℕ → List (List ℕ)
-words_of line = filter is_nonempty (slice_split (λ b. b == 32) line)
+words_of line = filter is_nonempty (slice_split (λ b. b == ascii.space) line)
 
 -- an empty part behind the last line feed is no line
 abbrev pub without_empty_end : List (List ℕ) → List (List ℕ)
@@ -17,4 +18,4 @@ without_empty_end (line ∷ next ∷ later) = line ∷ without_empty_end (next �
 
 -- the parts between line feeds: a carriage return is a character like any other
 abbrev pub lines_by_feed : List ℕ → List (List ℕ)
-lines_by_feed text = without_empty_end (slice_split (λ b. b == 10) text)
+lines_by_feed text = without_empty_end (slice_split (λ b. b == ascii.line_feed) text)

@@ -18,7 +18,7 @@ use Rattle.facts.specs.Edges.{Edge, edges, edges_of, other_edges, edge_if, Effec
 use Rattle.facts.specs.Edges.{SetsProtect, TurnsOff, ReadsStatus, ReadsPage, ReadsProtect, Loads}
 use Rattle.facts.specs.Edges.{Nothing, effect_of, done_row, else_row, keep, learn_good}
 use Rattle.facts.specs.Edges.{if_may_jump, if_jump_row, if_may_go_on, if_next_row, all_bits}
-use Rattle.facts.specs.Edges.{good_bits, counted, taken_off, counter_in}
+use Rattle.facts.specs.Edges.{good_bits, with_counter, taken_off, counter_in}
 use Rattle.facts.specs.Duties.{one}
 use Rattle.facts.specs.Steps.{HasEdge}
 use Rattle.fact_search.proofs.Leads.Has.{has_possible}
@@ -120,7 +120,7 @@ other_keeps b place (instr.Count c v) row n x f k h =
     let low = Span.lo (span_at row.counters c) in
     let z : slice_index row.coeffs c * low ≡ 0 * low =
     ap (λ y. y * low) (none_at row.coeffs c k.1 f.0) in
-    one_has (EdgeKeeps n) (place + 1) (counted row c v) x
+    one_has (EdgeKeeps n) (place + 1) (with_counter row c v) x
     (omega (arith, k.0, z), none_set row.coeffs c k.1 f.0) h
 other_keeps b place (instr.Again c l) row n x f k h =
     let s = span_at row.counters c in

@@ -4,7 +4,7 @@ use Rattle.std.specs.Prelude.{slice_get, Some}
 use Rattle.board.specs.Boards.{Board}
 use Rattle.seq_program.specs.declared.instr.Instr.{Instr}
 use Rattle.seq_program.specs.declared.instr.Instr.TheVariants as instr
-use Rattle.seq_program.specs.Valid.{IsInstr, IsProgram, IsOnBoard, IsSaid}
+use Rattle.seq_program.specs.Valid.{IsInstr, IsProgram, IsOnBoard, IsInstrOn}
 use Rattle.facts.specs.declared.rule.Rule.TheVariants.{K1}
 use Rattle.facts.specs.Rows.{Row}
 use Rattle.facts.specs.Duties.{Meets}
@@ -39,5 +39,5 @@ pub is_instr : (p : List Instr) (n : ℕ) (i : Instr) → IsProgram p → slice_
 is_instr p n i program here = all_at (λ (x : Instr). IsInstr x) p n i program.each here
 
 pub is_said : (b : Board) (p : List Instr) (n : ℕ) (i : Instr) (row : Row) → IsProgram p
-    → slice_get p n ≡ Some i → Meets b row i K1 → IsSaid (length b.targets) i
+    → slice_get p n ≡ Some i → Meets b row i K1 → IsInstrOn (length b.targets) i
 is_said b p n i row program here k = (is_instr p n i program here, on_board b row i k)

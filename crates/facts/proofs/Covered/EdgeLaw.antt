@@ -13,7 +13,7 @@ use Rattle.facts.specs.Rows.{Row, span_at, SpanCovers, SpansCover, RowCovers}
 use Rattle.facts.specs.Requests.{Sent, sent_in}
 use Rattle.facts.specs.Duties.{one}
 use Rattle.facts.specs.Edges.{edge, edge_if, edges_of, other_edges, effect_of, done_row, else_row}
-use Rattle.facts.specs.Edges.{with_reg, a_byte, plus, above, up_to, reg_in, counter_in, counted}
+use Rattle.facts.specs.Edges.{with_reg, a_byte, plus, above, up_to, reg_in, counter_in, with_counter}
 use Rattle.facts.specs.Edges.{taken_off}
 use Rattle.facts.specs.FactLaws.{EdgesCover, EdgesFollow, Wider}
 use Rattle.facts.proofs.Covered.Covers.{SpansCover-set, SpansCover-at}
@@ -114,7 +114,7 @@ other_follows b place (instr.Add r v) s u fits k =
 other_follows b place (instr.If r m v l) s u fits k = if_follows b place s u r m v l k fits.0
 other_follows b place (instr.Above r v l) s u fits k = above_follows b place s u r v l k
 other_follows b place (instr.Count c v) s u fits k =
-    one_edge b (place + 1) (counted s c v) (counted u c v)
+    one_edge b (place + 1) (with_counter s c v) (with_counter u c v)
     (counters_covers b s u _ _ _ _ _ _ k.covers
     (SpansCover-set s.counters u.counters c (one v) (one v) k.covers.counters
     (omega arith, omega arith)))

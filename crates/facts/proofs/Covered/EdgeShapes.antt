@@ -18,7 +18,7 @@ use Rattle.facts.specs.Requests.{Sent, sent_in}
 use Rattle.facts.specs.Duties.{one, MeetsSent}
 use Rattle.facts.specs.Edges.{Edge, edge, edge_if, edges_of, other_edges, effect_of, done_row}
 use Rattle.facts.specs.Edges.{else_row, with_reg, a_byte, plus, above, up_to, one_off, reg_in}
-use Rattle.facts.specs.Edges.{counter_in, counted, taken_off, is_possible, if_may_jump}
+use Rattle.facts.specs.Edges.{counter_in, with_counter, taken_off, is_possible, if_may_jump}
 use Rattle.facts.specs.Edges.{if_jump_row, if_may_go_on, if_next_row}
 use Rattle.facts.specs.Steps.{HasEdge}
 use Rattle.facts.specs.FactLaws.{IsShaped, EdgesStayShaped}
@@ -90,7 +90,7 @@ other_shaped b place (instr.Above r v l) row x f k h =
     (λ e. spans_shaped b row r (up_to s v) k f.0
     (let z : s.lo ≤ v = leb-true s.lo v e in omega (arith, z, order), omega (arith, range))) h
 other_shaped b place (instr.Count c v) row x f k h =
-    one_has (HasShaped b) (place + 1) (counted row c v) x
+    one_has (HasShaped b) (place + 1) (with_counter row c v) x
     (counter_shaped b row c (one v) (row.base + slice_index row.coeffs c * Span.lo
     (span_at row.counters c))
     (slice_set row.coeffs c 0) k f.0 (omega arith, f.1)) h

@@ -20,7 +20,7 @@ use Rattle.facts.specs.Sets.{empty}
 use Rattle.facts.specs.Rows.{Row, Admits, IsRow, InSpan, span_at, rank, weight}
 use Rattle.facts.specs.Duties.{one}
 use Rattle.facts.specs.Edges.{Edge, edge, edges, edge_if, with_reg, plus, above, up_to, reg_in}
-use Rattle.facts.specs.Edges.{counted}
+use Rattle.facts.specs.Edges.{with_counter}
 use Rattle.facts.specs.Steps.{HasEdge, Leads}
 use Rattle.facts.proofs.Sound.RowChanges.{Change, admits_same}
 use Rattle.facts.proofs.Sound.Loads.{admits_load}
@@ -194,7 +194,7 @@ leads_count b row m h m' h' s c v shaped k ch lt goes =
       lt,
     ) in
     let inside = InSpans-at row.counters m.counters c k.counters wide in
-    let next : Row = counted row c v in
+    let next : Row = with_counter row c v in
     let counters : m'.counters ≡ slice_set m.counters c v = ap (λ (z : Machine). z.counters) goes in
     let P : List ℕ → Type 0 = λ l. rank next l ≤ rank row m.counters in
     record {

@@ -16,7 +16,7 @@ use Rattle.table_check.specs.Tables.{Table}
 use Rattle.table_check.specs.Lines.{Words, each_at, page_words, protect_words, good_words}
 use Rattle.table_check.specs.Lines.{register_words, counter_words, ticks_words}
 use Rattle.table_check.specs.Writable.{IsWordSpan}
-use Rattle.table_check.specs.Passes.{Part, Pass, is_full, row_from, finished, with_line, with_page}
+use Rattle.table_check.specs.Passes.{Part, RowsSoFar, is_full, row_from, finished, with_line, with_page}
 use Rattle.table_check.specs.Passes.{with_protect, with_good, with_register, with_counter}
 use Rattle.table_check.proofs.Text.Spelled.{IsByteSet, AreRails, page_back, protect_back, good_back}
 use Rattle.table_check.proofs.Text.SpelledRows.{IsKnown, AreTicks, register_back, counter_back}
@@ -39,10 +39,10 @@ few_counters r c less = grind (arith, nat_tests)
 all_there : (r c : ℕ) → r ≡ 8 → c ≡ 4 → ((r == 8) && (c == 4)) ≡ true
 all_there r c e f = grind (arith, nat_tests)
 
-abbrev pub at : Table → Part → Pass
+abbrev pub at : Table → Part → RowsSoFar
 at rows p = record { rows = rows; part = Some p }
 
-abbrev pub past : Table → Row → Pass
+abbrev pub past : Table → Row → RowsSoFar
 past rows row = record { rows = rows ++ Some row ∷ []; part = None }
 
 taken : (b : Board) (rows : Table) (p q : Part) (ws : Words) (more : List Words)

@@ -49,8 +49,8 @@ source_back b (source.Page i) board good =
 source_back b (source.Protect i) board good =
     ap (option_map source.Protect) (target_back b i board good)
 
-abbrev IsSaid : Board → Words → Source → Type 0
-IsSaid b ws s = (ws ≡ source_words b s) × IsSource b s
+abbrev IsInstrOn : Board → Words → Source → Type 0
+IsInstrOn b ws s = (ws ≡ source_words b s) × IsSource b s
 
 rail_said : (b : Board) (name : List ℕ) (d : ℕ) → IsBoard b → rail_named b name ≡ Some d
     → (name ≡ name_at b.rail_names d) × (d < length b.rails)
@@ -71,28 +71,28 @@ two_words kind key name there t e =
     ∙ ap (λ (x : List ℕ). key ∷ x ∷ []) e
 
 named_only : (b : Board) (kind name : List ℕ) (s : Source) → IsBoard b
-    → named_source b kind name ≡ Some s → IsSaid b (kind ∷ name ∷ []) s
+    → named_source b kind name ≡ Some s → IsInstrOn b (kind ∷ name ∷ []) s
 named_only b kind name s board e = elim (cases_Bool (bytes_eq kind (codes "status"))) [
   | inl t ↦ status t (rw t at e)
   | inr f ↦ others (rw f at e)
 ]
   where
     status : bytes_eq kind (codes "status") ≡ true
-        → option_map source.Status (rail_named b name) ≡ Some s → IsSaid b (kind ∷ name ∷ []) s
+        → option_map source.Status (rail_named b name) ≡ Some s → IsInstrOn b (kind ∷ name ∷ []) s
     status t e =
         let q = from_map source.Status (rail_named b name) s e in
         let r = rail_said b name q.value board q.there in
         rw (← q.is) (two_words kind (codes "status") name _ t r.0, r.1)
 
     page : bytes_eq kind (codes "page") ≡ true
-        → option_map source.Page (target_named b name) ≡ Some s → IsSaid b (kind ∷ name ∷ []) s
+        → option_map source.Page (target_named b name) ≡ Some s → IsInstrOn b (kind ∷ name ∷ []) s
     page t e =
         let q = from_map source.Page (target_named b name) s e in
         let r = target_said b name q.value board q.there in
         rw (← q.is) (two_words kind (codes "page") name _ t r.0, r.1)
 
     protect : bytes_eq kind (codes "protect") ≡ true
-        → option_map source.Protect (target_named b name) ≡ Some s → IsSaid b (kind ∷ name ∷ []) s
+        → option_map source.Protect (target_named b name) ≡ Some s → IsInstrOn b (kind ∷ name ∷ []) s
     protect t e =
         let q = from_map source.Protect (target_named b name) s e in
         let r = target_said b name q.value board q.there in
@@ -100,20 +100,20 @@ named_only b kind name s board e = elim (cases_Bool (bytes_eq kind (codes "statu
 
     last : (if bytes_eq kind (codes "protect")
         then option_map source.Protect (target_named b name) else None) ≡ Some s
-        → IsSaid b (kind ∷ name ∷ []) s
+        → IsInstrOn b (kind ∷ name ∷ []) s
     last e = let q = from_if _ _ s e in protect q.0 q.1
 
     others : (if bytes_eq kind (codes "page") then option_map source.Page (target_named b name)
         else if bytes_eq kind (codes "protect")
         then option_map source.Protect (target_named b name) else None) ≡ Some s
-        → IsSaid b (kind ∷ name ∷ []) s
+        → IsInstrOn b (kind ∷ name ∷ []) s
     others e = elim (cases_Bool (bytes_eq kind (codes "page"))) [
       | inl t ↦ page t (rw t at e)
       | inr f ↦ last (rw f at e)
     ]
 
 pub source_only : (b : Board) (ws : Words) (s : Source) → IsBoard b → source_of b ws ≡ Some s
-    → IsSaid b ws s
+    → IsInstrOn b ws s
 source_only b [] s board e = absurd (none_some s e)
 source_only b (kind ∷ []) s board e =
     let q = from_if (bytes_eq kind (codes "none")) (Some source.None) s e in

@@ -20,7 +20,7 @@ use Rattle.table_check.specs.Lines.{register_words, counter_words, ticks_words, 
 use Rattle.table_check.specs.Lines.{place_lines, lines_from}
 use Rattle.table_check.specs.Writable.{HasValue, IsShapedRow, IsTypedRow, IsOfKind, IsWordSpan}
 use Rattle.table_check.specs.Saying.{ticks_said, head_said}
-use Rattle.table_check.specs.Passes.{Part, Pass, no_part, is_full, row_from, finished, with_head}
+use Rattle.table_check.specs.Passes.{Part, RowsSoFar, no_part, is_full, row_from, finished, with_head}
 use Rattle.table_check.specs.Passes.{with_line, after_words}
 use Rattle.table_check.proofs.Text.Options.{from_then, from_map}
 use Rattle.table_check.proofs.Text.Spelled.{IsByteSet, AreRails}
@@ -152,7 +152,7 @@ abbrev pub left_lines : Board → ℕ → Option Part → List Words
 left_lines b n None = []
 left_lines b n (Some p) = head_words n ∷ part_lines b p
 
-pub record Stands (b : Board) (pass : Pass) (lines : List Words) : Type 0 where
+pub record Stands (b : Board) (pass : RowsSoFar) (lines : List Words) : Type 0 where
   pub rows : AllByRecursion (GoodPlace b) pass.rows
   pub part : IfSome pass.part (GoodPart b)
   pub all : lines ≡ lines_from b 0 pass.rows ++ left_lines b (length pass.rows) pass.part
@@ -210,7 +210,7 @@ headed b rows lines false s = record {
 }
 
 pub stepped : (b : Board) (rows : Table) (o : Option Part) (lines : List Words) (ws : Words)
-    (next : Pass) → IsBoard b → Stands b (record { rows = rows; part = o }) lines
+    (next : RowsSoFar) → IsBoard b → Stands b (record { rows = rows; part = o }) lines
     → after_words b (record { rows = rows; part = o }) o ws ≡ Some next
     → Stands b next (lines ++ ws ∷ [])
 stepped b rows None lines ws next board s e =
@@ -243,10 +243,10 @@ stepped b rows (Some p) lines ws next board s e =
           })
     ]
   where
-    done : Row → Pass
+    done : Row → RowsSoFar
     done row = record { rows = rows ++ Some row ∷ []; part = None }
 
-    more : Part → Pass
+    more : Part → RowsSoFar
     more q = record { rows = rows; part = Some q }
 
     behind : lines ++ ws ∷ []
@@ -257,18 +257,18 @@ stepped b rows (Some p) lines ws next board s e =
 
 -- ---- runs
 
-abbrev pub run : Board → Pass → List Words → Option Pass
+abbrev pub run : Board → RowsSoFar → List Words → Option RowsSoFar
 run b pass [] = Some pass
 run b pass (ws ∷ more) =
-    option_and_then (λ (next : Pass). run b next more) (after_words b pass pass.part ws)
+    option_and_then (λ (next : RowsSoFar). run b next more) (after_words b pass pass.part ws)
 
-pub ran : (b : Board) (lines : List Words) (pass : Pass) (before : List Words) (end : Pass)
+pub ran : (b : Board) (lines : List Words) (pass : RowsSoFar) (before : List Words) (end : RowsSoFar)
     → IsBoard b → Stands b pass before → run b pass lines ≡ Some end
     → Stands b end (before ++ lines)
 ran b [] pass before end board s e =
     let is : pass ≡ end = cc in rw (← is) (rw (append-nil before) s)
 ran b (ws ∷ lines) pass before end board s e =
-    let q = from_then (λ (next : Pass). run b next lines) (after_words b pass pass.part ws) end e in
+    let q = from_then (λ (next : RowsSoFar). run b next lines) (after_words b pass pass.part ws) end e in
     let one = stepped b pass.rows pass.part before ws q.value board s q.there in
     rw (← append_assoc before (ws ∷ []) lines)
     (ran b lines q.value (before ++ ws ∷ []) end board one q.gives)

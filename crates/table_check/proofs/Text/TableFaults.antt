@@ -21,7 +21,7 @@ use Rattle.table_check.specs.Lines.{Words, each_at, page_words, protect_words, g
 use Rattle.table_check.specs.Lines.{register_words, counter_words, ticks_words, lines_from, line_of}
 use Rattle.table_check.specs.Writable.{HasValue, IsWordSpan}
 use Rattle.table_check.specs.Texts.{Lines, Begins, IsWrongAt, IsFirstBadLine}
-use Rattle.table_check.specs.Passes.{Part, Pass, no_pass, parted, row_from, after_lines, whole_of}
+use Rattle.table_check.specs.Passes.{Part, RowsSoFar, no_pass, parted, row_from, after_lines, whole_of}
 use Rattle.table_check.specs.Passes.{whole, table_in}
 use Rattle.table_check.proofs.Text.Spelled.{IsByteSet, AreRails}
 use Rattle.table_check.proofs.Text.SpelledRows.{IsKnown}
@@ -175,7 +175,7 @@ row_begins b lines rows row more few s =
           ∙ ap (λ (ls : Lines). ls ++ map line_of more) (lines_whole lines);
     }
 
-rows_small : (b : Board) (lines : Lines) (pass : Pass) → length lines ≤ 2 ^ 63
+rows_small : (b : Board) (lines : Lines) (pass : RowsSoFar) → length lines ≤ 2 ^ 63
     → Stands b pass (cut lines) → length pass.rows ≤ 2 ^ 63
 rows_small b lines pass small s =
     let few = few_rows b 0 pass.rows in
@@ -196,7 +196,7 @@ begins_by b lines rows (Some q) board small s =
     row_begins b lines rows c.row c.more (rows_small b lines (at rows q) small s)
     (ran b c.more (at rows q) (cut lines) (past rows c.row) board s c.ran)
 
-begins : (b : Board) (lines : Lines) (pass : Pass) → IsBoard b → length lines ≤ 2 ^ 63
+begins : (b : Board) (lines : Lines) (pass : RowsSoFar) → IsBoard b → length lines ≤ 2 ^ 63
     → run b no_pass (cut lines) ≡ Some pass → Begins b lines
 begins b lines pass board small e =
     begins_by b lines pass.rows pass.part board small (stands b lines pass board e)
@@ -246,7 +246,7 @@ whole_wrong b lines rows (Some q) n board small h e none =
       });
     }
 
-wrong_by : (b : Board) (lines : Lines) (r : Result Pass TableFault) (n : ℕ) → IsBoard b
+wrong_by : (b : Board) (lines : Lines) (r : Result RowsSoFar TableFault) (n : ℕ) → IsBoard b
     → length lines ≤ 2 ^ 63 → Linked b 1 no_pass lines r
     → (r >>= λ pass. whole (length lines) pass) ≡ Err (BadLine n)
     → table_in b lines ≡ Err (BadLine n) → IsFirstBadLine b lines n

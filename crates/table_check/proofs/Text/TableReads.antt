@@ -16,7 +16,7 @@ use Rattle.table_check.specs.Tables.{Table}
 use Rattle.table_check.specs.Lines.{Words, place_lines, lines_from, line_of, table_lines}
 use Rattle.table_check.specs.Writable.{IsShapedRow, IsTypedRow, IsWritable}
 use Rattle.table_check.specs.Texts.{Lines, AreLinesOf}
-use Rattle.table_check.specs.Passes.{Part, Pass, no_pass, after_words, parted, after_line}
+use Rattle.table_check.specs.Passes.{Part, RowsSoFar, no_pass, after_words, parted, after_line}
 use Rattle.table_check.specs.Passes.{after_lines}
 use Rattle.table_check.specs.Passes.{whole_of, whole, table_in}
 use Rattle.table_check.proofs.Text.Options.{none_some, same_some}
@@ -29,20 +29,20 @@ cut lines = map parted lines
 
 -- ---- the lines that are taken
 
-pub record Stuck (b : Board) (n : ℕ) (pass : Pass) (lines : Lines) (e : TableFault) : Type 0 where
+pub record Stuck (b : Board) (n : ℕ) (pass : RowsSoFar) (lines : Lines) (e : TableFault) : Type 0 where
   pub before : ℕ
   pub is : e ≡ BadLine (n + before)
   pub less : before < length lines
-  pub next : Pass
+  pub next : RowsSoFar
   pub good : run b pass (cut (take before lines)) ≡ Some next
   pub bad : run b pass (cut (take (suc before) lines)) ≡ None
 
-abbrev pub Linked : Board → ℕ → Pass → Lines → Result Pass TableFault → Type 0
+abbrev pub Linked : Board → ℕ → RowsSoFar → Lines → Result RowsSoFar TableFault → Type 0
 Linked b n pass lines (Ok end) = run b pass (cut lines) ≡ Some end
 Linked b n pass lines (Err e) = Stuck b n pass lines e
 
-later : (b : Board) (n : ℕ) (pass next : Pass) (l : List ℕ) (lines : Lines)
-    → after_words b pass pass.part (parted l) ≡ Some next → (r : Result Pass TableFault)
+later : (b : Board) (n : ℕ) (pass next : RowsSoFar) (l : List ℕ) (lines : Lines)
+    → after_words b pass pass.part (parted l) ≡ Some next → (r : Result RowsSoFar TableFault)
     → Linked b (n + 1) next lines r → Linked b n pass (l ∷ lines) r
 later b n pass next l lines e (Ok end) h = rw e h
 later b n pass next l lines e (Err x) h =
@@ -57,9 +57,9 @@ later b n pass next l lines e (Err x) h =
       bad = rw e h.bad;
     }
 
-linked_by : (b : Board) (n : ℕ) (pass : Pass) (l : List ℕ) (lines : Lines) (o : Option Pass)
+linked_by : (b : Board) (n : ℕ) (pass : RowsSoFar) (l : List ℕ) (lines : Lines) (o : Option RowsSoFar)
     → after_words b pass pass.part (parted l) ≡ o
-    → ((next : Pass) → Linked b (n + 1) next lines (after_lines b (n + 1) next lines))
+    → ((next : RowsSoFar) → Linked b (n + 1) next lines (after_lines b (n + 1) next lines))
     → Linked b n pass (l ∷ lines)
     (some_or (BadLine n) o >>= λ next. after_lines b (n + 1) next lines)
 linked_by b n pass l lines None e rest =
@@ -75,7 +75,7 @@ linked_by b n pass l lines None e rest =
 linked_by b n pass l lines (Some next) e rest =
     later b n pass next l lines e (after_lines b (n + 1) next lines) (rest next)
 
-pub linked : (b : Board) (n : ℕ) (pass : Pass) (lines : Lines)
+pub linked : (b : Board) (n : ℕ) (pass : RowsSoFar) (lines : Lines)
     → Linked b n pass lines (after_lines b n pass lines)
 unfolding after_line
 linked b n pass [] = refl
@@ -84,14 +84,14 @@ linked b n pass (l ∷ lines) =
     (λ next. linked b (n + 1) next lines)
 
 -- what isn't taken isn't with more lines either
-stuck_by : (b : Board) (xs ys : List Words) (o : Option Pass)
-    → ((next : Pass) → run b next xs ≡ None → run b next (xs ++ ys) ≡ None)
-    → option_and_then (λ (next : Pass). run b next xs) o ≡ None
-    → option_and_then (λ (next : Pass). run b next (xs ++ ys)) o ≡ None
+stuck_by : (b : Board) (xs ys : List Words) (o : Option RowsSoFar)
+    → ((next : RowsSoFar) → run b next xs ≡ None → run b next (xs ++ ys) ≡ None)
+    → option_and_then (λ (next : RowsSoFar). run b next xs) o ≡ None
+    → option_and_then (λ (next : RowsSoFar). run b next (xs ++ ys)) o ≡ None
 stuck_by b xs ys None rest e = refl
 stuck_by b xs ys (Some next) rest e = rest next e
 
-pub stuck : (b : Board) (xs ys : List Words) (pass : Pass) → run b pass xs ≡ None
+pub stuck : (b : Board) (xs ys : List Words) (pass : RowsSoFar) → run b pass xs ≡ None
     → run b pass (xs ++ ys) ≡ None
 stuck b [] ys pass e = absurd (none_some pass (sym e))
 stuck b (ws ∷ xs) ys pass e =
@@ -133,7 +133,7 @@ writable b t all small =
 pub start : (b : Board) → Stands b no_pass []
 start b = record { rows = tt; part = tt; all = refl }
 
-pub stands : (b : Board) (lines : Lines) (end : Pass) → IsBoard b
+pub stands : (b : Board) (lines : Lines) (end : RowsSoFar) → IsBoard b
     → run b no_pass (cut lines) ≡ Some end → Stands b end (cut lines)
 stands b lines end board e = ran b (cut lines) no_pass [] end board (start b) e
 
@@ -157,7 +157,7 @@ whole_is b lines rows None t small s e =
     let same : rows ≡ t = cc in rw (← same) (table_stands b lines rows small s)
 whole_is b lines rows (Some p) t small s e = absurd cc
 
-read_is : (b : Board) (lines : Lines) (r : Result Pass TableFault) (t : Table) → IsBoard b
+read_is : (b : Board) (lines : Lines) (r : Result RowsSoFar TableFault) (t : Table) → IsBoard b
     → length lines < 2 ^ 64 → Linked b 1 no_pass lines r
     → (r >>= λ pass. whole (length lines) pass) ≡ Ok t → AreLinesOf b t lines
 read_is b lines (Ok end) t board small h e =
@@ -192,7 +192,7 @@ never b t lines more board w e none =
     none_some (between t) (sym (stuck b (cut lines) (cut more) no_pass none)
     ∙ lines_taken b t lines more board w e)
 
-read_of : (b : Board) (lines : Lines) (r : Result Pass TableFault) (t : Table) → IsBoard b
+read_of : (b : Board) (lines : Lines) (r : Result RowsSoFar TableFault) (t : Table) → IsBoard b
     → Linked b 1 no_pass lines r → AreLinesOf b t lines
     → (r >>= λ pass. whole (length lines) pass) ≡ Ok t
 read_of b lines (Ok end) t board h are =

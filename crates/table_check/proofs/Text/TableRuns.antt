@@ -19,7 +19,7 @@ use Rattle.table_check.specs.Lines.{head_words}
 use Rattle.table_check.specs.Lines.{place_lines, lines_from}
 use Rattle.table_check.specs.Writable.{HasValue, IsShapedRow, IsTypedRow, IsOfKind, IsWordSpan}
 use Rattle.table_check.specs.Writable.{IsWritable}
-use Rattle.table_check.specs.Passes.{Pass, no_part, no_pass, row_from, with_head}
+use Rattle.table_check.specs.Passes.{RowsSoFar, no_part, no_pass, row_from, with_head}
 use Rattle.table_check.proofs.Text.Spelled.{IsByteSet}
 use Rattle.table_check.proofs.Text.SpelledRows.{IsKnown, first_words, head_back}
 use Rattle.table_check.proofs.Text.PartLines.{one_longer}
@@ -143,7 +143,7 @@ same_row b r good =
     }) (firsts r.regs r.sources e)
     ∙ ap (λ (sources : List Source). record r { sources = sources }) (seconds r.regs r.sources e)
 
-abbrev pub between : Table → Pass
+abbrev pub between : Table → RowsSoFar
 between rows = record { rows = rows; part = None }
 
 head_taken : (b : Board) (done : Table) (n : ℕ) (has : Bool) (more : List Words) → n ≡ length done

@@ -1,5 +1,5 @@
 use Rattle.std.proofs.Common.{◌∙◌, sym}
-use Rattle.board.proofs.Keyed.{all_known-keys}
+use Rattle.board.proofs.KnownKeys.{all_known-keys}
 use Rattle.board.proofs.keys.all_known.Goals as goal
 
 pub returns : goal.returns

@@ -1,5 +1,5 @@
 use Rattle.board.proofs.ListsInOrder.{targets_in_order, entries_in_order, bytes_in_order}
-use Rattle.board.proofs.ListsInOrder.{seats_in_order, needs_in_order, rails_in_order}
+use Rattle.board.proofs.ListsInOrder.{drafts_in_order, needs_in_order, rails_in_order}
 use Rattle.board.proofs.ListsInOrder.{some_lists_in_order}
 use Rattle.board.proofs.law.lists_are_read_in_order.Goals as goal
 
@@ -12,8 +12,8 @@ returns-clause-entries c = entries_in_order
 pub returns-clause-bytes : goal.returns-clause-bytes
 returns-clause-bytes c = bytes_in_order
 
-pub returns-clause-seats : goal.returns-clause-seats
-returns-clause-seats c = seats_in_order
+pub returns-clause-drafts : goal.returns-clause-drafts
+returns-clause-drafts c = drafts_in_order
 
 pub returns-clause-needs : goal.returns-clause-needs
 returns-clause-needs c = needs_in_order

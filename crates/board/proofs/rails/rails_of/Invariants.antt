@@ -1,10 +1,10 @@
 use Rattle.std.proofs.Common.{◌≡◌, [], drop, map}
 use Rattle.board.specs.Named.{names}
 use Rattle.board.specs.Rails.{rails_of}
-use Rattle.board.specs.SeatViews.{seat_view}
+use Rattle.board.specs.DraftViews.{draft_view}
 use Rattle.board.proofs.rails.rails_of.Given as goal
 
-abbrev pub invariant-loop-seat : goal.invariant-loop-seat
-invariant-loop-seat l =
-    rails_of (names l.seats.names) l.rails.items (map seat_view (drop l.seat-index l.seat-items))
-    ≡ rails_of (names l.seats.names) [] (map seat_view l.seats.items.items)
+abbrev pub invariant-loop-draft : goal.invariant-loop-draft
+invariant-loop-draft l =
+    rails_of (names l.drafts.names) l.rails.items (map draft_view (drop l.draft-index l.draft-items))
+    ≡ rails_of (names l.drafts.names) [] (map draft_view l.drafts.items.items)

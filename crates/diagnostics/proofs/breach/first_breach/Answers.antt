@@ -17,8 +17,8 @@ loop-spare-init c =
     let first : c.in-Ok.machine ≡ start_at (start_of s) =
     rw (← pages, ← protects) c.in-Ok.ensures.machine in
     judged_start c.steps_are_seen.ensures.starts c.accepted_runs_are_admitted.ensures.starts s
-    c.in-Ok.machine (rails_in c.new-judge.result.good) c.targets-targets.ensures.board
-    c.places-places.ensures.program start first (c.new-judge.ensures s.board)
+    c.in-Ok.machine (rails_in c.new-judge.result.good) c.board_is_valid.ensures
+    c.program_is_valid.ensures start first (c.new-judge.ensures s.board)
     c.answers-answers.result c.answers-answers.ensures.all c.answers-answers.ensures.few
 
 pub returns-in-Some-2-clause-first : goal.returns-in-Some-2-clause-first
@@ -35,8 +35,8 @@ pub returns-in-Some-2-clause-spares : goal.returns-in-Some-2-clause-spares
 returns-in-Some-2-clause-spares c = λ t table.
     absurd (spares c.accepted_runs_keep_rules.ensures c.args.scenario.now c.loop-spare.answers
     c.loop-spare.index c.loop-spare.ticks c.loop-spare.machine
-    (rails_in c.loop-spare.judge.good) c.in-Some-2.rule t c.targets-targets.ensures.board
-    c.places-places.ensures.program c.requires c.loop-spare.invariant
+    (rails_in c.loop-spare.judge.good) c.in-Some-2.rule t c.board_is_valid.ensures
+    c.program_is_valid.ensures c.requires c.loop-spare.invariant
     (rw c.in-Some-2.is at c.in_ok-rule.ensures.running)
     (rw c.in-Some-2.is at c.in_ok-rule.ensures.told) table)
 
@@ -60,7 +60,7 @@ loop-spare-preserved c =
     c.accepted_runs_are_admitted.ensures.steps c.args.scenario.now c.loop-spare.answers
     c.next.new.self c.loop-spare.index c.loop-spare.ticks c.loop-spare.machine c.in-Some-3.after
     (rails_in c.loop-spare.judge.good) (rails_in c.after.new.self.good) c.in-Some.answer
-    c.in-Some-3.entry c.targets-targets.ensures.board c.places-places.ensures.program
+    c.in-Some-3.entry c.board_is_valid.ensures c.program_is_valid.ensures
     c.loop-spare.invariant taken next c.in_ok-after.ensures.knows
     (rw c.in_default-2.is at c.in_ok-rule.ensures.told))
 

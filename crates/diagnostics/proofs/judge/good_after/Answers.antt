@@ -31,7 +31,7 @@ loop-index-preserved c =
 
 pub returns-clause-tells : goal.returns-clause-tells
 returns-clause-tells c = λ d lt.
-    let few = c.rails-rails.ensures.board.few_rails in
+    let few = c.board_is_valid.ensures.few_rails in
     let end = c.loop-index-test.false in
     c.loop-index.invariant.0 d (omega (arith, lt, few, end)) lt
 

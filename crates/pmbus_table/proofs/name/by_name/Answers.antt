@@ -12,5 +12,5 @@ returns-in-Some c =
 pub returns-in-None : goal.returns-in-None
 returns-in-None c =
     let read : c.manufacturer_named.result ≡ command_named c.args.name.now =
-    c.manufacturer_named.ensures ∙ ap (command_in c.args.name.now) c.in-None.ensures in
+    c.manufacturer_named.ensures.value ∙ ap (command_in c.args.name.now) c.in-None.ensures in
     record { value = read; spelled = name_spelled _ _ read; only = name_only _ _ read }

@@ -56,5 +56,5 @@ returns-clause-seen c =
     take_all c.loop-index.index c.args.answers.now c.loop-index-test.false in
     let run = rw all at c.loop-index.invariant.0 in
     c.runs_are_seen.ensures b p m c.loop-index.last c.args.answers.now c.loop-index.entries.items
-    c.targets-targets.ensures.board c.places-places.ensures.program
+    c.board_is_valid.ensures c.program_is_valid.ensures
     (record { machine = c.requires.machine; words = words }) run

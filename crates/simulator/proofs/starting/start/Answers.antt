@@ -5,6 +5,6 @@ pub returns-clause-belongs : goal.returns-clause-belongs
 returns-clause-belongs c = λ p is. record {
   place = is.some;
   bus =
-      c.states_belong.ensures.starts c.args.board.now _ c.targets-targets.ensures.board
+      c.states_belong.ensures.starts c.args.board.now _ c.board_is_valid.ensures
       (c.if-not-starts.ensures.0 refl);
 }

@@ -8,15 +8,15 @@ use Rattle.smbus.proofs.observing.observe.Goals as goal
 pub loop-place-preserved : goal.loop-place-preserved
 loop-place-preserved c =
     read_on c.args.events.now c.loop-place.place (reading_of c.loop-place.reading)
-    (reading_of c.take.new.self) _ c.loop-place-test.true c.loop-place.invariant
-    (MatchBool-at_true _ _ c.if-not-branch.false c.in_ok-take.ensures)
+    (reading_of c.accept.new.self) _ c.loop-place-test.true c.loop-place.invariant
+    (MatchBool-at_true _ _ c.if-not-branch.false c.in_ok-accept.ensures)
 
 -- no frames go on from here
 pub returns-then-not-branch-clause-fault : goal.returns-then-not-branch-clause-fault
 returns-then-not-branch-clause-fault c =
     fails_here c.args.events.now c.loop-place.place
     (reading_of c.loop-place.reading) _ c.loop-place-test.true c.loop-place.invariant
-    (MatchBool-at_false _ _ c.if-not-branch.true c.in_ok-take.ensures)
+    (MatchBool-at_false _ _ c.if-not-branch.true c.in_ok-accept.ensures)
 
 pub returns-then-not-branch-clause-none : goal.returns-then-not-branch-clause-none
 returns-then-not-branch-clause-none c known frames are =

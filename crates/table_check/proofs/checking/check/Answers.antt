@@ -6,5 +6,5 @@ pub returns-clause-safe : goal.returns-clause-safe
 returns-clause-safe c =
     ok_to c.verdict_on.result _ _ (λ v told.
     c.inductive_runs_are_safe.ensures.verdicts c.args.board.now c.args.program.now
-    (rows_view c.deref.result.now) v c.board_law.ensures c.program_law.ensures told)
+    (rows_view c.deref.result.now) v c.board_is_valid.ensures c.program_is_valid.ensures told)
     c.verdict_on.ensures

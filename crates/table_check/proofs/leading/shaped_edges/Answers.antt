@@ -29,10 +29,10 @@ returns-clause-shaped c =
     let Told : Option Instr → List (ℕ × CodeRow × ℕ) → Type 0 = λ o es. IfSome o
     (λ j. map timed_view es ≡ timed (worst_ticks b j) (edges b c.args.place j row)) in
     let fits : IsInstr i = all_at (λ (x : Instr). IsInstr x) c.args.program.now c.args.place i
-    c.places-places.ensures.program.each c.requires.here in
+    c.program_is_valid.ensures.each c.requires.here in
     ok_to c.edges.result _ _ (λ es told.
     all_have (λ (x : Edge). IsShaped b x.row) es.items (worst_ticks b i)
     (edges b c.args.place i row) (subst (λ o. Told o es.items) c.requires.here told)
-    (λ x k. c.covered_rows_follow.ensures.shapes b c.args.place i row x c.board_law.ensures
+    (λ x k. c.covered_rows_follow.ensures.shapes b c.args.place i row x c.board_is_valid.ensures
     fits (row_shaped b row c.requires.row) c.requires.met k))
     c.edges.ensures.leads

@@ -18,8 +18,8 @@ returns-in-Some-clause-knows c = λ history e next ready step known.
     (rails_in c.args.self.now.good d) (rails_in c.good_after-self.result d) in
     after_message b p m next a e i c.in-Some.message history (rails_in c.args.self.now.good)
     (rails_in c.good_after-self.result)
-    (c.steps_are_seen.ensures.steps b p m next a e c.rails-rails.ensures.board
-    c.places-places.ensures.program ready step)
+    (c.steps_are_seen.ensures.steps b p m next a e c.board_is_valid.ensures
+    c.program_is_valid.ensures ready step)
     c.instr_of-instr.ensures
     (sym c.in-Some.is ∙ (c.in_ok-message.ensures
     ∙ ap (λ (x : Machine). message_of b i x.regs) c.machine.view_is))
@@ -34,8 +34,8 @@ returns-in_default-clause-knows c = λ history e next ready step known.
     let a = c.args.answer.now in
     let i = c.instr_of-instr.result.now in
     after_silence b p m next a e i history (rails_in c.args.self.now.good)
-    (c.steps_are_seen.ensures.steps b p m next a e c.rails-rails.ensures.board
-    c.places-places.ensures.program ready step)
+    (c.steps_are_seen.ensures.steps b p m next a e c.board_is_valid.ensures
+    c.program_is_valid.ensures ready step)
     c.instr_of-instr.ensures
     (sym c.in_default.is ∙ (c.in_ok-message.ensures
     ∙ ap (λ (x : Machine). message_of b i x.regs) c.machine.view_is))

@@ -1,7 +1,7 @@
 use Rattle.std.proofs.Common.{arith}
 use Rattle.seq_program.specs.PassViews.{labels_view}
 use Rattle.seq_program.proofs.ValidPrograms.{one_more, lands_more, is_known_if}
-use Rattle.seq_program.proofs.pass.Pass.add_instr.Goals as goal
+use Rattle.seq_program.proofs.pass.InstrsSoFar.add_instr.Goals as goal
 
 pub returns-then-not-said-clause-said : goal.returns-then-not-said-clause-said
 returns-then-not-said-clause-said c =
