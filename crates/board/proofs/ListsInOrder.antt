@@ -11,7 +11,8 @@ use Rattle.board.specs.Named.{Named, with_item, named_of}
 use Rattle.board.specs.InOrder.{InOrder, NamedInOrder}
 use Rattle.board.specs.Entries.{allow_of, entry_from, entries_of}
 use Rattle.board.specs.Targets.{bytes_of, target_from, targets_of}
-use Rattle.board.specs.Rails.{RailDraft, draft_from, drafts_of, need_of, needs_of, rail_with, rails_of}
+use Rattle.board.specs.Rails.{RailDraft, draft_from, drafts_of, need_of, needs_of, rail_with}
+use Rattle.board.specs.Rails.{rails_of}
 use Rattle.board.specs.OrderLaws.{list_of, byte_after, entry_after, target_after, draft_after}
 use Rattle.board.specs.OrderLaws.{need_after, rail_after, receive_table, SomeListsInOrder}
 use Rattle.board.specs.OrderLaws.{TargetsInOrder, EntriesInOrder, BytesInOrder, DraftsInOrder}
@@ -72,7 +73,8 @@ rails_read names done (s ∷ drafts) =
     (λ rail. rails_read names (done ++ rail ∷ []) drafts)
 
 pub rails_in_order : RailsInOrder
-rails_in_order names drafts r = rw (rails_read names []) (reads_in_order (rail_after names) drafts r)
+rails_in_order names drafts r =
+    rw (rails_read names []) (reads_in_order (rail_after names) drafts r)
 
 -- the values, as items with their names
 abbrev in_names : {A F : Type 0} → Result (List (List ℕ × A)) F → Result (Named A) F

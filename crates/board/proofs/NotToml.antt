@@ -19,7 +19,8 @@ use Rattle.board.specs.Named.{Named, with_item}
 use Rattle.board.specs.Entries.{command_at, command_for, allow_of, entry_from, entries_of}
 use Rattle.board.specs.Targets.{new_name, new_address, numbers_of, bytes_of, start_pages_of}
 use Rattle.board.specs.Targets.{start_protects_of, target_with, target_from, targets_of}
-use Rattle.board.specs.Rails.{RailDraft, draft_from, drafts_of, need_of, needs_of, rails_of, rail_with}
+use Rattle.board.specs.Rails.{RailDraft, draft_from, drafts_of, need_of, needs_of, rails_of}
+use Rattle.board.specs.Rails.{rail_with}
 use Rattle.board.specs.Files.{check_size, board_of}
 
 pub record NotToml {A : Type 0} (r : Result A BoardFault) : Type 0 where
@@ -166,7 +167,8 @@ drafts_not : (targets : Named Target) (done : Named RailDraft) (ds : Items)
     → NotToml (drafts_of targets done ds)
 drafts_not targets done no_items = ok done
 drafts_not targets done (item d ds) =
-    let more : (x : List ℕ × RailDraft) → NotToml (drafts_of targets (with_item x.0 x.1 done) ds) = λ x.
+    let more : (x : List ℕ × RailDraft)
+    → NotToml (drafts_of targets (with_item x.0 x.1 done) ds) = λ x.
     drafts_not targets (with_item x.0 x.1 done) ds in
     search (rules, then, or, bad_key, draft_not, more)
 

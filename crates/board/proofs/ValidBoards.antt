@@ -51,7 +51,8 @@ size_ok ms k e =
     }
 
 -- a board of valid targets and rails
-record AreParts (targets : Named Target) (drafts : Named RailDraft) (rails : List Rail) : Type 0 where
+record AreParts (targets : Named Target) (drafts : Named RailDraft)
+    (rails : List Rail) : Type 0 where
   pub good_targets : AreTargets targets
   pub one_target : 1 ≤ length targets.items
   pub few_targets : length targets.items ≤ 16
@@ -125,7 +126,8 @@ board_valid ms b e =
       good_targets = targets_valid no_named (items_at (codes "target") k.0) t.0 t.1 no_targets;
       one_target = omega (arith, few.one_target, targets);
       few_targets = omega (arith, few.few_targets, targets);
-      good_drafts = drafts_valid t.0 no_named (items_at (codes "rail") k.0) s.0 s.1 (no_drafts t.0.items);
+      good_drafts =
+          drafts_valid t.0 no_named (items_at (codes "rail") k.0) s.0 s.1 (no_drafts t.0.items);
       few_rails = omega (arith, few.few_rails, drafts);
       count = omega (arith, rails);
       same = rails_bare s.0.names [] s.0.items r.0 r.1;

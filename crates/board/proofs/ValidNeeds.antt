@@ -72,7 +72,8 @@ more_rails count rails r a n = record {
   ];
 }
 
-pub rails_ok : (names : List (List ℕ)) (done : List Rail) (drafts : List RailDraft) (rails : List Rail)
+pub rails_ok : (names : List (List ℕ)) (done : List Rail) (drafts : List RailDraft)
+    (rails : List Rail)
     → rails_of names done drafts ≡ Ok rails → HaveNeeds (length names) done
     → HaveNeeds (length names) rails
 rails_ok names done [] rails e a = subst (HaveNeeds (length names)) (ok_is done rails e) a
@@ -87,7 +88,8 @@ rails_ok names done (s ∷ drafts) rails e a =
 abbrev pub bare : Rail → Rail
 bare r = record { target = r.target; page = r.page; limit_uv = r.limit_uv; needs = [] }
 
-pub rails_bare : (names : List (List ℕ)) (done : List Rail) (drafts : List RailDraft) (rails : List Rail)
+pub rails_bare : (names : List (List ℕ)) (done : List Rail) (drafts : List RailDraft)
+    (rails : List Rail)
     → rails_of names done drafts ≡ Ok rails
     → map bare rails ≡ map bare done ++ map without_needs drafts
 rails_bare names done [] rails e = rw (append-nil, ok_is done rails e)
@@ -97,7 +99,8 @@ rails_bare names done (s ∷ drafts) rails e =
     ∙ ap (λ (xs : List Rail). xs ++ map without_needs drafts) (map-push bare done (rail_with s n.0))
     ∙ append_assoc (map bare done) (without_needs s ∷ []) (map without_needs drafts)
 
-pub rails_count : (names : List (List ℕ)) (done : List Rail) (drafts : List RailDraft) (rails : List Rail)
+pub rails_count : (names : List (List ℕ)) (done : List Rail) (drafts : List RailDraft)
+    (rails : List Rail)
     → rails_of names done drafts ≡ Ok rails → length rails ≡ length done + length drafts
 rails_count names done [] rails e =
     let same = ap (λ (x : List Rail). length x) (ok_is done rails e) in

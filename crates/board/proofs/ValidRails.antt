@@ -15,7 +15,8 @@ use Rattle.board.specs.Boards.{Target, Rail}
 use Rattle.board.specs.Fields.{number_at, items_at}
 use Rattle.board.specs.Named.{Named, is_named, no_named, with_item}
 use Rattle.board.specs.Targets.{new_name}
-use Rattle.board.specs.Rails.{RailDraft, check_rail_keys, target_at, page_of, page_at, has_page, draft_from}
+use Rattle.board.specs.Rails.{RailDraft, check_rail_keys, target_at, page_of, page_at, has_page}
+use Rattle.board.specs.Rails.{draft_from}
 use Rattle.board.specs.Rails.{drafts_of, rail_with}
 use Rattle.board.specs.Files.{item_count}
 use Rattle.board.specs.Valid.{DifferInPage}
@@ -135,7 +136,8 @@ more_drafts targets n name s a x = record {
       (without_needs s) a.apart (pages_differ n.items s x.free));
 }
 
-pub drafts_valid : (targets : Named Target) (done : Named RailDraft) (ds : Items) (n : Named RailDraft)
+pub drafts_valid : (targets : Named Target) (done : Named RailDraft) (ds : Items)
+    (n : Named RailDraft)
     → drafts_of targets done ds ≡ Ok n → AreDrafts targets.items done → AreDrafts targets.items n
 drafts_valid targets done no_items n e a = subst (AreDrafts targets.items) (ok_is done n e) a
 drafts_valid targets done (item d ds) n e a =
@@ -144,7 +146,8 @@ drafts_valid targets done (item d ds) n e a =
     drafts_valid targets (with_item s.0.0 s.0.1 done) ds n s.2
     (more_drafts targets.items done s.0.0 s.0.1 a (draft_ok targets done m.0 s.0 s.1))
 
-pub drafts_count : (targets : Named Target) (done : Named RailDraft) (ds : Items) (n : Named RailDraft)
+pub drafts_count : (targets : Named Target) (done : Named RailDraft) (ds : Items)
+    (n : Named RailDraft)
     → drafts_of targets done ds ≡ Ok n → length n.items ≡ length done.items + item_count ds
 drafts_count targets done no_items n e =
     let same = ap (λ (x : Named RailDraft). length x.items) (ok_is done n e) in

@@ -22,7 +22,8 @@ abbrev pub tables_key : List ℕ → Key
 tables_key name = (name, kind.ListOf sort.Table)
 
 abbrev pub check_top_keys : Members → Result Members BoardFault
-check_top_keys ms = check_keys (tables_key (codes "target") ∷ []) (tables_key (codes "rail") ∷ []) ms
+check_top_keys ms =
+    check_keys (tables_key (codes "target") ∷ []) (tables_key (codes "rail") ∷ []) ms
 
 -- 1 to 16 targets, and at most 64 rails
 unfoldable pub check_size : Members → Result Members BoardFault

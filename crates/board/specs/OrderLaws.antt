@@ -10,7 +10,8 @@ use Rattle.board.specs.Named.{Named, no_named, named_of}
 use Rattle.board.specs.Fields.{number_in}
 use Rattle.board.specs.Entries.{entry_from, entries_of}
 use Rattle.board.specs.Targets.{bytes_of, target_from, targets_of}
-use Rattle.board.specs.Rails.{RailDraft, draft_from, drafts_of, need_of, needs_of, rail_with, rails_of}
+use Rattle.board.specs.Rails.{RailDraft, draft_from, drafts_of, need_of, needs_of, rail_with}
+use Rattle.board.specs.Rails.{rails_of}
 use Rattle.board.specs.InOrder.{InOrder, NamedInOrder}
 
 -- the elements of a list in a file

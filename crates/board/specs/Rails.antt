@@ -49,7 +49,8 @@ abbrev pub has_page : ℕ → ℕ → List RailDraft → Bool
 has_page target page drafts = list_any (λ s. s.target == target && s.page == page) drafts
 
 -- the rail of a table, after the rails before it
-unfoldable pub draft_from : Named Target → Named RailDraft → Members → Result (List ℕ × RailDraft) BoardFault
+unfoldable pub draft_from : Named Target → Named RailDraft → Members
+    → Result (List ℕ × RailDraft) BoardFault
 draft_from targets done ms = do
   keys ← check_rail_keys ms
   name ← new_name done.names keys

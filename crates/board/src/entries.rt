@@ -6,7 +6,8 @@ ghost use Rattle.board.specs.Boards.{has_entry, IsCommandFor};
 ghost use Rattle.board.specs.Valid.{full_values};
 ghost use Rattle.board.specs.Reading.{Gives};
 ghost use Rattle.board.specs.KeyViews.{key_views};
-ghost use Rattle.board.specs.Entries.{check_entry_keys, needed_by, optional_for, form_at, command_at};
+ghost use Rattle.board.specs.Entries.{check_entry_keys, needed_by, optional_for, form_at};
+ghost use Rattle.board.specs.Entries.{command_at};
 ghost use Rattle.board.specs.Entries.{command_for, range_in, range_at, allow_of, entry_from};
 ghost use Rattle.board.specs.Entries.{entries_of};
 

@@ -1,4 +1,5 @@
-ghost use Rattle.board.specs.OrderLaws.{TargetsInOrder, EntriesInOrder, BytesInOrder, DraftsInOrder};
+ghost use Rattle.board.specs.OrderLaws.{TargetsInOrder, EntriesInOrder, BytesInOrder};
+ghost use Rattle.board.specs.OrderLaws.{DraftsInOrder};
 ghost use Rattle.board.specs.OrderLaws.{NeedsInOrder, RailsInOrder, SomeListsInOrder};
 ghost use Rattle.board.specs.Valid.{IsBoard};
 

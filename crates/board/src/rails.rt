@@ -6,7 +6,8 @@ ghost use Rattle.toml.specs.View.{view, table_view, items_view};
 ghost use Rattle.board.specs.declared.fault.BoardFault.TheVariants.{Memory};
 ghost use Rattle.board.specs.Reading.{Gives};
 ghost use Rattle.board.specs.Named.{named_view, names, is_named, with_item, no_named};
-ghost use Rattle.board.specs.Rails.{check_rail_keys, target_at, page_of, page_at, has_page, draft_from};
+ghost use Rattle.board.specs.Rails.{check_rail_keys, target_at, page_of, page_at, has_page};
+ghost use Rattle.board.specs.Rails.{draft_from};
 ghost use Rattle.board.specs.Rails.{drafts_of, need_of, needs_of, rails_of};
 ghost use Rattle.board.specs.DraftViews.{draft_view, drafts_view};
 
@@ -125,7 +126,8 @@ fn push_draft<'a>(
 ) -> Result<(), BoardFault>
     requires { is_named name.now (names drafts.old.names) ≡ false }
     ensures ok { OnOk result
-        (drafts_view drafts.new ≡ with_item name.now (draft_view draft.entry) (drafts_view drafts.old)) }
+        (drafts_view drafts.new
+        ≡ with_item name.now (draft_view draft.entry) (drafts_view drafts.old)) }
     ensures err { IfErr result (λ e. e ≡ Memory) }
 {
     drafts.push(alloc, name, draft)?;

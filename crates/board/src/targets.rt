@@ -7,7 +7,8 @@ ghost use Rattle.toml.specs.View.{view, table_view, items_view};
 ghost use Rattle.board.specs.Reading.{Gives};
 ghost use Rattle.board.specs.Valid.{is_target_address, is_page_value};
 ghost use Rattle.board.specs.Named.{named_view, names, is_named, no_named};
-ghost use Rattle.board.specs.Targets.{check_target_keys, new_name, address_at, has_address, new_address};
+ghost use Rattle.board.specs.Targets.{check_target_keys, new_name, address_at, has_address};
+ghost use Rattle.board.specs.Targets.{new_address};
 ghost use Rattle.board.specs.Targets.{exponent_at, numbers_of, bytes_of, start_pages_of};
 ghost use Rattle.board.specs.Targets.{start_protects_of, target_with, target_from, targets_of};
 

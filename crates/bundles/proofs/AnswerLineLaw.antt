@@ -7,10 +7,12 @@ use Rattle.smbus.specs.Answered.{Answered}
 use Rattle.bundles.specs.Bundles.{Line}
 use Rattle.bundles.specs.Fields.{value_of, number_of}
 use Rattle.bundles.specs.AnswerWords.{past_bytes, answer_of}
-use Rattle.bundles.specs.AnswerLines.{took_of, past_took, past_alerts, bad_answer, without_dash, answer_in}
+use Rattle.bundles.specs.AnswerLines.{took_of, past_took, past_alerts, bad_answer, without_dash}
+use Rattle.bundles.specs.AnswerLines.{answer_in}
 use Rattle.bundles.specs.AnswerLines.{answer_line_of}
 use Rattle.bundles.specs.Spelled.{spelled, AnswerValues, SaysAnswer}
-use Rattle.bundles.specs.SpelledAnswers.{AnswerLineValues, key_values, IsAnswerLine, AnswerLinesAreRead}
+use Rattle.bundles.specs.SpelledAnswers.{AnswerLineValues, key_values, IsAnswerLine}
+use Rattle.bundles.specs.SpelledAnswers.{AnswerLinesAreRead}
 use Rattle.bundles.specs.SpelledAnswers.{OtherLinesAreBad}
 use Rattle.bundles.proofs.Keys.{spelled_by}
 use Rattle.bundles.proofs.Readings.{bind_ok, some_ok, if_ok, none_left, fails_then, fails_some}

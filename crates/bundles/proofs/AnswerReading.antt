@@ -88,12 +88,14 @@ pub record AreOthers (later : KeyValues) : Type 0 where
   pub value : is_new (codes "value=") later ≡ true
   pub bytes : is_new (codes "bytes=") later ≡ true
 
-pub record AnswerTaken (values : AnswerValues) (later : KeyValues) (words : List Line) : Type 0 where
+pub record AnswerTaken (values : AnswerValues) (later : KeyValues)
+    (words : List Line) : Type 0 where
   pub says : (a : Answered) → SaysAnswer values a → SaysAnswer (answer_values words) a
   pub rest : past_bytes words ≡ spelled later
 
 pub answer_taken : (values : AnswerValues) (later : KeyValues) (words : List Line)
-    → words ≡ spelled (answer_key_values values later) → AreOthers later → AnswerTaken values later words
+    → words ≡ spelled (answer_key_values values later) → AreOthers later
+    → AnswerTaken values later words
 answer_taken values later words e apart =
     let holds = taken (codes "holds=") values.holds _ words e apart.holds in
     let refuse =

@@ -95,7 +95,8 @@ unspelled_word : (key word : List ℕ) (later : List Line) → after_key key wor
 unfolding value_of rest_of
 unspelled_word key word later e = record { none = e; all = rw e refl }
 
-unspelled : (key : List ℕ) (later : KeyValues) → is_new key later ≡ true → Unspelled key (spelled later)
+unspelled : (key : List ℕ) (later : KeyValues) → is_new key later ≡ true
+    → Unspelled key (spelled later)
 unfolding value_of rest_of
 unspelled key [] t = record { none = refl; all = refl }
 unspelled key ((other, None) ∷ later) t =
@@ -104,13 +105,15 @@ unspelled key ((other, Some value) ∷ later) t =
     unspelled_word key (other ++ value) (spelled later)
     (behind_another key other value (and_parts (are_apart key other) (is_new key later) t).0)
 
-pub value_spelled : (key : List ℕ) (o : Option (List ℕ)) (later : KeyValues) → is_new key later ≡ true
+pub value_spelled : (key : List ℕ) (o : Option (List ℕ)) (later : KeyValues)
+    → is_new key later ≡ true
     → value_of key (spelled ((key, o) ∷ later)) ≡ o
 unfolding value_of
 value_spelled key None later t = (unspelled key later t).none
 value_spelled key (Some value) later t = behind_itself key value
 
-pub rest_spelled : (key : List ℕ) (o : Option (List ℕ)) (later : KeyValues) → is_new key later ≡ true
+pub rest_spelled : (key : List ℕ) (o : Option (List ℕ)) (later : KeyValues)
+    → is_new key later ≡ true
     → rest_of key (spelled ((key, o) ∷ later)) ≡ spelled later
 unfolding rest_of
 rest_spelled key None later t = (unspelled key later t).all

@@ -13,7 +13,8 @@ use Rattle.bundles.specs.AnswerWords.{past_bytes, answer_of}
 use Rattle.bundles.specs.Messages.{form_of, address_of, code_of, past_form, past_address, past_code}
 use Rattle.bundles.specs.Messages.{past_asked, asked_of, bad_message, exchange_of}
 use Rattle.bundles.specs.Spelled.{spelled}
-use Rattle.bundles.specs.MessageLines.{MessageValues, key_values, IsMessageLine, MessageLinesAreRead}
+use Rattle.bundles.specs.MessageLines.{MessageValues, key_values, IsMessageLine}
+use Rattle.bundles.specs.MessageLines.{MessageLinesAreRead}
 use Rattle.bundles.specs.MessageLines.{OtherLinesAreBad}
 use Rattle.bundles.proofs.Keys.{spelled_by}
 use Rattle.bundles.proofs.Readings.{bind_ok, some_ok, if_ok, done_ok, ok_is, none_left, FailsBy}

@@ -44,4 +44,5 @@ holds_named named =
 -- the parts between commas; no holds where the word is missing
 abbrev pub holds_of : Option (List ℕ) → Option (List ℕ)
 holds_of None = Some []
-holds_of (Some text) = option_and_then holds_named (named_by (slice_split (λ b. b == ascii.comma) text))
+holds_of (Some text) =
+    option_and_then holds_named (named_by (slice_split (λ b. b == ascii.comma) text))

@@ -1,6 +1,7 @@
 ghost use Rattle.std.specs.Prelude.{◌≡◌, ◌≤◌, option_copied, codes, All, IfOk};
 ghost use Rattle.texts.specs.Reading.{Gives};
-ghost use Rattle.bundles.specs.AnswerLines.{took_of, without_dash, silence, answer_in, answer_line_of};
+ghost use Rattle.bundles.specs.AnswerLines.{took_of, without_dash, silence, answer_in};
+ghost use Rattle.bundles.specs.AnswerLines.{answer_line_of};
 ghost use Rattle.bundles.specs.AnswerWords.{answer_of, past_bytes};
 ghost use Rattle.bundles.specs.Fields.{value_of, rest_of};
 ghost use Rattle.bundles.specs.Texts.{texts_of};
@@ -89,6 +90,8 @@ pub fn answer_line_of(
         return Ok(silence(alloc));
     }
     let list = words_of(alloc, line)?;
-    let mut words = Fields { words: without_dash(&list) };
+    let mut words = Fields {
+        words: without_dash(&list),
+    };
     answer_in(alloc, number, &mut words)
 }

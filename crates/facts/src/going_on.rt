@@ -14,7 +14,7 @@ ghost use Rattle.facts.specs.declared.source.Source.TheVariants as source;
 use crate::allowing::one;
 use crate::branching::if_ways;
 use crate::moves::{
-    above, copied, with_counter, counter_in, plus, reg_at, reg_in, taken_off, up_to, with_reg,
+    above, copied, counter_in, plus, reg_at, reg_in, taken_off, up_to, with_counter, with_reg,
 };
 use crate::row::Row;
 use crate::source::Source;

@@ -96,7 +96,8 @@ label_read board labels place pass few found =
     rw (label_alone place few, found, same_line (line_at place)) refl
 
 -- a line is read by its words
-line_read : (board : Board) (labels : List Label) (n : ℕ) (pass : InstrsSoFar) (words : List (List ℕ))
+line_read : (board : Board) (labels : List Label) (n : ℕ) (pass : InstrsSoFar)
+    (words : List (List ℕ))
     → list_all is_word words ≡ true
     → after_line board labels n pass (join_with_byte 32 words)
     ≡ after_words board labels n pass words

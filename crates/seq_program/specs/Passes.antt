@@ -36,16 +36,19 @@ after_named board labels n pass word words None = after_instr board labels n pas
 after_named board labels n pass word words (Some name) =
     value_if (SameLabel n) (is_first labels n name) pass
 
-abbrev pub after_words : Board → List Label → ℕ → InstrsSoFar → List (List ℕ) → Result InstrsSoFar ProgramFault
+abbrev pub after_words : Board → List Label → ℕ → InstrsSoFar → List (List ℕ)
+    → Result InstrsSoFar ProgramFault
 after_words board labels n pass [] = Ok pass
 after_words board labels n pass (word ∷ words) =
     after_named board labels n pass word words (label_in (word ∷ words))
 
-unfoldable pub after_line : Board → List Label → ℕ → InstrsSoFar → List ℕ → Result InstrsSoFar ProgramFault
+unfoldable pub after_line : Board → List Label → ℕ → InstrsSoFar → List ℕ
+    → Result InstrsSoFar ProgramFault
 after_line board labels n pass line = after_words board labels n pass (words_on line)
 
 -- the lines from the one with this number on
-abbrev pub after_lines : Board → List Label → ℕ → InstrsSoFar → List (List ℕ) → Result InstrsSoFar ProgramFault
+abbrev pub after_lines : Board → List Label → ℕ → InstrsSoFar → List (List ℕ)
+    → Result InstrsSoFar ProgramFault
 after_lines board labels n pass [] = Ok pass
 after_lines board labels n pass (line ∷ more) = after_line board labels n pass line >>= λ p.
     after_lines board labels (n + 1) p more

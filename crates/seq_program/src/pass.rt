@@ -35,7 +35,8 @@ impl InstrsSoFar {
         word: &str,
         words: &[&str],
     ) -> Result<(), ProgramFault>
-        requires said { AreInstrsSoFar (length board.now.targets) (labels_view labels.now) self.old }
+        requires said { AreInstrsSoFar (length board.now.targets)
+            (labels_view labels.now) self.old }
         ensures said { OnOk result
             (AreInstrsSoFar (length board.now.targets) (labels_view labels.now) self.new) }
         ensures value { Gives (λ _. pass_view self.new) result
@@ -61,7 +62,8 @@ impl InstrsSoFar {
         line: usize,
         words: &[&str],
     ) -> Result<(), ProgramFault>
-        requires said { AreInstrsSoFar (length board.now.targets) (labels_view labels.now) self.old }
+        requires said { AreInstrsSoFar (length board.now.targets)
+            (labels_view labels.now) self.old }
         ensures said { OnOk result
             (AreInstrsSoFar (length board.now.targets) (labels_view labels.now) self.new) }
         ensures value { Gives (λ _. pass_view self.new) result
@@ -88,7 +90,8 @@ impl InstrsSoFar {
         number: usize,
         line: &str,
     ) -> Result<(), ProgramFault>
-        requires said { AreInstrsSoFar (length board.now.targets) (labels_view labels.now) self.old }
+        requires said { AreInstrsSoFar (length board.now.targets)
+            (labels_view labels.now) self.old }
         ensures said { OnOk result
             (AreInstrsSoFar (length board.now.targets) (labels_view labels.now) self.new) }
         ensures value { Gives (λ _. pass_view self.new) result

@@ -10,7 +10,9 @@ is_letter b = nat_le ascii.lower_a b && nat_le b ascii.lower_z
 
 -- a to z, 0 to 9 or `_`
 abbrev pub is_name_byte : ℕ → Bool
-is_name_byte b = (is_letter b || (nat_le ascii.digit_zero b && nat_le b ascii.digit_nine)) || (b == ascii.low_line)
+is_name_byte b =
+    (is_letter b || (nat_le ascii.digit_zero b && nat_le b ascii.digit_nine))
+    || (b == ascii.low_line)
 
 -- 1 to 32 of these, the first a letter
 pub record IsName (text : List ℕ) : Type 0 where

@@ -13,7 +13,8 @@ use Rattle.facts.specs.Rows.{Row, span_at, SpanCovers, SpansCover, RowCovers}
 use Rattle.facts.specs.Requests.{Sent, sent_in}
 use Rattle.facts.specs.Duties.{one}
 use Rattle.facts.specs.Edges.{edge, edge_if, edges_of, other_edges, effect_of, done_row, else_row}
-use Rattle.facts.specs.Edges.{with_reg, a_byte, plus, above, up_to, reg_in, counter_in, with_counter}
+use Rattle.facts.specs.Edges.{with_reg, a_byte, plus, above, up_to, reg_in, counter_in}
+use Rattle.facts.specs.Edges.{with_counter}
 use Rattle.facts.specs.Edges.{taken_off}
 use Rattle.facts.specs.FactLaws.{EdgesCover, EdgesFollow, Wider}
 use Rattle.facts.proofs.Covered.Covers.{SpansCover-set, SpansCover-at}

@@ -16,7 +16,8 @@ use Rattle.table_check.specs.Tables.{Table}
 use Rattle.table_check.specs.Lines.{Words, each_at, page_words, protect_words, good_words}
 use Rattle.table_check.specs.Lines.{register_words, counter_words, ticks_words}
 use Rattle.table_check.specs.Writable.{IsWordSpan}
-use Rattle.table_check.specs.Passes.{Part, RowsSoFar, is_full, row_from, finished, with_line, with_page}
+use Rattle.table_check.specs.Passes.{Part, RowsSoFar, is_full, row_from, finished, with_line}
+use Rattle.table_check.specs.Passes.{with_page}
 use Rattle.table_check.specs.Passes.{with_protect, with_good, with_register, with_counter}
 use Rattle.table_check.proofs.Text.Spelled.{IsByteSet, AreRails, page_back, protect_back, good_back}
 use Rattle.table_check.proofs.Text.SpelledRows.{IsKnown, AreTicks, register_back, counter_back}

@@ -92,7 +92,8 @@ named_only b kind name s board e = elim (cases_Bool (bytes_eq kind (codes "statu
         rw (← q.is) (two_words kind (codes "page") name _ t r.0, r.1)
 
     protect : bytes_eq kind (codes "protect") ≡ true
-        → option_map source.Protect (target_named b name) ≡ Some s → IsInstrOn b (kind ∷ name ∷ []) s
+        → option_map source.Protect (target_named b name) ≡ Some s
+        → IsInstrOn b (kind ∷ name ∷ []) s
     protect t e =
         let q = from_map source.Protect (target_named b name) s e in
         let r = target_said b name q.value board q.there in

@@ -20,7 +20,8 @@ use Rattle.table_check.specs.Lines.{register_words, counter_words, ticks_words, 
 use Rattle.table_check.specs.Lines.{place_lines, lines_from}
 use Rattle.table_check.specs.Writable.{HasValue, IsShapedRow, IsTypedRow, IsOfKind, IsWordSpan}
 use Rattle.table_check.specs.Saying.{ticks_said, head_said}
-use Rattle.table_check.specs.Passes.{Part, RowsSoFar, no_part, is_full, row_from, finished, with_head}
+use Rattle.table_check.specs.Passes.{Part, RowsSoFar, no_part, is_full, row_from, finished}
+use Rattle.table_check.specs.Passes.{with_head}
 use Rattle.table_check.specs.Passes.{with_line, after_words}
 use Rattle.table_check.proofs.Text.Options.{from_then, from_map}
 use Rattle.table_check.proofs.Text.Spelled.{IsByteSet, AreRails}
@@ -262,13 +263,15 @@ run b pass [] = Some pass
 run b pass (ws ∷ more) =
     option_and_then (λ (next : RowsSoFar). run b next more) (after_words b pass pass.part ws)
 
-pub ran : (b : Board) (lines : List Words) (pass : RowsSoFar) (before : List Words) (end : RowsSoFar)
+pub ran : (b : Board) (lines : List Words) (pass : RowsSoFar) (before : List Words)
+    (end : RowsSoFar)
     → IsBoard b → Stands b pass before → run b pass lines ≡ Some end
     → Stands b end (before ++ lines)
 ran b [] pass before end board s e =
     let is : pass ≡ end = cc in rw (← is) (rw (append-nil before) s)
 ran b (ws ∷ lines) pass before end board s e =
-    let q = from_then (λ (next : RowsSoFar). run b next lines) (after_words b pass pass.part ws) end e in
+    let q =
+    from_then (λ (next : RowsSoFar). run b next lines) (after_words b pass pass.part ws) end e in
     let one = stepped b pass.rows pass.part before ws q.value board s q.there in
     rw (← append_assoc before (ws ∷ []) lines)
     (ran b lines q.value (before ++ ws ∷ []) end board one q.gives)

@@ -21,7 +21,8 @@ use Rattle.table_check.specs.Lines.{Words, each_at, page_words, protect_words, g
 use Rattle.table_check.specs.Lines.{register_words, counter_words, ticks_words, lines_from, line_of}
 use Rattle.table_check.specs.Writable.{HasValue, IsWordSpan}
 use Rattle.table_check.specs.Texts.{Lines, Begins, IsWrongAt, IsFirstBadLine}
-use Rattle.table_check.specs.Passes.{Part, RowsSoFar, no_pass, parted, row_from, after_lines, whole_of}
+use Rattle.table_check.specs.Passes.{Part, RowsSoFar, no_pass, parted, row_from, after_lines}
+use Rattle.table_check.specs.Passes.{whole_of}
 use Rattle.table_check.specs.Passes.{whole, table_in}
 use Rattle.table_check.proofs.Text.Spelled.{IsByteSet, AreRails}
 use Rattle.table_check.proofs.Text.SpelledRows.{IsKnown}

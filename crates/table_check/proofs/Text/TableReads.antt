@@ -29,7 +29,8 @@ cut lines = map parted lines
 
 -- ---- the lines that are taken
 
-pub record Stuck (b : Board) (n : ℕ) (pass : RowsSoFar) (lines : Lines) (e : TableFault) : Type 0 where
+pub record Stuck (b : Board) (n : ℕ) (pass : RowsSoFar) (lines : Lines)
+    (e : TableFault) : Type 0 where
   pub before : ℕ
   pub is : e ≡ BadLine (n + before)
   pub less : before < length lines
@@ -57,7 +58,8 @@ later b n pass next l lines e (Err x) h =
       bad = rw e h.bad;
     }
 
-linked_by : (b : Board) (n : ℕ) (pass : RowsSoFar) (l : List ℕ) (lines : Lines) (o : Option RowsSoFar)
+linked_by : (b : Board) (n : ℕ) (pass : RowsSoFar) (l : List ℕ) (lines : Lines)
+    (o : Option RowsSoFar)
     → after_words b pass pass.part (parted l) ≡ o
     → ((next : RowsSoFar) → Linked b (n + 1) next lines (after_lines b (n + 1) next lines))
     → Linked b n pass (l ∷ lines)

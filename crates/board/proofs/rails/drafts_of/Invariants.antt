@@ -7,5 +7,6 @@ use Rattle.board.proofs.rails.drafts_of.Given as goal
 
 abbrev pub invariant-loop-value : goal.invariant-loop-value
 invariant-loop-value l =
-    drafts_of (named_view l.targets) (drafts_view l.drafts) (items_view (drop l.value-index l.values))
+    drafts_of (named_view l.targets) (drafts_view l.drafts)
+    (items_view (drop l.value-index l.values))
     ≡ drafts_of (named_view l.targets) no_named (items_view l.values)

@@ -7,4 +7,5 @@ use Rattle.board.proofs.rails.has_page.Goals as goal
 pub returns : goal.returns
 returns c =
     c.is_taken.ensures ∙ sym (list_any-map
-    (λ (s : RailDraft). s.target == c.args.target && s.page == c.args.page) draft_view c.args.drafts.now)
+    (λ (s : RailDraft). s.target == c.args.target && s.page == c.args.page) draft_view
+    c.args.drafts.now)

@@ -6,5 +6,6 @@ use Rattle.board.proofs.rails.rails_of.Given as goal
 
 abbrev pub invariant-loop-draft : goal.invariant-loop-draft
 invariant-loop-draft l =
-    rails_of (names l.drafts.names) l.rails.items (map draft_view (drop l.draft-index l.draft-items))
+    rails_of (names l.drafts.names) l.rails.items
+    (map draft_view (drop l.draft-index l.draft-items))
     ≡ rails_of (names l.drafts.names) [] (map draft_view l.drafts.items.items)
