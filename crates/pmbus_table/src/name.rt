@@ -1,6 +1,7 @@
 ghost use Rattle.std.specs.Prelude.{◌≡◌, ℕ, IsTrue, IfSome, IfOk, Some, string_bytes};
-ghost use Rattle.pmbus_table.specs.Commands.{is_command, manufacturer_named, command_named};
-ghost use Rattle.pmbus_table.specs.Commands.{name_text};
+ghost use Rattle.texts.specs.Hex.{pair_text};
+ghost use Rattle.pmbus_table.specs.Commands.{is_manufacturer, is_command, manufacturer_named};
+ghost use Rattle.pmbus_table.specs.Commands.{command_named, name_text};
 
 use crate::command::{Command, by_code, is_manufacturer};
 use crate::table::{row_named, row_of};
@@ -8,7 +9,10 @@ use std::alloc::{AllocError, Global};
 use texts::{pair_of, push_pair};
 
 fn manufacturer_named(name: &str) -> Option<Command>
-    ensures { result ≡ manufacturer_named name.now }
+    ensures value { result ≡ manufacturer_named name.now }
+    ensures spelled { IfSome result (λ c. IsTrue (is_manufacturer c) × (name.now ≡ pair_text c)) }
+    ensures only { (c : ℕ) → IsTrue (is_manufacturer c) → name.now ≡ pair_text c →
+        result ≡ Some c }
 {
     let code = pair_of(name)?;
     if is_manufacturer(code) {

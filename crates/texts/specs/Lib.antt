@@ -4,3 +4,4 @@ pub mod Names
 pub mod Reading
 pub mod Sending
 pub mod Words
+pub mod ReadBack
