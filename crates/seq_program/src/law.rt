@@ -1,8 +1,14 @@
 ghost use Rattle.seq_program.specs.PrintedLaw.{PrintedProgramsReadBack, BoardsHavePrograms};
 
+use pmbus_table::names_read_back;
+use texts::numbers_read_back;
+
 /// A program of a board, printed with a label at each place, is read as itself.
 pub fn printed_programs_read_back()
     ensures read { PrintedProgramsReadBack }
     // There are such programs.
     ensures case { BoardsHavePrograms }
-{}
+{
+    numbers_read_back();
+    names_read_back();
+}
