@@ -10,6 +10,7 @@ use Rattle.bit_bus.specs.declared.plan.Slot.{Slot}
 use Rattle.bit_bus.specs.declared.plan.Slot.TheVariants.{Bit, Again, End}
 use Rattle.bit_bus.specs.Planned.{planned, ends_frame, are_inside, are_short, slots_in, EndsOnce}
 use Rattle.bit_bus.specs.Planned.{IsPlan}
+use Rattle.bit_bus.specs.PlannedSlots.{HoldsAreKept}
 
 pub length-planned : (slots : List Slot) (holds : List ℕ)
     → length (planned slots holds) ≡ length slots
@@ -102,6 +103,18 @@ holds_short [] holds small = refl
 holds_short (s ∷ slots) [] small = refl
 holds_short (s ∷ slots) (h ∷ holds) small =
     rw (le-leb h 6999 small.0) (holds_short slots holds small.1)
+
+planned_holds : (longest : ℕ) (slots : List Slot) (holds : List ℕ)
+    → AllByRecursion (λ h. h ≤ longest) holds
+    → AllByRecursion (λ (s : Slot × ℕ). s.1 ≤ longest) (planned slots holds)
+planned_holds longest [] holds h = tt
+planned_holds longest (s ∷ slots) [] h = (omega arith, planned_holds longest slots [] tt)
+planned_holds longest (s ∷ slots) (k ∷ holds) h = (h.0, planned_holds longest slots holds h.1)
+
+pub holds_are_kept : HoldsAreKept
+holds_are_kept longest slots holds h =
+    All-from_recursion (λ (s : Slot × ℕ). s.1 ≤ longest) (planned slots holds)
+    (planned_holds longest slots holds (recursion_from_All (λ h. h ≤ longest) holds h))
 
 -- what the code tries
 

@@ -1,3 +1,4 @@
+ghost use Rattle.bit_bus.specs.PlannedSlots.{SlotsAreKept, HoldsAreKept};
 ghost use Rattle.bit_bus.specs.SampleCounts.{LevelsAreFew};
 ghost use Rattle.bit_bus.specs.Word.{ReadsBack, LeavesBusFree, CutIsSeen, JoinsSilently};
 
@@ -11,4 +12,10 @@ pub fn reads_back()
     ensures cut { CutIsSeen }
     ensures joined { JoinsSilently }
     ensures few { LevelsAreFew }
+{}
+
+/// A plan has the slots that it is made of, in order, and holds none of them longer.
+pub fn plans_keep_slots()
+    ensures slots { SlotsAreKept }
+    ensures holds { HoldsAreKept }
 {}

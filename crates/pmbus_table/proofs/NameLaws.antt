@@ -9,10 +9,11 @@ use Rattle.std.proofs.lemmas.Bool.{cases_Bool}
 use Rattle.std.proofs.lemmas.Bool.Decides.{nat_tests}
 use Rattle.std.proofs.lemmas.Slice.Eq.{bytes_eq-Decides}
 use Rattle.texts.specs.Hex.{pair_of, pair_text}
-use Rattle.texts.proofs.HexLaws.{pair_of-pair_text, pair_of_spelled}
+use Rattle.texts.specs.ReadBack.{PairsReadBack}
 use Rattle.pmbus_table.specs.Table.{Row, table, row_of, row_named}
 use Rattle.pmbus_table.specs.Commands.{is_manufacturer, is_command, name_text, command_in}
 use Rattle.pmbus_table.specs.Commands.{command_named, command_at}
+use Rattle.pmbus_table.specs.NameLaws.{NamesReadBack}
 
 -- what a search finds passes its test, and each test that all rows pass
 record Found (p q : Row → Bool) (r : Row) : Type 0 where
@@ -116,24 +117,6 @@ text_of_digits code m =
     ap (λ (o : Option Row). unwrap_or (option_map (λ r. r.name) o) (pair_text code))
     (no_row code (row_of code) refl m)
 
--- the name of what a text names is the text
-digits_spelled : (name : List ℕ) (o : Option ℕ) → IfSome o (λ b. (b < 256) × (name ≡ pair_text b))
-    → IfSome (option_and_then (λ code. if is_manufacturer code then Some code else None) o)
-    (λ c. name ≡ name_text c)
-digits_spelled name None h = tt
-digits_spelled name (Some b) h = elim (cases_Bool (is_manufacturer b)) [
-  | inl m ↦ rw m (h.1 ∙ sym (text_of_digits b m))
-  | inr f ↦ rw f tt
-]
-
-spelled_in : (name : List ℕ) (o : Option Row) → row_named name ≡ o
-    → IfSome (command_in name o) (λ c. name ≡ name_text c)
-spelled_in name (Some r) e = let h = row_by name r e in sym (h.1.name ∙ h.0)
-spelled_in name None e = digits_spelled name (pair_of name) (pair_of_spelled name)
-
-pub command_named_spelled : (name : List ℕ) → IfSome (command_named name) (λ c. name ≡ name_text c)
-command_named_spelled name = spelled_in name (row_named name) refl
-
 -- a row's name names its code
 code_in : (c : ℕ) (name : List ℕ) (o : Option Row) → has_code o c ≡ true
     → command_in name o ≡ Some c
@@ -149,23 +132,29 @@ row_back c (Some r) e s =
     ap (λ (o : Option Row). unwrap_or (option_map (λ r. r.name) o) (pair_text c)) e in
     ap command_named text ∙ code_in r.code r.name (row_named r.name) h.1.code ∙ ap Some h.0
 
-digits_back : (c : ℕ) → is_manufacturer c ≡ true → command_named (pair_text c) ≡ Some c
-digits_back c m =
+digits_back : PairsReadBack → (c : ℕ) → is_manufacturer c ≡ true
+    → command_named (pair_text c) ≡ Some c
+digits_back pairs c m =
     let small : c < 256 = grind (arith, nat_tests) in
     let read = λ (o : Option ℕ).
     option_and_then (λ code. if is_manufacturer code then Some code else None) o in
     ap (command_in (pair_text c)) (no_name c (row_named (pair_text c)) refl)
-    ∙ ap read (pair_of-pair_text c small) ∙ rw m refl
+    ∙ ap read (pairs c small) ∙ rw m refl
 
 some_or_digits : (a b : Bool) → (a || b) ≡ true → a ≡ false → b ≡ true
 some_or_digits true b t f = cc
 some_or_digits false b t f = t
 
--- a command's name names it
-pub command_named-name_text : (c : ℕ) → is_command c ≡ true → command_named (name_text c) ≡ Some c
-command_named-name_text c t = elim (cases_Bool (is_manufacturer c)) [
-  | inl m ↦ ap command_named (text_of_digits c m) ∙ digits_back c m
-  | inr f ↦ row_back c (row_of c) refl (some_or_digits (is_manufacturer c) (is_some (row_of c)) t f)
+-- a named command's name names it
+named_back : (c : ℕ) → is_command c ≡ true → is_manufacturer c ≡ false
+    → command_named (name_text c) ≡ Some c
+named_back c t f =
+    row_back c (row_of c) refl (some_or_digits (is_manufacturer c) (is_some (row_of c)) t f)
+
+pub command_named-name_text : PairsReadBack → NamesReadBack
+command_named-name_text pairs c t = elim (cases_Bool (is_manufacturer c)) [
+  | inl m ↦ ap command_named (text_of_digits c m) ∙ digits_back pairs c m
+  | inr f ↦ named_back c t f
 ]
 
 -- the row of a name has a command's code
@@ -175,11 +164,38 @@ row_command name r e =
     let h = row_by name r (sym e) in
     (rw h.1.command refl) ∙ ap (command_in name) e
 
--- the same of what a look-up returned
-pub name_spelled : (name : List ℕ) (o : Option ℕ) → o ≡ command_named name
-    → IfSome o (λ c. name ≡ name_text c)
-name_spelled name o e = rw e (command_named_spelled name)
+-- what a look-up returned: the command of the name's row
+pub row_spelled : (name : List ℕ) (r : Row) (o : Option ℕ) → Some r ≡ row_named name
+    → o ≡ command_named name → IfSome o (λ c. name ≡ name_text c)
+row_spelled name r o e read =
+    let h = row_by name r (sym e) in
+    let found : o ≡ Some r.code = read ∙ ap (command_in name) (sym e) in
+    rw found (sym (h.1.name ∙ h.0))
 
-pub name_only : (name : List ℕ) (o : Option ℕ) → o ≡ command_named name → (c : ℕ)
-    → IsTrue (is_command c) → name ≡ name_text c → o ≡ Some c
-name_only name o e c t p = e ∙ ap command_named p ∙ command_named-name_text c t
+none_some : {X : Type 0} (x : X) → None ≡ Some x → ⊥
+none_some x e = cc
+
+pub row_only : (name : List ℕ) (r : Row) (o : Option ℕ) → Some r ≡ row_named name
+    → o ≡ command_named name → (c : ℕ) → IsTrue (is_command c) → name ≡ name_text c → o ≡ Some c
+row_only name r o e read c t p = elim (cases_Bool (is_manufacturer c)) [
+  | inl m ↦
+      let none = no_name c (row_named (pair_text c)) refl in
+      let there = ap row_named (p ∙ text_of_digits c m) in
+      absurd (none_some r (sym none ∙ sym there ∙ sym e))
+  | inr f ↦ read ∙ ap command_named p ∙ named_back c t f
+]
+
+-- or the manufacturer command of its digits
+pub digits_spelled : (name : List ℕ) (o : Option ℕ)
+    → IfSome o (λ c. IsTrue (is_manufacturer c) × (name ≡ pair_text c))
+    → IfSome o (λ c. name ≡ name_text c)
+digits_spelled name None h = tt
+digits_spelled name (Some c) h = h.1 ∙ sym (text_of_digits c h.0)
+
+pub digits_only : (name : List ℕ) (o : Option ℕ) → o ≡ command_named name
+    → ((c : ℕ) → IsTrue (is_manufacturer c) → name ≡ pair_text c → o ≡ Some c)
+    → (c : ℕ) → IsTrue (is_command c) → name ≡ name_text c → o ≡ Some c
+digits_only name o read digits c t p = elim (cases_Bool (is_manufacturer c)) [
+  | inl m ↦ digits c m (p ∙ text_of_digits c m)
+  | inr f ↦ read ∙ ap command_named p ∙ named_back c t f
+]

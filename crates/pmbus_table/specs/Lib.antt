@@ -7,3 +7,4 @@ pub mod Rows
 pub mod Status
 pub mod Table
 pub mod Voltage
+pub mod NameLaws

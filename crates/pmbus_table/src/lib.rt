@@ -4,6 +4,7 @@
 
 pub mod code;
 mod command;
+mod law;
 mod name;
 mod operation;
 mod protect;
@@ -12,6 +13,7 @@ mod table;
 mod voltage;
 
 pub use command::{Command, by_code};
+pub use law::names_read_back;
 pub use name::{by_name, manufacturer_named, name_of};
 pub use operation::enables;
 pub use protect::permits;

@@ -1,4 +1,5 @@
-ghost use Rattle.std.specs.Prelude.{◌≡◌, ℕ, IsTrue, true, IfSome, IfOk, Some, string_bytes};
+ghost use Rattle.std.specs.Prelude.{◌≡◌, ℕ, IsTrue, IfSome, IfOk, Some, string_bytes};
+ghost use Rattle.texts.specs.Hex.{pair_text};
 ghost use Rattle.pmbus_table.specs.Commands.{is_manufacturer, is_command, manufacturer_named};
 ghost use Rattle.pmbus_table.specs.Commands.{command_named, name_text};
 
@@ -10,7 +11,9 @@ use texts::{pair_of, push_pair};
 /// The manufacturer command of two upper case hexadecimal digits.
 pub fn manufacturer_named(name: &str) -> Option<Command>
     ensures value { result ≡ manufacturer_named name.now }
-    ensures manufacturer { IfSome result (λ c. is_manufacturer c ≡ true) }
+    ensures spelled { IfSome result (λ c. IsTrue (is_manufacturer c) × (name.now ≡ pair_text c)) }
+    ensures only { (c : ℕ) → IsTrue (is_manufacturer c) → name.now ≡ pair_text c →
+        result ≡ Some c }
 {
     let code = pair_of(name)?;
     if is_manufacturer(code) {

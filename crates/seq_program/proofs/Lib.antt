@@ -3,6 +3,7 @@ pub mod Endings
 pub mod ElseWords
 pub mod LabelEntries
 pub mod Bytes
+pub mod KnownOfTexts
 pub mod WrittenValues
 pub mod ValidPrograms
 pub mod JoinedWords

@@ -18,7 +18,7 @@ use Rattle.pmbus_table.specs.Commands.{is_manufacturer, is_command, name_text, f
 use Rattle.pmbus_table.specs.Commands.{form_read, takes_form}
 use Rattle.pmbus_table.specs.Forms.{is_form}
 use Rattle.pmbus_table.specs.Table.{Row, table, row_of}
-use Rattle.pmbus_table.proofs.NameLaws.{command_named-name_text}
+use Rattle.pmbus_table.specs.NameLaws.{NamesReadBack}
 use Rattle.board.specs.Boards.{place_of_name}
 use Rattle.seq_program.specs.CommandWords as words
 use Rattle.seq_program.specs.CommandWords.{form_at, width_of, named_sized, before}
@@ -128,9 +128,9 @@ taken_is_command c f t = elim (cases_Bool (is_manufacturer c)) [
       rw n (known (row_of c) f test)
 ]
 
-pub command_back : (f : Form) (c : ℕ) → takes_form c f ≡ true
+pub command_back : NamesReadBack → (f : Form) (c : ℕ) → takes_form c f ≡ true
     → words.command_in f (name_text c) ≡ Some c
-command_back f c t = rw (command_named-name_text c (taken_is_command c f t), t) refl
+command_back names f c t = rw (names c (taken_is_command c f t), t) refl
 
 -- names and digits are words
 digits_word : (c : ℕ) → is_word (pair_text c) ≡ true

@@ -4,6 +4,7 @@ use Rattle.std.proofs.Common.{codes, Ok, refl, ap, ◌∙◌, arith}
 use Rattle.std.specs.Fmt.{decimal}
 use Rattle.smbus.specs.declared.message.Form.TheVariants as form
 use Rattle.texts.specs.Hex.{pairs_text}
+use Rattle.texts.specs.ReadBack.{DecimalsReadBack}
 use Rattle.pmbus_table.specs.Codes.{vout_command_code}
 use Rattle.pmbus_table.specs.Commands.{name_text, takes_form}
 use Rattle.board.specs.Boards.{Board}
@@ -20,6 +21,7 @@ use Rattle.seq_program.specs.PrintedWords.{target_name, register_name, direction
 use Rattle.seq_program.specs.Valid.{IsBlock, read_form}
 use Rattle.seq_program.specs.CommandWords.{form_at}
 use Rattle.seq_program.proofs.JoinedWords.{is_word}
+use Rattle.seq_program.proofs.KnownOfTexts.{KnownOfTexts}
 use Rattle.seq_program.proofs.PrintedNumbers.{number_back, decimal_word, decimal_no_register}
 use Rattle.seq_program.proofs.PrintedNumbers.{register_back, register_word, direction_back}
 use Rattle.seq_program.proofs.PrintedNumbers.{direction_word, block_back, block_word}
@@ -30,10 +32,11 @@ use Rattle.seq_program.proofs.PrintedLines.{message_back}
 use Rattle.seq_program.proofs.PrintedPlain.{word_in_back}
 use Rattle.seq_program.proofs.PrintedPlaces.{ReadsBack}
 
--- a target of a board
+-- a target of a board, and the laws on printed texts
 pub record IsTargetOf (board : Board) (target : ℕ) : Type 0 where
   pub good : IsBoard board
   pub within : target < length board.target_names
+  pub known : KnownOfTexts
 
 target_back : (board : Board) (n target : ℕ) → IsTargetOf board target
     → target_of board n (target_name board target) ≡ Ok target
@@ -63,7 +66,8 @@ send_back board target command place t takes few =
     message_back board (instr.Send target command place) message.Send (codes "send")
     (target_name board target) (name_text command ∷ []) place refl refl refl few
     (rw (target_word board target t, command_word command) refl)
-    (λ n. rw (target_back board n target t, command_back form.SendByte command takes) refl)
+    (λ n.
+    rw (target_back board n target t, command_back t.known.names form.SendByte command takes) refl)
 
 pub receive_back : (board : Board) (target register place : ℕ) → IsTargetOf board target
     → register < 8 → place < 1024 → ReadsBack board (instr.Receive target register place)
@@ -84,15 +88,17 @@ register_source : (n register : ℕ) → register < 8
 unfolding source_of
 register_source n register r = rw (register_back register r) refl
 
-byte_back : (value : ℕ) → value ≤ 255
+byte_back : DecimalsReadBack → (value : ℕ) → value ≤ 255
     → written_of width.Byte None (decimal value) ≡ Some (written.Byte value)
 unfolding written_of
-byte_back value v = rw (number_back 0 255 value (omega arith) v (omega arith)) refl
+byte_back decimals value v =
+    rw (number_back decimals 0 255 value (omega arith) v (omega arith)) refl
 
-word_back : (value : ℕ) → value ≤ 65535
+word_back : DecimalsReadBack → (value : ℕ) → value ≤ 65535
     → written_of width.Word None (decimal value) ≡ Some (written.Word value)
 unfolding written_of
-word_back value v = rw (number_back 0 65535 value (omega arith) v (omega arith)) refl
+word_back decimals value v =
+    rw (number_back decimals 0 65535 value (omega arith) v (omega arith)) refl
 
 pub write_byte_back : (board : Board) (target command value place : ℕ) → IsTargetOf board target
     → takes_form command form.WriteByte ≡ true → value ≤ 255 → place < 1024
@@ -110,8 +116,8 @@ write_byte_back board target command value place t takes v few =
     (λ n. rw (
       number_source n value (sized_name command width.Byte) (omega arith),
       target_back board n target t,
-      written_back command width.Byte takes,
-      byte_back value v,
+      written_back t.known command width.Byte takes,
+      byte_back t.known.decimal value v,
     ) refl)
 
 pub write_word_back : (board : Board) (target command value place : ℕ) → IsTargetOf board target
@@ -130,8 +136,8 @@ write_word_back board target command value place t takes v few =
     (λ n. rw (
       number_source n value (sized_name command width.Word) v,
       target_back board n target t,
-      written_back command width.Word takes,
-      word_back value v,
+      written_back t.known command width.Word takes,
+      word_back t.known.decimal value v,
     ) refl)
 
 pub write_register_back : (board : Board) (target register place : ℕ) → IsTargetOf board target
@@ -151,7 +157,7 @@ write_register_back board target register place t r few =
       ap (λ name. source_of n name (register_name register)) voltage_name
           ∙ register_source n register r,
       target_back board n target t,
-      written_back vout_command_code width.Word voltage_word,
+      written_back t.known vout_command_code width.Word voltage_word,
     ) refl)
 
 pub reading_back : (board : Board) (target command register place : ℕ) (size : Width)
@@ -167,7 +173,7 @@ reading_back board target command register place size t takes r few =
     (λ n. rw (
       register_back register r,
       target_back board n target t,
-      read_back command size (taken size takes),
+      read_back t.known command size (taken size takes),
     ) refl)
   where
     taken : (size : Width) → takes_form command (read_form size) ≡ true
@@ -192,8 +198,8 @@ call_back board target command value register place t takes v r few =
     (λ n. rw (
       register_back register r,
       target_back board n target t,
-      command_back form.ProcessCall command takes,
-      word_in_back n value v,
+      command_back t.known.names form.ProcessCall command takes,
+      word_in_back t.known.decimal n value v,
     ) refl)
 
 pub block_write_back : (board : Board) (target command place : ℕ) (bytes : List ℕ)
@@ -207,9 +213,9 @@ block_write_back board target command place bytes t takes block few =
     (name_text command ∷ pairs_text bytes ∷ []) place refl refl refl few
     (rw (target_word board target t, command_word command, block_word 255 bytes block) refl)
     (λ n. rw (
-      block_back 255 bytes block,
+      block_back t.known.bytes 255 bytes block,
       target_back board n target t,
-      command_back form.BlockWrite command takes,
+      command_back t.known.names form.BlockWrite command takes,
     ) refl)
 
 pub block_read_back : (board : Board) (target command register place : ℕ) → IsTargetOf board target
@@ -224,7 +230,7 @@ block_read_back board target command register place t takes r few =
     (λ n. rw (
       register_back register r,
       target_back board n target t,
-      command_back form.BlockRead command takes,
+      command_back t.known.names form.BlockRead command takes,
     ) refl)
 
 pub block_call_back : (board : Board) (target command register place : ℕ) (bytes : List ℕ)
@@ -243,10 +249,10 @@ block_call_back board target command register place bytes t takes block r few =
       register_word register r,
     ) refl)
     (λ n. rw (
-      block_back 254 bytes block,
+      block_back t.known.bytes 254 bytes block,
       register_back register r,
       target_back board n target t,
-      command_back form.BlockProcessCall command takes,
+      command_back t.known.names form.BlockProcessCall command takes,
     ) refl)
 
 pub alert_back : (board : Board) (register place : ℕ) → register < 8 → place < 1024

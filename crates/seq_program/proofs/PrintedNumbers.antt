@@ -15,8 +15,7 @@ use Rattle.std.proofs.lemmas.List.Sums.{AllPass-from_list_all, list_all-from_All
 use Rattle.std.proofs.lemmas.Str.Parse.{IsNumeralModel, numerals_by_value}
 use Rattle.texts.specs.Hex.{digit_of, pairs_text, pairs_of}
 use Rattle.texts.specs.Names.{is_name, is_name_byte}
-use Rattle.texts.proofs.DecimalTexts.{decimal_within-decimal}
-use Rattle.texts.proofs.HexLaws.{pairs_of-pairs_text}
+use Rattle.texts.specs.ReadBack.{BytesReadBack, DecimalsReadBack}
 use Rattle.seq_program.specs.Operands.{numbered, register_of, counter_of, label_of, direction_of}
 use Rattle.seq_program.specs.Operands.{number_of, number_within, block_of}
 use Rattle.seq_program.specs.PrintedWords.{place_name, register_name, counter_name, direction_name}
@@ -78,12 +77,12 @@ decimal_no_register n few = no_register (decimal n) (digits_alone n few)
 in_range : (low high n : ℕ) → low ≤ n → n ≤ high → (nat_le low n && nat_le n high) ≡ true
 in_range low high n least most = and_from _ _ (le-leb low n least) (le-leb n high most)
 
-pub number_back : (low high n : ℕ) → low ≤ n → n ≤ high → high ≤ 99999999
+pub number_back : DecimalsReadBack → (low high n : ℕ) → low ≤ n → n ≤ high → high ≤ 99999999
     → number_within low high (decimal n) ≡ Some n
-number_back low high n least most few =
+number_back decimals low high n least most few =
     let read : number_of (decimal n) ≡ Some n =
     rw (no_prefix (decimal n) (digits_alone n (omega arith)))
-    (decimal_within-decimal 99999999 n (omega arith) (lit< tt)) in
+    (decimals 99999999 n (omega arith) (lit< tt)) in
     rw (read, in_range low high n least most) refl
 
 -- a letter and a digit
@@ -144,9 +143,9 @@ block_word most [] block = absurd (omega arith)
 block_word most (b ∷ bytes) block =
     word-cons (digit_of (b / 16)) (digit_of (b % 16) ∷ pairs_text bytes) (pairs_bytes (b ∷ bytes))
 
-pub block_back : (most : ℕ) (bytes : List ℕ) → IsBlock most bytes
+pub block_back : BytesReadBack → (most : ℕ) (bytes : List ℕ) → IsBlock most bytes
     → block_of most (pairs_text bytes) ≡ Some bytes
-block_back most bytes block =
+block_back pairs most bytes block =
     let read : pairs_of (pairs_text bytes) ≡ Some bytes =
-    pairs_of-pairs_text bytes (All-from_recursion (λ b. b < 256) bytes block.2) in
+    pairs bytes (All-from_recursion (λ b. b < 256) bytes block.2) in
     rw (read, in_range 1 most (length bytes) block.0 block.1) refl

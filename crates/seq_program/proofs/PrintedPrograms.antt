@@ -21,6 +21,7 @@ use Rattle.seq_program.specs.Valid.{IsInstr, IsWritten, IsOnBoard, IsProgram, ju
 use Rattle.seq_program.specs.Printed.{place_lines, printed}
 use Rattle.seq_program.specs.PrintedLaw.{PrintedProgramsReadBack}
 use Rattle.seq_program.proofs.JoinedWords.{lines_back}
+use Rattle.seq_program.proofs.KnownOfTexts.{KnownOfTexts}
 use Rattle.seq_program.proofs.PrintedPlaces.{ReadsBack, printed_labels}
 use Rattle.seq_program.proofs.PrintedPlaces.{labels_read, places_read, pass_with, all_words}
 use Rattle.seq_program.proofs.PrintedPlaces.{texts_from}
@@ -91,63 +92,65 @@ written_instr board target command place (written.Word value) t fits few =
 written_instr board target command place (written.Register register) t fits few =
     rw fits.0 (write_register_back board target register place t fits.1 few)
 
-on_board : (board : Board) (target : ℕ) → IsBoard board → target < length board.targets
-    → IsTargetOf board target
-on_board board target good less =
-    record { good = good; within = omega (arith, less, good.target_names) }
+on_board : KnownOfTexts → (board : Board) (target : ℕ) → IsBoard board
+    → target < length board.targets → IsTargetOf board target
+on_board known board target good less =
+    record { good = good; within = omega (arith, less, good.target_names); known = known }
 
-instr_back : (board : Board) → IsBoard board → (i : Instr) → IsInstr i
+instr_back : KnownOfTexts → (board : Board) → IsBoard board → (i : Instr) → IsInstr i
     → IsOnBoard (length board.targets) i → IfSome (jump_in i) (λ p. p < 1024)
     → ReadsBack board i
-instr_back board good (instr.Quick target read place) fits t few =
-    quick_back board target place read (on_board board target good t) few
-instr_back board good (instr.Send target command place) fits t few =
-    send_back board target command place (on_board board target good t) fits few
-instr_back board good (instr.Receive target register place) fits t few =
-    receive_back board target register place (on_board board target good t) fits few
-instr_back board good (instr.Write target command value place) fits t few =
-    written_instr board target command place value (on_board board target good t) fits few
-instr_back board good (instr.Read target command size register place) fits t few =
+instr_back known board good (instr.Quick target read place) fits t few =
+    quick_back board target place read (on_board known board target good t) few
+instr_back known board good (instr.Send target command place) fits t few =
+    send_back board target command place (on_board known board target good t) fits few
+instr_back known board good (instr.Receive target register place) fits t few =
+    receive_back board target register place (on_board known board target good t) fits few
+instr_back known board good (instr.Write target command value place) fits t few =
+    written_instr board target command place value (on_board known board target good t) fits few
+instr_back known board good (instr.Read target command size register place) fits t few =
     reading_back board target command register place size
-    (on_board board target good t) fits.0 fits.1 few
-instr_back board good (instr.Call target command value register place) fits t few =
+    (on_board known board target good t) fits.0 fits.1 few
+instr_back known board good (instr.Call target command value register place) fits t few =
     call_back board target command value register place
-    (on_board board target good t) fits.0 fits.1 fits.2 few
-instr_back board good (instr.BlockWrite target command bytes place) fits t few =
+    (on_board known board target good t) fits.0 fits.1 fits.2 few
+instr_back known board good (instr.BlockWrite target command bytes place) fits t few =
     block_write_back board target command place bytes
-    (on_board board target good t) fits.0 fits.1 few
-instr_back board good (instr.BlockRead target command register place) fits t few =
+    (on_board known board target good t) fits.0 fits.1 few
+instr_back known board good (instr.BlockRead target command register place) fits t few =
     block_read_back board target command register place
-    (on_board board target good t) fits.0 fits.1 few
-instr_back board good (instr.BlockCall target command bytes register place) fits t few =
+    (on_board known board target good t) fits.0 fits.1 few
+instr_back known board good (instr.BlockCall target command bytes register place) fits t few =
     block_call_back board target command register place bytes
-    (on_board board target good t) fits.0 fits.1 fits.2 few
-instr_back board good (instr.Alert register place) fits t few =
+    (on_board known board target good t) fits.0 fits.1 fits.2 few
+instr_back known board good (instr.Alert register place) fits t few =
     alert_back board register place fits few
-instr_back board good (instr.IfAlert place) fits t few = if_alert_back board place few
-instr_back board good (instr.Set register value) fits t few =
-    set_back board register value fits.0 fits.1
-instr_back board good (instr.Add register value) fits t few =
-    add_back board register value fits.0 fits.1
-instr_back board good (instr.If register mask value place) fits t few =
-    if_back board register mask value place fits.0 fits.1 fits.2 few
-instr_back board good (instr.Above register value place) fits t few =
-    above_back board register value place fits.0 fits.1 few
-instr_back board good (instr.Count counter value) fits t few =
-    count_back board counter value fits.0 fits.1
-instr_back board good (instr.Again counter place) fits t few =
+instr_back known board good (instr.IfAlert place) fits t few = if_alert_back board place few
+instr_back known board good (instr.Set register value) fits t few =
+    set_back known.decimal board register value fits.0 fits.1
+instr_back known board good (instr.Add register value) fits t few =
+    add_back known.decimal board register value fits.0 fits.1
+instr_back known board good (instr.If register mask value place) fits t few =
+    if_back known.decimal board register mask value place fits.0 fits.1 fits.2 few
+instr_back known board good (instr.Above register value place) fits t few =
+    above_back known.decimal board register value place fits.0 fits.1 few
+instr_back known board good (instr.Count counter value) fits t few =
+    count_back known.decimal board counter value fits.0 fits.1
+instr_back known board good (instr.Again counter place) fits t few =
     again_back board counter place fits few
-instr_back board good (instr.Wait ticks) fits t few = wait_back board ticks fits.0 fits.1
-instr_back board good (instr.Goto place) fits t few = goto_back board place few
-instr_back board good instr.End fits t few = end_back board
-instr_back board good instr.Fail fits t few = fail_back board
+instr_back known board good (instr.Wait ticks) fits t few =
+    wait_back known.decimal board ticks fits.0 fits.1
+instr_back known board good (instr.Goto place) fits t few = goto_back board place few
+instr_back known board good instr.End fits t few = end_back board
+instr_back known board good instr.Fail fits t few = fail_back board
 
 lands : (o : Option ℕ) (count : ℕ) → count ≤ 1024 → IfSome o (λ p. p < count)
     → IfSome o (λ p. p < 1024)
 lands None count few less = tt
 lands (Some p) count few less = omega arith
 
-pub printed_programs_read_back : PrintedProgramsReadBack
-printed_programs_read_back board good instrs program targets =
-    program_back board instrs program (λ k d less. instr_back board good _ (program.each k d less)
+pub printed_programs_read_back : KnownOfTexts → PrintedProgramsReadBack
+printed_programs_read_back known board good instrs program targets =
+    program_back board instrs program
+    (λ k d less. instr_back known board good _ (program.each k d less)
     (targets k d less) (lands _ (length instrs) program.few (program.jumps k d less)))

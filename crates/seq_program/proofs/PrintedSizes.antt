@@ -8,7 +8,7 @@ use Rattle.std.proofs.lemmas.Bool.{cases_Bool}
 use Rattle.std.proofs.lemmas.Bool.Decides.{nat_tests}
 use Rattle.std.proofs.lemmas.List.{append-nil}
 use Rattle.texts.specs.Hex.{digit_of, pair_text}
-use Rattle.texts.proofs.HexLaws.{pair_of-pair_text}
+use Rattle.texts.specs.ReadBack.{PairsReadBack}
 use Rattle.smbus.specs.declared.message.Form.{Form}
 use Rattle.smbus.specs.declared.message.Form.TheVariants as form
 use Rattle.pmbus_table.specs.Codes.{vout_command_code}
@@ -16,12 +16,13 @@ use Rattle.pmbus_table.specs.Commands.{is_manufacturer, name_text, command_named
 use Rattle.pmbus_table.specs.Commands.{manufacturer_named, form_written, form_read, takes_form}
 use Rattle.pmbus_table.specs.Forms.{is_form}
 use Rattle.pmbus_table.specs.Table.{Row, table, row_of, row_named}
-use Rattle.pmbus_table.proofs.NameLaws.{text_of_digits, command_named-name_text}
+use Rattle.pmbus_table.specs.NameLaws.{NamesReadBack}
 use Rattle.seq_program.specs.CommandWords.{form_at, width_of, before, manufacturer_sized, sized_in}
 use Rattle.seq_program.specs.declared.instr.Width.{Width}
 use Rattle.seq_program.specs.declared.instr.Width.TheVariants as width
 use Rattle.seq_program.specs.PrintedWords.{width_letter, sized_name}
 use Rattle.seq_program.proofs.JoinedWords.{is_word_byte, is_word, word-append}
+use Rattle.seq_program.proofs.KnownOfTexts.{KnownOfTexts}
 use Rattle.seq_program.proofs.PrintedCommands.{Plain, plain, found_here, same_text, is_taken}
 use Rattle.seq_program.proofs.PrintedCommands.{taken_is_command, command_word}
 
@@ -59,12 +60,12 @@ named_width : (byte word : Form) → AreApart byte word → (c : ℕ) (size : Wi
 named_width byte word other c width.Byte n t = rw (t, n) refl
 named_width byte word other c width.Word n t = rw (other c n t, t, n) refl
 
-named_back : (byte word : Form) → AreApart byte word → (c : ℕ) (size : Width)
+named_back : NamesReadBack → (byte word : Form) → AreApart byte word → (c : ℕ) (size : Width)
     → is_manufacturer c ≡ false → takes_form c (form_at byte word size) ≡ true
     → sized_in byte word (name_text c) ≡ Some (c, size)
-named_back byte word other c size n t =
+named_back names byte word other c size n t =
     let code : command_named (name_text c) ≡ Some c =
-    command_named-name_text c (taken_is_command c (form_at byte word size) t) in
+    names c (taken_is_command c (form_at byte word size) t) in
     rw (code, named_width byte word other c size n t) refl
 
 -- two digits and a letter are no name
@@ -81,44 +82,47 @@ unnamed : (high low letter : ℕ) → command_named (high ∷ low ∷ letter ∷
 unnamed high low letter =
     rw (no_name (high ∷ low ∷ letter ∷ []) (row_named (high ∷ low ∷ letter ∷ [])) refl refl) refl
 
-digits_back : (c : ℕ) → is_manufacturer c ≡ true → manufacturer_named (pair_text c) ≡ Some c
-digits_back c m =
+digits_back : PairsReadBack → (c : ℕ) → is_manufacturer c ≡ true
+    → manufacturer_named (pair_text c) ≡ Some c
+digits_back pairs c m =
     let small : c < 256 = grind (arith, nat_tests) in
-    rw (pair_of-pair_text c small, m) refl
+    rw (pairs c small, m) refl
 
-lettered_back : (c : ℕ) (size : Width) → is_manufacturer c ≡ true
+lettered_back : PairsReadBack → (c : ℕ) (size : Width) → is_manufacturer c ≡ true
     → manufacturer_sized (pair_text c ++ width_letter size) ≡ Some (c, size)
 unfolding before
-lettered_back c width.Byte m = rw (digits_back c m) refl
-lettered_back c width.Word m = rw (digits_back c m) refl
+lettered_back pairs c width.Byte m = rw (digits_back pairs c m) refl
+lettered_back pairs c width.Word m = rw (digits_back pairs c m) refl
 
-manufacturer_back : (byte word : Form) (c : ℕ) (size : Width) → is_manufacturer c ≡ true
+manufacturer_back : PairsReadBack → (byte word : Form) (c : ℕ) (size : Width)
+    → is_manufacturer c ≡ true
     → sized_in byte word (pair_text c ++ width_letter size) ≡ Some (c, size)
-manufacturer_back byte word c width.Byte m =
-    rw (unnamed (digit_of (c / 16)) (digit_of (c % 16)) 98) (lettered_back c width.Byte m)
-manufacturer_back byte word c width.Word m =
-    rw (unnamed (digit_of (c / 16)) (digit_of (c % 16)) 119) (lettered_back c width.Word m)
+manufacturer_back pairs byte word c width.Byte m =
+    rw (unnamed (digit_of (c / 16)) (digit_of (c % 16)) 98) (lettered_back pairs c width.Byte m)
+manufacturer_back pairs byte word c width.Word m =
+    rw (unnamed (digit_of (c / 16)) (digit_of (c % 16)) 119) (lettered_back pairs c width.Word m)
 
-sized_back : (byte word : Form) → AreApart byte word → (c : ℕ) (size : Width)
+sized_back : KnownOfTexts → (byte word : Form) → AreApart byte word → (c : ℕ) (size : Width)
     → takes_form c (form_at byte word size) ≡ true
     → sized_in byte word (sized_name c size) ≡ Some (c, size)
-sized_back byte word other c size t = elim (cases_Bool (is_manufacturer c)) [
-  | inl m ↦ rw (m, text_of_digits c m) (manufacturer_back byte word c size m)
-  | inr n ↦ rw (n, append-nil (name_text c)) (named_back byte word other c size n t)
+sized_back known byte word other c size t = elim (cases_Bool (is_manufacturer c)) [
+  | inl m ↦ rw (m, known.digits c m) (manufacturer_back known.pair byte word c size m)
+  | inr n ↦ rw (n, append-nil (name_text c)) (named_back known.names byte word other c size n t)
 ]
 
-pub written_back : (c : ℕ) (size : Width)
+pub written_back : KnownOfTexts → (c : ℕ) (size : Width)
     → takes_form c (form_at form.WriteByte form.WriteWord size) ≡ true
     → sized_in form.WriteByte form.WriteWord (sized_name c size) ≡ Some (c, size)
-written_back =
-    sized_back form.WriteByte form.WriteWord
+written_back known =
+    sized_back known form.WriteByte form.WriteWord
     (apart form.WriteByte form.WriteWord (λ r row. row.writes))
 
-pub read_back : (c : ℕ) (size : Width)
+pub read_back : KnownOfTexts → (c : ℕ) (size : Width)
     → takes_form c (form_at form.ReadByte form.ReadWord size) ≡ true
     → sized_in form.ReadByte form.ReadWord (sized_name c size) ≡ Some (c, size)
-read_back =
-    sized_back form.ReadByte form.ReadWord (apart form.ReadByte form.ReadWord (λ r row. row.reads))
+read_back known =
+    sized_back known form.ReadByte form.ReadWord
+    (apart form.ReadByte form.ReadWord (λ r row. row.reads))
 
 -- and are words
 letter_word : (name : List ℕ) (size : Width) → is_word name ≡ true

@@ -3,12 +3,18 @@ ghost use Rattle.seq_program.specs.Valid.{IsProgram};
 
 use crate::program::Program;
 
+use pmbus_table::names_read_back;
+use texts::numbers_read_back;
+
 /// A program of a board, printed with a label at each place, is read as itself.
 pub fn printed_programs_read_back()
     ensures read { PrintedProgramsReadBack }
     // There are such programs.
     ensures case { BoardsHavePrograms }
-{}
+{
+    numbers_read_back();
+    names_read_back();
+}
 
 /// What every program keeps to: it has 1 to 1024 instructions, whose jumps land, and ends.
 pub fn program_is_valid(program: &Program)

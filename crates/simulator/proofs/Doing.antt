@@ -12,10 +12,12 @@ use Rattle.smbus.specs.Slots.{plan_of}
 use Rattle.smbus.specs.Whole.{IsWhole}
 use Rattle.smbus.specs.FirstSegment.{bytes_seen}
 use Rattle.smbus.specs.MessageFrame.{send_byte, read_word, IsSendByte, IsCutLate}
-use Rattle.smbus.proofs.SeenFrames.{head_same}
 use Rattle.smbus.specs.Slots.{samples_of}
 use Rattle.simulator.specs.EntryLaws.{ReadsOne, EntriesReadBack}
 use Rattle.simulator.specs.Does.{HasFrame, SendsByte, ReportsWord, Sent, Reported, EntriesDoAsAsked}
+
+head_same : (f g : Shown) (xs ys : List Shown) → f ∷ xs ≡ g ∷ ys → f ≡ g
+head_same f g xs ys e = cc
 
 same : (m : Asked) (a : Answered) (alert : Bool) (r : ReadsOne m a alert) (f : Shown)
     → HasFrame (samples_of alert m a) f → f ≡ r.shows.one.frame

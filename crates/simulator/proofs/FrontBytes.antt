@@ -10,15 +10,14 @@ use Rattle.bit_bus.specs.Levels.{first_cut}
 use Rattle.smbus.specs.Protocol.{sent, whole_of}
 use Rattle.smbus.specs.Slots.{plan_of}
 use Rattle.smbus.specs.FirstSegment.{bytes_in, message_bytes, bytes_out}
-use Rattle.smbus.proofs.FirstSegments.{first_sent, out_rest}
 use Rattle.simulator.specs.Does.{IsFrontOfBytes}
 use Rattle.simulator.specs.StepDoes.{writes_data}
 
 -- a front that went out begins the message
 pub message_begins : (m : Asked) (a : Answered) (front : List ℕ)
+    → IsFrontOfBytes (bytes_out m a) (message_bytes m a)
     → IsFrontOfBytes front (bytes_out m a) → IsFrontOfBytes front (message_bytes m a)
-message_begins m a front o =
-    let all = out_rest a.refuse (first_cut (plan_of m a)) (message_bytes m a) in
+message_begins m a front all o =
     (o.0 ++ all.0, all.1 ∙ ap (λ (l : List ℕ). l ++ all.0) o.1 ∙ append_assoc front o.0 all.0)
 
 -- as many bytes as went out of a beginning went out with it
@@ -34,10 +33,10 @@ goes_out (x ∷ front) more (y ∷ seen) rest e le =
     (r.0, ap (λ (b : ℕ). b ∷ seen) (sym first) ∙ ap (λ (l : List ℕ). x ∷ l) r.1)
 
 pub front_goes_out : (m : Asked) (a : Answered) (front : List ℕ)
+    → IsFrontOfBytes (bytes_out m a) (message_bytes m a)
     → IsFrontOfBytes front (message_bytes m a) → length front ≤ length (bytes_out m a)
     → IsFrontOfBytes front (bytes_out m a)
-front_goes_out m a front o le =
-    let all = out_rest a.refuse (first_cut (plan_of m a)) (message_bytes m a) in
+front_goes_out m a front all o le =
     goes_out front o.0 (bytes_out m a) all.0 (sym o.1 ∙ all.1) le
 
 -- a message that begins with three bytes writes data after its code
@@ -89,6 +88,10 @@ address_and_code form.BlockRead address code out value block w = cc
 address_and_code form.BlockProcessCall address code out value block w = (_, refl)
 address_and_code form.Alert address code out value block w = cc
 
+sent_bytes : (bytes : List ℕ) → bytes_in (sent bytes) ≡ bytes
+sent_bytes [] = refl
+sent_bytes (b ∷ bytes) = ap (λ (l : List ℕ). b ∷ l) (sent_bytes bytes)
+
 -- a form that sends its data bytes right after the code, and nothing else
 abbrev pub IsPlain : Form → Type 0
 IsPlain f = (address code : ℕ) (out : List ℕ) (value : ℕ) (block : List ℕ)
@@ -99,7 +102,7 @@ pub plain_bytes : (f : Form) (m : Asked) (a : Answered) → IsPlain f → m.form
 plain_bytes f m a plain is =
     ap (λ (x : Form). bytes_in (whole_of x m.address m.code m.out a.value a.bytes)) is
     ∙ plain m.address m.code m.out a.value a.bytes
-    ∙ ap (λ (l : List ℕ). 2 * m.address ∷ m.code ∷ l) (first_sent m.out)
+    ∙ ap (λ (l : List ℕ). 2 * m.address ∷ m.code ∷ l) (sent_bytes m.out)
 
 -- a front is no longer than the whole, and as long only where it is the whole
 pub front_length : (front bytes : List ℕ) → IsFrontOfBytes front bytes → length front ≤ length bytes

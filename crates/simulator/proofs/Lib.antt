@@ -13,10 +13,11 @@ pub mod Joining
 pub mod MadeSteps
 pub mod SmallCodes
 pub mod WireMessages
-pub mod WireAnswers
 pub mod SeenSteps
 pub mod SeenRuns
 pub mod NextPlaces
+pub mod Addresses
+pub mod OneTarget
 pub mod OneEntry
 pub mod OneRun
 pub mod Runs

@@ -2,9 +2,9 @@
 use Rattle.std.proofs.Common.{◌≡◌, ℕ, ◌+◌, ◌-◌, ◌*◌, ◌≤◌, ◌⊎◌, inl, inr, Bool, Option}
 use Rattle.std.proofs.Common.{Some, None, List, length, All, refl, sym, ap, subst}
 use Rattle.std.proofs.Common.{arith}
-use Rattle.std.proofs.lemmas.List.Elements.{recursion_from_All, All-from_recursion}
 use Rattle.bit_bus.specs.declared.plan.Slot.{Slot}
 use Rattle.bit_bus.specs.Levels.{levels, first_cut}
+use Rattle.bit_bus.specs.PlannedSlots.{HoldsAreKept}
 use Rattle.bit_bus.specs.Word.{ReadsBack, LeavesBusFree, CutIsSeen}
 use Rattle.bit_bus.specs.SampleCounts.{LevelsAreFew}
 use Rattle.smbus.specs.Asked.{Asked}
@@ -15,7 +15,6 @@ use Rattle.smbus.specs.SlotCounts.{most_slots}
 use Rattle.smbus.specs.Whole.{IsWhole, IsBrokenOff}
 use Rattle.smbus.specs.OneFrame.{IsOnlyFrame, HasOneFrame}
 use Rattle.smbus.specs.MessageFrame.{MessagesHaveOneFrame}
-use Rattle.smbus.proofs.FirstCut.{planned_holds}
 use Rattle.smbus.specs.Slots.{samples_of}
 use Rattle.simulator.specs.EntryLaws.{EntriesReadBack}
 
@@ -39,22 +38,20 @@ less_times n k j le =
     let s : k * j ≡ (n + (k - n)) * j = ap (λ x. x * j) whole in
     omega (arith, s)
 
-few : LevelsAreFew → (m : Asked) (a : Answered) (alert : Bool) (most longest : ℕ)
+few : LevelsAreFew → HoldsAreKept → (m : Asked) (a : Answered) (alert : Bool) (most longest : ℕ)
     → length (plan_of m a) ≤ most
     → All (λ hold. hold ≤ longest) a.holds
     → length (samples_of alert m a) ≤ 2 + most * (3 + longest)
-few levels_are_few m a alert most longest le h =
+few levels_are_few short m a alert most longest le h =
     let plan : List (Slot × ℕ) = plan_of m a in
-    let short = All-from_recursion (λ (s : Slot × ℕ). s.1 ≤ longest) plan (planned_holds longest
-    (slots_of m a) a.holds (recursion_from_All (λ h. h ≤ longest) a.holds h)) in
-    let f = levels_are_few alert longest plan short in
+    let f = levels_are_few alert longest plan (short longest (slots_of m a) a.holds h) in
     let t = less_times (length plan) most (3 + longest) le in
     omega arith
 
 -- the frame of an entry, and what its samples are
 pub reads_one : MessagesHaveOneFrame → ReadsBack → LeavesBusFree → CutIsSeen → LevelsAreFew
-    → EntriesReadBack
-reads_one shown reads_back leaves_bus_free cut_is_seen levels_are_few m a alert asked =
+    → HoldsAreKept → EntriesReadBack
+reads_one shown reads_back leaves_bus_free cut_is_seen levels_are_few short m a alert asked =
     let plan : List (Slot × ℕ) = plan_of m a in
     let shows = shown m a asked in
     let one : HasOneFrame m a = shows.one in
@@ -67,7 +64,7 @@ reads_one shown reads_back leaves_bus_free cut_is_seen levels_are_few m a alert 
       done = one.done;
       cut_in_end = λ r c. (one.cut_in_end r c, one.cut _ c alert);
       few = λ longest h.
-          few levels_are_few m a alert (most_slots m.form (length m.out) (length a.bytes)) longest
+          few levels_are_few short m a alert (most_slots m.form (length m.out) (length a.bytes)) longest
           shows.slots h;
       some = omega arith;
       entry = record {

@@ -21,7 +21,7 @@ use Rattle.targets.specs.SomeAnswer.{IsMessage}
 use Rattle.targets.specs.Outcomes.{outcome_of}
 use Rattle.targets.specs.declared.outcome.Outcome.{Outcome}
 use Rattle.targets.specs.declared.outcome.Outcome.TheVariants.{Done, NotAcknowledged, TimedOut}
-use Rattle.targets.proofs.Addresses.{place_not_found, only_one}
+use Rattle.targets.specs.PlaceLaws.{TargetsAreFound}
 use Rattle.seq_program.specs.declared.instr.Instr.{Instr}
 use Rattle.seq_program.specs.declared.instr.Instr.TheVariants.{End}
 use Rattle.seq_program.specs.Messages.{message_of}
@@ -39,6 +39,7 @@ use Rattle.simulator.specs.EntryLaws.{IdleReadsBack}
 use Rattle.simulator.specs.SafeLaws.{AllowedFramesAreSeen, SendsMessage, SafeStepsAreSafeRuns}
 use Rattle.simulator.specs.Headline.{RunsAreSafe}
 use Rattle.simulator.proofs.EndingProgram.{step_of, seen, safe}
+use Rattle.simulator.proofs.OneTarget.{only_one}
 use Rattle.simulator.proofs.UnsafePrograms.{two_places}
 
 -- the laws on steps and runs that are used here
@@ -48,6 +49,7 @@ pub record KnownOfSteps : Type 0 where
   pub idle : IdleReadsBack
   pub frames : AllowedFramesAreSeen
   pub runs : SafeStepsAreSafeRuns
+  pub found : TargetsAreFound
 
 -- the instruction sends this message to the target, in so many slots at most, and goes on at place
 -- 1 in any case; and at every start the message is allowed, what it writes is permitted, a voltage
@@ -137,10 +139,10 @@ first_of known b x i t m slots s a e next sends starts step =
     }
 
 -- the target of the message's address is the one that it is sent to
-its_target : (b : Board) (i j : ℕ) (t u : Target) (m : Asked) → IsBoard b → IsTargetAt b i t
+its_target : TargetsAreFound → (b : Board) (i j : ℕ) (t u : Target) (m : Asked) → IsBoard b → IsTargetAt b i t
     → IsTargetAt b j u → m.address ≡ t.address → m.address ≡ u.address → (i ≡ j) × (t ≡ u)
-its_target b i j t u m is at uj to other =
-    let same : i ≡ j = only_one b is i j t u at uj (sym to ∙ other) in
+its_target found b i j t u m is at uj to other =
+    let same : i ≡ j = only_one found b is i j t u at uj (sym to ∙ other) in
     let there : Some t ≡ Some u = sym at ∙ subst (λ n. IsTargetAt b n u) (sym same) uj in
     (same, cc)
 
@@ -156,13 +158,13 @@ first_safe known b x i t m slots s a e next sends starts f =
       allowed = one.allowed;
       protection = λ j u code uj writes guarded.
           let told = (f.does.writes j u code uj).0 writes in
-          let same = its_target b i j t u m sends.is sends.at uj sends.to told.to in
+          let same = its_target known.found b i j t u m sends.is sends.at uj sends.to told.to in
           let free = sends.permitted s starts
           (subst (λ n. IsTrue (is_guarded n)) (sym told.command) guarded) in
           rw f.does.before (rw (sym same.0) (rw (sym told.command) free));
       limits = λ j u code low high d r uj sets begins selected.
           let told = (f.does.voltages j u code low high uj sets).0 begins in
-          let same = its_target b i j t u m sends.is sends.at uj sends.to told.to in
+          let same = its_target known.found b i j t u m sends.is sends.at uj sends.to told.to in
           let here : Selects b s i d r = rw same.0 (rw (sym f.does.before) selected) in
           let within =
           sends.within s d r starts told.form
@@ -171,7 +173,7 @@ first_safe known b x i t m slots s a e next sends starts f =
           rw (sym same.1) (rw (sym word) within);
       order = λ j u value d r uj begins on selected.
           let told = (f.does.operations j u value uj).0 begins in
-          let same = its_target b i j t u m sends.is sends.at uj sends.to told.is_write.to in
+          let same = its_target known.found b i j t u m sends.is sends.at uj sends.to told.is_write.to in
           let here : Selects b s i d r = rw same.0 (rw (sym f.does.before) selected) in
           let byte : slice_index m.out 0 ≡ value =
           ap (λ (bytes : List ℕ). slice_index bytes 0) told.is_write.content in
@@ -187,21 +189,15 @@ record Judged (b : Board) (p : List Instr) (bound : ℕ) (entries : List Entry)
   pub ticks : total_ticks entries ≤ bound
   pub sends : last.ended ≡ Running → SendsMessage b p last
 
--- the target is found by its address
-found : (b : Board) (i : ℕ) (t : Target) → IsTargetAt b i t → (place : Option ℕ)
-    → place_of_address t.address b.targets ≡ place → IsSome place
-found b i t at None e = absurd (place_not_found t.address b.targets e i t at refl)
-found b i t at (Some j) e = refl
-
-first_sends : (b : Board) (x : Instr) (i : ℕ) (t : Target) (m : Asked) (slots : ℕ) (s : BusState)
+first_sends : TargetsAreFound → (b : Board) (x : Instr) (i : ℕ) (t : Target) (m : Asked) (slots : ℕ) (s : BusState)
     → SendsSafely b x i t m slots → SendsMessage b (x ∷ End ∷ []) (start_at s)
-first_sends b x i t m slots s sends y here =
+first_sends found b x i t m slots s sends y here =
     let same : x ≡ y = let two : Some x ≡ Some y = here in cc in
     let asked : message_of b y (start_at s).regs ≡ Some m =
     subst (λ (z : Instr). message_of b z (start_at s).regs ≡ Some m) same (sends.asks s) in
     subst (λ (o : Option Asked). IfSome o (λ m. IsMessage b m)) (sym asked) (record {
       goes = λ other.
-          rw sends.to (found b i t sends.at (place_of_address t.address b.targets) refl);
+          rw (sends.to, found b i t sends.is sends.at) refl;
       counts = sends.counts;
     })
 
@@ -223,7 +219,7 @@ judged known b x i t m slots s sends starts [] [] last run =
       ticks = omega arith;
       sends = λ runs.
           subst (λ (y : Machine). SendsMessage b (x ∷ End ∷ []) y) (sym run)
-          (first_sends b x i t m slots s sends);
+          (first_sends known.found b x i t m slots s sends);
     }
 judged known b x i t m slots s sends starts [] (e ∷ entries) last run = absurd run
 judged known b x i t m slots s sends starts (a ∷ answers) [] last run = absurd run

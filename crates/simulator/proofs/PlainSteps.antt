@@ -1,10 +1,14 @@
 -- Steps that send a message under an answer that acknowledges each byte, holds no slot and leaves
 -- the targets as they are.
-use Rattle.std.proofs.Common.{◌≡◌, ◌≢◌, ◌≤◌, inl, inr, ℕ, ◌+◌, Bool, false, Option, Some}
-use Rattle.std.proofs.Common.{None}
+use Rattle.std.proofs.Common.{◌≡◌, ◌≢◌, ◌≤◌, ◌==◌, inl, inr, ℕ, ◌+◌, Bool, false, Option, Some}
+use Rattle.std.proofs.Common.{None, IsTrue}
 use Rattle.std.proofs.Common.{List, [], ◌∷◌, slice_get, refl, sym, ap, subst, ◌∙◌, arith}
+use Rattle.std.specs.Int.{bit_at}
 use Rattle.std.specs.List.{position_from}
+use Rattle.std.proofs.lemmas.Bool.Decides.{nat_tests}
 use Rattle.std.proofs.lemmas.List.Elements.{All-nil}
+use Rattle.std.proofs.lemmas.Nat.Bits.{bit_at-zero}
+use Rattle.wires.specs.Bits.{bit}
 use Rattle.bit_bus.specs.declared.plan.Slot.{Slot}
 use Rattle.bit_bus.specs.Planned.{planned}
 use Rattle.bit_bus.specs.Levels.{is_cut, first_cut}
@@ -19,7 +23,6 @@ use Rattle.targets.specs.States.{BusState, Alerts}
 use Rattle.targets.specs.Outcomes.{IsDone, outcome_of}
 use Rattle.targets.specs.Effects.{Writes, AlertsAfter, StopsAlerting, IsAfter}
 use Rattle.targets.specs.Fitting.{Fits, FitsForm}
-use Rattle.targets.proofs.SomeAnswerLaw.{no_bit}
 use Rattle.seq_program.specs.declared.instr.Instr.{Instr}
 use Rattle.seq_program.specs.Messages.{message_of}
 use Rattle.seq_program.specs.Valid.{IsProgram}
@@ -52,6 +55,12 @@ pub record LeavesTargets (m : Asked) : Type 0 where
   pub no_alert : m.form ≢ Alert
   pub no_page : m.form ≡ WriteByte → m.code ≢ page_code
   pub no_protection : m.form ≡ WriteByte → m.code ≢ write_protect_code
+
+no_bit : (i : ℕ) → IsTrue (bit 0 i) → ⊥
+no_bit i t = zero_not_one (bit_at 0 i) (bit_at-zero i) t
+  where
+    zero_not_one : (n : ℕ) → n ≡ 0 → IsTrue (n == 1) → ⊥
+    zero_not_one n e t = grind (arith, nat_tests)
 
 pub fits : (b : Board) (s : BusState) (m : Asked) (value : ℕ) → FitsForm m.form b s m (plain value)
     → Fits b s m (plain value)

@@ -1,13 +1,14 @@
 -- What a step of the model is seen to do.
 use Rattle.std.proofs.Common.{◌≡◌, ◌≤◌, ◌<◌, ◌+◌, ◌%◌, ℕ, zero, suc, Option, Some, None, List, []}
-use Rattle.std.proofs.Common.{◌∷◌, min, replicate, slice_index, slice_set, refl, sym, ap, arith}
+use Rattle.std.proofs.Common.{◌∷◌, ◌++◌, ◌∙◌, Bool, min, replicate, slice_index, slice_set, refl, sym}
+use Rattle.std.proofs.Common.{ap, arith}
 use Rattle.std.specs.List.{AllByRecursion}
 use Rattle.std.proofs.lemmas.List.Elements.{All-from_recursion, recursion_from_All}
-use Rattle.wires.specs.ArbitrationLaws.{LeastByteWins}
 use Rattle.smbus.specs.declared.message.Form.{Form}
 use Rattle.smbus.specs.declared.message.Form.TheVariants as form
 use Rattle.smbus.specs.Asked.{Asked}
 use Rattle.smbus.specs.Answered.{Answered}
+use Rattle.smbus.specs.FirstSegment.{message_bytes, bytes_out}
 use Rattle.smbus.specs.MessageFrame.{AreAsked}
 use Rattle.board.specs.Boards.{Board}
 use Rattle.board.specs.Valid.{IsBoard}
@@ -17,14 +18,16 @@ use Rattle.targets.specs.Outcomes.{returned_by, ending_of, cut_of, outcome_of}
 use Rattle.targets.specs.States.{Belongs}
 use Rattle.targets.specs.StateLaws.{StartsBelong, StepsBelong}
 use Rattle.targets.specs.Fitting.{Fits}
+use Rattle.targets.specs.RangeLaws.{LengthsAreOfBlocks}
+use Rattle.targets.specs.WireLaws.{IsOnWire, FittingBytesAreOnWire}
 use Rattle.seq_program.specs.declared.instr.Instr.{Instr}
 use Rattle.seq_program.specs.declared.instr.Instr.TheVariants as instr
 use Rattle.seq_program.specs.Messages.{message_of}
 use Rattle.seq_program.specs.Valid.{IsInstr}
 use Rattle.smbus.specs.Slots.{samples_of}
 use Rattle.simulator.specs.Entries.{IsEntry}
-use Rattle.simulator.specs.EntryLaws.{EntriesReadBack, IdleReadsBack}
-use Rattle.simulator.specs.Does.{EntriesDoAsAsked}
+use Rattle.simulator.specs.EntryLaws.{EntriesReadBack, IdleReadsBack, ReadsOne}
+use Rattle.simulator.specs.Does.{IsFrontOfBytes, EntriesDoAsAsked}
 use Rattle.simulator.specs.Machines.{Machine, Entry}
 use Rattle.simulator.specs.Moves.{result_in, with_result, after_message, silently}
 use Rattle.simulator.specs.Steps.{alert_level, idle_ticks, IsStepOf}
@@ -35,21 +38,20 @@ use Rattle.simulator.proofs.Sendable.{sendable}
 use Rattle.simulator.proofs.StepDoing.{message_does, silence_does}
 use Rattle.simulator.proofs.TakenForms.{takes_own_form, no_block_read}
 use Rattle.simulator.proofs.WireMessages.{sent_bytes}
-use Rattle.simulator.proofs.WireAnswers.{IsOnWire, fitting_bytes}
 
 abbrev Words : List ℕ → Type 0
 Words regs = AllByRecursion (λ word. word < 65536) regs
 
 -- a message of a machine that is ready is one on the wire
-asked_on_wire : LeastByteWins → (b : Board) (i : Instr) (m : Machine) (msg : Asked) (a : Answered)
-    → IsBoard b
+asked_on_wire : FittingBytesAreOnWire → LengthsAreOfBlocks → (b : Board) (i : Instr) (m : Machine)
+    (msg : Asked) (a : Answered) → IsBoard b
     → IsInstr i → Belongs b m.bus → Words m.regs → message_of b i m.regs ≡ Some msg
     → Fits b m.bus msg a → AreAsked msg a
-asked_on_wire wins b i m msg a is ok belongs words e fits =
+asked_on_wire on_wire lengths b i m msg a is ok belongs words e fits =
     let sent = sent_bytes b i m.regs msg is ok words e in
-    let got = fitting_bytes wins b m.bus msg a is belongs fits.form in
+    let got = on_wire b m.bus msg a is belongs fits.form in
     record {
-      can_be_sent = sendable b m.bus i m.regs (Some msg) a is ok (sym e) fits;
+      can_be_sent = sendable lengths b m.bus i m.regs (Some msg) a is ok (sym e) fits;
       wire = record {
         address = sent.address;
         code = sent.code;
@@ -140,6 +142,14 @@ outcome_small msg a v wire e =
     (returned_small msg.form a.value a.bytes wire.value
     (recursion_from_All (λ byte. byte < 256) a.bytes wire.read)) e
 
+-- the bytes that go out begin the message
+out_of : (m : Asked) (a : Answered) (alert : Bool) (r : ReadsOne m a alert)
+    → IsFrontOfBytes (bytes_out m a) (message_bytes m a)
+out_of m a alert r = (
+  r.shows.begins.0,
+  r.shows.begins.1 ∙ ap (λ (l : List ℕ). l ++ r.shows.begins.0) r.shows.went_out,
+)
+
 record Seen (b : Board) (i : Instr) (o : Option Asked) (m : Machine) (a : Answered) (e : Entry)
     (next : Machine) : Type 0 where
   pub sees : Sees m.bus o a e
@@ -156,12 +166,12 @@ same_before e f is = ap (λ (x : Entry). x.before) is
 same_regs : (x y : Machine) → x ≡ y → x.regs ≡ y.regs
 same_regs x y is = ap (λ (m : Machine). m.regs) is
 
-by_message : LeastByteWins → EntriesReadBack → EntriesDoAsAsked → IdleReadsBack
-    → (b : Board) (i : Instr) (o : Option Asked) (m : Machine) (a : Answered) (e : Entry)
-    (next : Machine)
+by_message : FittingBytesAreOnWire → LengthsAreOfBlocks → EntriesReadBack
+    → EntriesDoAsAsked → IdleReadsBack → (b : Board) (i : Instr) (o : Option Asked)
+    (m : Machine) (a : Answered) (e : Entry) (next : Machine)
     → IsBoard b → IsInstr i → Belongs b m.bus → Words m.regs → message_of b i m.regs ≡ o
     → IsStepOf b i o m a e next → Seen b i o m a e next
-by_message wins reads does idle b i None m a e next is ok belongs words asked step =
+by_message on_wire lengths reads does idle b i None m a e next is ok belongs words asked step =
     let none = idle (alert_level m.bus) (suc (idle_ticks i)) in
     let samples = same_samples e _ step.entry_is in
     record {
@@ -170,12 +180,13 @@ by_message wins reads does idle b i None m a e next is ok belongs words asked st
       entry = rw samples (none.entry (omega arith));
       words = rw (same_regs next _ step.next_is) (silent_words i m ok words);
     }
-by_message wins reads does idle b i (Some msg) m a e next is ok belongs words asked step =
-    let sent = asked_on_wire wins b i m msg a is ok belongs words asked step.fits in
+by_message on_wire lengths reads does idle b i (Some msg) m a e next is ok belongs words asked
+    step =
+    let sent = asked_on_wire on_wire lengths b i m msg a is ok belongs words asked step.fits in
     let one = reads msg a (alert_level m.bus) sent in
     let samples : e.samples ≡ samples_of (alert_level m.bus) msg a =
     same_samples e _ step.entry_is in
-    let wire = fitting_bytes wins b m.bus msg a is belongs step.fits.form in
+    let wire = on_wire b m.bus msg a is belongs step.fits.form in
     let takes = takes_own_form b i m.regs msg ok asked in
     let no_block = no_block_read msg takes in
     let shown = does msg a (alert_level m.bus) sent in
@@ -188,20 +199,21 @@ by_message wins reads does idle b i (Some msg) m a e next is ok belongs words as
         no_block = no_block;
       };
       does = message_does b m.bus msg a (alert_level m.bus) e is (same_before e _ step.entry_is)
-          samples takes sent.can_be_sent.has_good_data.has_length no_block shown;
+          samples takes sent.can_be_sent.has_good_data.has_length no_block
+          (out_of msg a (alert_level m.bus) one) shown;
       entry = rw samples one.entry;
       words =
           rw (same_regs next _ step.next_is) (message_words i (outcome_of (Some msg) a) m words
           (λ v done. outcome_small msg a v wire done));
     }
 
-pub steps_are_seen : LeastByteWins → EntriesReadBack → EntriesDoAsAsked → IdleReadsBack
-    → StepsBelong → StepsAreSeen
-steps_are_seen wins reads does idle stays b p m next a e is program ready step =
+pub steps_are_seen : FittingBytesAreOnWire → LengthsAreOfBlocks → EntriesReadBack
+    → EntriesDoAsAsked → IdleReadsBack → StepsBelong → StepsAreSeen
+steps_are_seen on_wire lengths reads does idle stays b p m next a e is program ready step =
     let i = step.instr in
     let ok = is_instr p m.place i program step.here in
     let words = recursion_from_All (λ word. word < 65536) m.regs ready.words in
-    let seen = by_message wins reads does idle b i
+    let seen = by_message on_wire lengths reads does idle b i
     (message_of b i m.regs) m a e next is ok ready.machine.bus words refl step.step in
     record {
       instr = i;

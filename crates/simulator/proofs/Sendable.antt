@@ -11,7 +11,7 @@ use Rattle.board.specs.Boards.{Target, Board, largest_stretch}
 use Rattle.board.specs.Valid.{IsBoard}
 use Rattle.targets.specs.States.{BusState}
 use Rattle.targets.specs.Fitting.{FitsBlock, FitsForm, Fits, FitsStep, lengths_for}
-use Rattle.targets.proofs.Answering.{lengths_within}
+use Rattle.targets.specs.RangeLaws.{LengthsAreOfBlocks}
 use Rattle.seq_program.specs.declared.instr.Instr.{Instr}
 use Rattle.seq_program.specs.declared.instr.Instr.TheVariants as instr
 use Rattle.seq_program.specs.declared.instr.Width.TheVariants as width
@@ -120,45 +120,47 @@ good_out b instr.End regs m is e = cc
 good_out b instr.Fail regs m is e = cc
 
 -- what is read has one byte at least
-some_read : (b : Board) (m : Asked) (written : ℕ) (bytes : List ℕ) → IsBoard b
+some_read : LengthsAreOfBlocks → (b : Board) (m : Asked) (written : ℕ) (bytes : List ℕ) → IsBoard b
     → FitsBlock b m written bytes → 0 < length bytes
-some_read b m written bytes is fits =
-    let one : 1 ≤ (lengths_for b m).low = (lengths_within b m is).above in
+some_read lengths b m written bytes is fits =
+    let one : 1 ≤ (lengths_for b m).low = (lengths b m is).above in
     let more : (lengths_for b m).low ≤ length bytes = fits.count.above in
     omega arith
 
-good_counts : (b : Board) (s : BusState) (m : Asked) (a : Answered) (f : Form) → IsBoard b
-    → GoodOut f (length m.out) → FitsForm f b s m a
+good_counts : LengthsAreOfBlocks → (b : Board) (s : BusState) (m : Asked) (a : Answered) (f : Form)
+    → IsBoard b → GoodOut f (length m.out) → FitsForm f b s m a
     → AreGoodCounts f (length m.out) (length a.bytes)
-good_counts b s m a (form.Quick r) is g fits = tt
-good_counts b s m a form.SendByte is g fits = tt
-good_counts b s m a form.ReceiveByte is g fits = tt
-good_counts b s m a form.WriteByte is g fits = tt
-good_counts b s m a form.WriteWord is g fits = tt
-good_counts b s m a form.ReadByte is g fits = tt
-good_counts b s m a form.ReadWord is g fits = tt
-good_counts b s m a form.ProcessCall is g fits = tt
-good_counts b s m a form.BlockWrite is g fits = g
-good_counts b s m a form.BlockRead is g fits =
+good_counts lengths b s m a (form.Quick r) is g fits = tt
+good_counts lengths b s m a form.SendByte is g fits = tt
+good_counts lengths b s m a form.ReceiveByte is g fits = tt
+good_counts lengths b s m a form.WriteByte is g fits = tt
+good_counts lengths b s m a form.WriteWord is g fits = tt
+good_counts lengths b s m a form.ReadByte is g fits = tt
+good_counts lengths b s m a form.ReadWord is g fits = tt
+good_counts lengths b s m a form.ProcessCall is g fits = tt
+good_counts lengths b s m a form.BlockWrite is g fits = g
+good_counts lengths b s m a form.BlockRead is g fits =
     let both : 0 + length a.bytes ≤ 255 = fits.0.both in
-    (some_read b m 0 a.bytes is fits.0, omega arith)
-good_counts b s m a form.BlockProcessCall is g fits =
-    (g, some_read b m (length m.out) a.bytes is fits.0, fits.0.both)
-good_counts b s m a form.Alert is g fits = tt
+    (some_read lengths b m 0 a.bytes is fits.0, omega arith)
+good_counts lengths b s m a form.BlockProcessCall is g fits =
+    (g, some_read lengths b m (length m.out) a.bytes is fits.0, fits.0.both)
+good_counts lengths b s m a form.Alert is g fits = tt
 
-can_be_sent : (b : Board) (s : BusState) (i : Instr) (regs : List ℕ) (m : Asked) (a : Answered)
+can_be_sent : LengthsAreOfBlocks → (b : Board) (s : BusState) (i : Instr) (regs : List ℕ)
+    (m : Asked) (a : Answered)
     → IsBoard b → IsInstr i → message_of b i regs ≡ Some m → Fits b s m a → CanBeSent m a
-can_be_sent b s i regs m a is instr e fits =
+can_be_sent lengths b s i regs m a is instr e fits =
     let good = good_out b i regs m instr e in
     record {
       has_good_data =
           record { has_length = has_length m.form (length m.out) good; is_numbered = fits.refuse };
-      has_good_block = good_counts b s m a m.form is good fits.form;
+      has_good_block = good_counts lengths b s m a m.form is good fits.form;
       holds = below (largest_stretch b.targets) (stretches b is) a.holds fits.holds;
     }
 
-pub sendable : (b : Board) (s : BusState) (i : Instr) (regs : List ℕ) (o : Option Asked)
-    (a : Answered) → IsBoard b → IsInstr i → o ≡ message_of b i regs → FitsStep b s o a
+pub sendable : LengthsAreOfBlocks → (b : Board) (s : BusState) (i : Instr) (regs : List ℕ)
+    (o : Option Asked) (a : Answered) → IsBoard b → IsInstr i → o ≡ message_of b i regs → FitsStep b s o a
     → IfSome o (λ m. CanBeSent m a)
-sendable b s i regs None a is instr e fits = tt
-sendable b s i regs (Some m) a is instr e fits = can_be_sent b s i regs m a is instr (sym e) fits
+sendable lengths b s i regs None a is instr e fits = tt
+sendable lengths b s i regs (Some m) a is instr e fits =
+    can_be_sent lengths b s i regs m a is instr (sym e) fits

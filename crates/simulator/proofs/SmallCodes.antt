@@ -1,11 +1,14 @@
 -- A command that takes a form has a code of one byte.
+use Rattle.std.proofs.Common.{◌||◌, option_and_then}
 use Rattle.std.proofs.Common.{◌≡◌, ◌<◌, ◌==◌, ◌&&◌, ℕ, Bool, true, false, Option, Some, None, List}
 use Rattle.std.proofs.Common.{[], ◌∷◌, IfSome, inl, inr, refl, arith, find, nat_lt, is_some}
 use Rattle.std.specs.List.{list_all}
 use Rattle.std.proofs.lemmas.Bool.{cases_Bool, eqb-true}
 use Rattle.std.proofs.lemmas.Bool.Decides.{nat_tests}
+use Rattle.smbus.specs.declared.message.Form.{Form}
 use Rattle.pmbus_table.specs.Table.{Row, table, row_of}
-use Rattle.pmbus_table.specs.Commands.{is_manufacturer, is_command}
+use Rattle.pmbus_table.specs.Commands.{is_manufacturer, form_written, form_read, takes_form}
+use Rattle.pmbus_table.specs.Forms.{is_form}
 
 small_rows : list_all (λ r. nat_lt r.code 256) table ≡ true
 unfolding table
@@ -35,8 +38,17 @@ row_small code e = by (row_of code) e (found_small code table small_rows)
     by None e small = cc
     by (Some r) e small = small
 
-pub command_small : (code : ℕ) → is_command code ≡ true → code < 256
-command_small code e = elim (cases_Bool (is_manufacturer code)) [
-  | inl t ↦ grind (arith, nat_tests)
-  | inr f ↦ row_small code (rw f at e)
+-- a command that takes a form is known
+known : (o : Option Row) (f : Form)
+    → (is_form f (option_and_then (λ r. r.written) o)
+    || is_form f (option_and_then (λ r. r.read) o)) ≡ true → is_some o ≡ true
+known None f t = t
+known (Some r) f t = refl
+
+pub taken_small : (code : ℕ) (f : Form) → takes_form code f ≡ true → code < 256
+taken_small code f t = elim (cases_Bool (is_manufacturer code)) [
+  | inl m ↦ grind (arith, nat_tests)
+  | inr n ↦
+      let test : (is_form f (form_written code) || is_form f (form_read code)) ≡ true = rw n at t in
+      row_small code (known (row_of code) f test)
 ]

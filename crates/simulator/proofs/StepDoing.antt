@@ -17,9 +17,8 @@ use Rattle.smbus.specs.MessageFrame.{ReadsNoBlock}
 use Rattle.pmbus_table.specs.Codes.{operation_code, status_word_code}
 use Rattle.pmbus_table.specs.Voltage.{carries_voltage}
 use Rattle.board.specs.Boards.{Target, Board}
-use Rattle.board.specs.Valid.{IsTarget, IsBoard}
-use Rattle.targets.specs.States.{BusState, IsTargetAt}
-use Rattle.targets.proofs.AlertBytes.{small_address}
+use Rattle.board.specs.Valid.{IsBoard}
+use Rattle.targets.specs.States.{BusState}
 use Rattle.smbus.specs.Slots.{samples_of}
 use Rattle.simulator.specs.Machines.{Entry}
 use Rattle.simulator.specs.Does.{HasFrame, IsFrontOfBytes, BeginsWith, SendsByte, ReportsWord, Sent}
@@ -27,7 +26,7 @@ use Rattle.simulator.specs.Does.{Reported, DoesAsAsked}
 use Rattle.simulator.specs.Reports.{write_to, WritesTo}
 use Rattle.simulator.specs.StepDoes.{writes_data, MessageWrites, MessageWritesByte}
 use Rattle.simulator.specs.StepDoes.{MessageWritesWord, StepDoes}
-use Rattle.simulator.proofs.NextPlaces.{at_place}
+use Rattle.simulator.proofs.Addresses.{address_small}
 use Rattle.simulator.proofs.FrontBytes.{message_begins, front_goes_out, IsDataWrite, three_bytes}
 use Rattle.simulator.proofs.FrontBytes.{address_and_code, IsPlain, plain_bytes, front_length}
 use Rattle.simulator.proofs.FrontBytes.{whole_front}
@@ -37,6 +36,7 @@ use Rattle.simulator.proofs.TakenForms.{Takes, operation_form, voltage_form}
 record Judged (m : Asked) (a : Answered) (samples : List Sample) : Type 0 where
   pub takes : Takes m.code m.form
   pub has_length : HasLength m.form (length m.out)
+  pub goes_out : IsFrontOfBytes (bytes_out m a) (message_bytes m a)
   pub begins : (bytes : List ℕ) → BeginsWith samples bytes ↔ IsFrontOfBytes bytes (bytes_out m a)
   pub sends : (address code : ℕ) → address ≤ 127
       → SendsByte samples address code ↔ Sent m a address code
@@ -47,9 +47,10 @@ record Judged (m : Asked) (a : Answered) (samples : List Sample) : Type 0 where
 -- what is written
 
 begun_writes : (m : Asked) (a : Answered) (x y z : ℕ) (more : List ℕ)
+    → IsFrontOfBytes (bytes_out m a) (message_bytes m a)
     → IsFrontOfBytes (x ∷ y ∷ z ∷ more) (bytes_out m a) → IsDataWrite m.form m.address m.code x y
-begun_writes m a x y z more o =
-    let all = message_begins m a (x ∷ y ∷ z ∷ more) o in
+begun_writes m a x y z more out o =
+    let all = message_begins m a (x ∷ y ∷ z ∷ more) out o in
     three_bytes m.form m.address m.code m.out a.value a.bytes x y z (more ++ all.0) all.1
 
 to_writes : (m : Asked) (a : Answered) (samples : List Sample) (t : Target) (code : ℕ)
@@ -57,7 +58,7 @@ to_writes : (m : Asked) (a : Answered) (samples : List Sample) (t : Target) (cod
     → MessageWrites t.address code m a
 to_writes m a samples t code j le (inl w) =
     let front = (j.begins (write_to t ∷ code ∷ w.0 ∷ [])).0 w.1 in
-    let is = begun_writes m a (write_to t) code w.0 [] front in
+    let is = begun_writes m a (write_to t) code w.0 [] j.goes_out front in
     let first : 2 * m.address ≡ 2 * t.address = is.first in
     record {
       to = omega arith;
@@ -81,7 +82,7 @@ from_writes : (m : Asked) (a : Answered) (samples : List Sample) (t : Target) (c
     → WritesTo t samples code
 from_writes m a samples t code j le w = elim (w.went_out) [
   | inl data_out ↦
-      let two = front_goes_out m a (2 * m.address ∷ m.code ∷ [])
+      let two = front_goes_out m a (2 * m.address ∷ m.code ∷ []) j.goes_out
       (address_and_code m.form m.address m.code m.out a.value a.bytes data_out.0)
       (omega (arith, data_out.1)) in
       let same : 2 * m.address ∷ m.code ∷ [] ≡ write_to t ∷ code ∷ [] =
@@ -117,11 +118,11 @@ to_data : (m : Asked) (a : Answered) (samples : List Sample) (t : Target) (f : F
 to_data m a samples t f code x later j plain only long w =
     let bytes = write_to t ∷ code ∷ x ∷ later in
     let front = (j.begins bytes).0 w in
-    let is = begun_writes m a (write_to t) code x later front in
+    let is = begun_writes m a (write_to t) code x later j.goes_out front in
     let first : 2 * m.address ≡ 2 * t.address = is.first in
     let takes : Takes code m.form = subst (λ (c : ℕ). Takes c m.form) is.second j.takes in
     let made : m.form ≡ f = only m.form is.writes takes in
-    let all = message_begins m a bytes front in
+    let all = message_begins m a bytes j.goes_out front in
     let same : 2 * m.address ∷ m.code ∷ m.out ≡ write_to t ∷ code ∷ x ∷ (later ++ all.0) =
     sym (plain_bytes f m a plain made) ∙ all.1 in
     let out : m.out ≡ x ∷ (later ++ all.0) = cc in
@@ -144,7 +145,7 @@ from_data m a samples t f code content j plain w =
     ∙ ap (λ (n : ℕ). write_to t ∷ n ∷ m.out) w.command
     ∙ ap (λ (l : List ℕ). write_to t ∷ code ∷ l) w.content_is in
     (j.begins (write_to t ∷ code ∷ content)).1 (front_goes_out m a (write_to t ∷ code ∷ content)
-    ([], all ∙ sym (append-nil (write_to t ∷ code ∷ content))) w.went_out)
+    j.goes_out ([], all ∙ sym (append-nil (write_to t ∷ code ∷ content))) w.went_out)
 
 abbrev WritesOperation : Target → List Sample → ℕ → Type 0
 WritesOperation t samples value = BeginsWith samples (write_to t ∷ operation_code ∷ value ∷ [])
@@ -202,9 +203,6 @@ voltage m a samples t code low high j sets = (
 )
 
 -- the step of a message
-
-address_small : (b : Board) (i : ℕ) (t : Target) → IsBoard b → IsTargetAt b i t → t.address ≤ 127
-address_small b i t is at = small_address t (at_place IsTarget b.targets i t is.targets at)
 
 does_message : (b : Board) (m : Asked) (a : Answered) (e : Entry) → IsBoard b → Judged m a e.samples
     → StepDoes b e.before (Some m) a e
@@ -285,10 +283,12 @@ no_frame samples only f has = let bad : f ∷ [] ≡ [] = only (f ∷ []) has in
 
 judged : (m : Asked) (a : Answered) (alert : Bool) (samples : List Sample)
     → samples ≡ samples_of alert m a → Takes m.code m.form → HasLength m.form (length m.out)
-    → ReadsNoBlock status_word_code m → DoesAsAsked m a alert → Judged m a samples
-judged m a alert samples e takes good no_block does = record {
+    → ReadsNoBlock status_word_code m → IsFrontOfBytes (bytes_out m a) (message_bytes m a)
+    → DoesAsAsked m a alert → Judged m a samples
+judged m a alert samples e takes good no_block out does = record {
   takes = takes;
   has_length = good;
+  goes_out = out;
   begins = λ bytes. rw e (does.begins bytes);
   sends = λ address code le. rw e (does.sends address code le);
   reports = λ address word le.
@@ -298,10 +298,11 @@ judged m a alert samples e takes good no_block does = record {
 pub message_does : (b : Board) (s : BusState) (m : Asked) (a : Answered) (alert : Bool) (e : Entry)
     → IsBoard b → e.before ≡ s → e.samples ≡ samples_of alert m a
     → Takes m.code m.form → HasLength m.form (length m.out) → ReadsNoBlock status_word_code m
-    → DoesAsAsked m a alert → StepDoes b s (Some m) a e
-message_does b s m a alert e is before samples takes good no_block does =
+    → IsFrontOfBytes (bytes_out m a) (message_bytes m a) → DoesAsAsked m a alert
+    → StepDoes b s (Some m) a e
+message_does b s m a alert e is before samples takes good no_block out does =
     subst (λ (x : BusState). StepDoes b x (Some m) a e) before
-    (does_message b m a e is (judged m a alert e.samples samples takes good no_block does))
+    (does_message b m a e is (judged m a alert e.samples samples takes good no_block out does))
 
 pub silence_does : (b : Board) (s : BusState) (a : Answered) (e : Entry) → e.before ≡ s
     → ((frames : List Shown) → AreFrames (events_of e.samples) frames → frames ≡ [])

@@ -1,5 +1,6 @@
 -- There is a step that sends a message: a value is written to OPERATION of a target.
-use Rattle.std.proofs.Common.{◌≡◌, Some, slice_get, [], ◌∷◌, refl, arith, lit≤, lit<}
+use Rattle.std.proofs.Common.{◌≡◌, ◌≤◌, Some, slice_get, List, [], ◌∷◌, length, refl, arith}
+use Rattle.std.proofs.Common.{lit≤, lit<}
 use Rattle.board.specs.Boards.{Target}
 use Rattle.targets.specs.StateLaws.{StartsBelong}
 use Rattle.targets.specs.SomeAnswer.{SomeCase}
@@ -9,7 +10,6 @@ use Rattle.simulator.specs.StepLaws.{SomeStepIsTaken}
 use Rattle.simulator.proofs.PlainSteps.{plain, plain_step, entry_by, next_by}
 use Rattle.simulator.proofs.SeenSteps.{starts_are_ready}
 use Rattle.simulator.proofs.UnsafePrograms.{two_places}
-use Rattle.simulator.proofs.WireAnswers.{target_there}
 use Rattle.simulator.proofs.WithdrawnNeed.{takes_byte, turning, turn, sends_turn}
 
 taken : StartsBelong → (c : SomeCase) (t : Target) → slice_get c.board.targets 0 ≡ Some t
@@ -37,7 +37,11 @@ taken starts c t at =
       sends = sends.message;
     }
 
+first_target : (ts : List Target) → 1 ≤ length ts → (t : Target) × (slice_get ts 0 ≡ Some t)
+first_target [] some = absurd (omega arith)
+first_target (t ∷ ts) some = (t, refl)
+
 pub some_step_is_taken : StartsBelong → SomeCase → SomeStepIsTaken
 some_step_is_taken starts c =
-    let first = target_there c.board.targets 0 (omega (arith, c.is_board.one_target)) in
+    let first = first_target c.board.targets c.is_board.one_target in
     taken starts c first.0 first.1

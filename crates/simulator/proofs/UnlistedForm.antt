@@ -16,13 +16,13 @@ use Rattle.smbus.specs.MessageFrame.{send_byte, IsSendByte, AreAsked, MessagesHa
 use Rattle.board.specs.Boards.{Target, Board, entry_of}
 use Rattle.board.specs.Valid.{IsBoard, IsTarget}
 use Rattle.targets.specs.States.{BusState, IsTargetAt}
-use Rattle.targets.proofs.Addresses.{only_one}
-use Rattle.targets.proofs.AlertBytes.{small_address}
+use Rattle.targets.specs.PlaceLaws.{TargetsAreFound}
 use Rattle.simulator.specs.Machines.{start_at}
 use Rattle.simulator.specs.Allowed.{IsAllowed, IsAllowedBy}
 use Rattle.simulator.specs.StepLaws.{StepsAreSeen, StartsAreReady}
 use Rattle.simulator.specs.SmallPrograms.{UnlistedFormIsUnsafe}
-use Rattle.simulator.proofs.NextPlaces.{at_place}
+use Rattle.simulator.proofs.Addresses.{address_small}
+use Rattle.simulator.proofs.OneTarget.{only_one}
 use Rattle.simulator.proofs.PlainSteps.{plain, uncut, none_cut, entry_by}
 use Rattle.simulator.proofs.UnsafePrograms.{sending, sends_code, two_places, first_step}
 
@@ -85,15 +85,15 @@ no_timeout None e t = cc
 no_timeout (Some slot) e t = cc
 
 -- who allows it is the target, by an entry of the form and the code
-listed_so : (b : Board) (s : BusState) (samples : List Sample) (f : Shown) (i : ℕ) (t : Target)
+listed_so : TargetsAreFound → (b : Board) (s : BusState) (samples : List Sample) (f : Shown) (i : ℕ) (t : Target)
     (code : ℕ) → IsBoard b → IsTargetAt b i t → (al : IsAllowed b s samples f)
     → IsSendByte t.address code al.message → entry_of SendByte code t.allow ≡ None → ⊥
-listed_so b s samples f i t code is at al sends none = by al.allowed
+listed_so found b s samples f i t code is at al sends none = by al.allowed
   where
     by : IsAllowedBy b s al.message al.answer → ⊥
     by (inl alert) = let bad : SendByte ≡ Alert = sym sends.form ∙ alert in cc
     by (inr (j, u, uj, allows)) =
-        let same : i ≡ j = only_one b is i j t u at uj (sym sends.to ∙ allows.to) in
+        let same : i ≡ j = only_one found b is i j t u at uj (sym sends.to ∙ allows.to) in
         let there : Some t ≡ Some u = sym at ∙ subst (λ n. IsTargetAt b n u) (sym same) uj in
         let one : u ≡ t = cc in
         let form : entry_of al.message.form al.message.code t.allow ≡ Some allows.entry =
@@ -106,8 +106,8 @@ listed_so b s samples f i t code is at al sends none = by al.allowed
         cc
 
 pub unlisted_form_is_unsafe : StepsAreSeen → StartsAreReady → MessagesHaveOneFrame
-    → UnlistedFormIsUnsafe
-unlisted_form_is_unsafe steps ready one b s i t code bound is starts at takes none runs =
+    → TargetsAreFound → UnlistedFormIsUnsafe
+unlisted_form_is_unsafe steps ready one found b s i t code bound is starts at takes none runs =
     let m = send_byte t.address code in
     let first =
     first_step steps ready b s (sending i code) m bound is starts
@@ -115,7 +115,7 @@ unlisted_form_is_unsafe steps ready one b s i t code bound is starts at takes no
     let e = entry_by (sending i code) m 0 (start_at s) in
     let reads = first.seen.sees.reads in
     let f = reads.shows.one.frame in
-    let small = small_address t (at_place IsTarget b.targets i t is.targets at) in
+    let small = address_small b i t is at in
     let code_small : code < 256 = first.seen.sees.asked.wire.code in
     let al : IsAllowed b s e.samples f = first.safe.safe.0.allowed f reads.is_only.is in
     let in_time : HasTimeout e.samples → ⊥ =
@@ -123,4 +123,4 @@ unlisted_form_is_unsafe steps ready one b s i t code bound is starts at takes no
     let sends =
     shown_by one b s e.samples f t.address code small code_small (reads.done refl (none_cut m 0))
     in_time al in
-    listed_so b s e.samples f i t code is at al sends none
+    listed_so found b s e.samples f i t code is at al sends none

@@ -11,7 +11,6 @@ use Rattle.pmbus_table.specs.Codes.{vout_command_code}
 use Rattle.pmbus_table.specs.Commands.{takes_form}
 use Rattle.board.specs.Boards.{Target, Board}
 use Rattle.board.specs.Valid.{IsTarget, IsBoard}
-use Rattle.targets.proofs.AlertBytes.{small_address}
 use Rattle.seq_program.specs.declared.instr.Instr.{Instr}
 use Rattle.seq_program.specs.declared.instr.Instr.TheVariants as instr
 use Rattle.seq_program.specs.declared.instr.Width.TheVariants as width
@@ -20,17 +19,13 @@ use Rattle.seq_program.specs.declared.instr.Written.TheVariants as written
 use Rattle.seq_program.specs.Messages.{low_byte_first, form_of, data_of, message_to, alert_message}
 use Rattle.seq_program.specs.Messages.{message_of}
 use Rattle.seq_program.specs.Valid.{IsWritten, IsInstr}
-use Rattle.seq_program.proofs.PrintedCommands.{taken_is_command}
-use Rattle.simulator.proofs.NextPlaces.{at_place}
-use Rattle.simulator.proofs.SmallCodes.{command_small}
+use Rattle.simulator.proofs.Addresses.{address_small}
+use Rattle.simulator.proofs.SmallCodes.{taken_small}
 
 pub record AreBytes (m : Asked) : Type 0 where
   pub address : IsAddressed m.address m.form
   pub code : m.code < 256
   pub out : All (λ byte. byte < 256) m.out
-
-taken_small : (code : ℕ) (f : Form) → IsTrue (takes_form code f) → code < 256
-taken_small code f takes = command_small code (taken_is_command code f takes)
 
 abbrev pub asked_at : Form → ℕ → List ℕ → Target → Asked
 asked_at f code out t = record { address = t.address; form = f; code = code; out = out }
@@ -42,7 +37,7 @@ asked_bytes : (b : Board) (n : ℕ) (f : Form) (code : ℕ) (out : List ℕ) (m 
 asked_bytes b n f code out m None is at target small bytes e = cc
 asked_bytes b n f code out m (Some t) is at target small bytes e =
     let same : asked_at f code out t ≡ m = cc in
-    let few : t.address ≤ 127 = small_address t (at_place IsTarget b.targets n t is.targets at) in
+    let few : t.address ≤ 127 = address_small b n t is at in
     rw (sym same) (record {
       address = (few, λ a. absurd (target a));
       code = small;

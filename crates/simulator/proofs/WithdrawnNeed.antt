@@ -16,7 +16,7 @@ use Rattle.targets.specs.States.{BusState, IsTargetAt}
 use Rattle.targets.specs.Fitting.{values_for}
 use Rattle.targets.specs.Outcomes.{outcome_of, returned_by, ending_of}
 use Rattle.targets.specs.declared.outcome.Outcome.{Outcome}
-use Rattle.targets.proofs.Answering.{values_within}
+use Rattle.targets.specs.RangeLaws.{ValuesAreOfForm}
 use Rattle.seq_program.specs.declared.instr.Instr.{Instr}
 use Rattle.seq_program.specs.declared.instr.Instr.TheVariants as instr
 use Rattle.seq_program.specs.declared.instr.Width.TheVariants as width
@@ -96,13 +96,13 @@ sends_turn b p machine i value next t at running here = record {
   reads = record { value = refl; bytes = refl };
 }
 
-sends_ask : (b : Board) (p : List Instr) (machine : Machine) (i label : ℕ) (t : Target) → IsBoard b
-    → IsTargetAt b i t → machine.ended ≡ Running → slice_get p machine.place ≡ Some (asking i label)
+sends_ask : ValuesAreOfForm → (b : Board) (p : List Instr) (machine : Machine) (i label : ℕ)
+    (t : Target) → IsBoard b → IsTargetAt b i t → machine.ended ≡ Running → slice_get p machine.place ≡ Some (asking i label)
     → Sends b p machine (asking i label) (read_word t.address status_word_code)
     (values_for b (read_word t.address status_word_code)).low
-sends_ask b p machine i label t is at running here =
+sends_ask values b p machine i label t is at running here =
     let m = read_word t.address status_word_code in
-    let within = values_within b m is in
+    let within = values b m is in
     record {
       running = running;
       here = here;
@@ -143,8 +143,9 @@ not_good b e before n none off good = by good.last
     by (inl reports) = none good.word reports
     by (inr kept) = kept.1 off
 
-pub withdrawn_need_is_unsafe : StepsAreSeen → StartsAreReady → WithdrawnNeedIsUnsafe
-withdrawn_need_is_unsafe steps ready b s n d need r label bound is starts lands need_selected
+pub withdrawn_need_is_unsafe : StepsAreSeen → StartsAreReady → ValuesAreOfForm
+    → WithdrawnNeedIsUnsafe
+withdrawn_need_is_unsafe steps ready values b s n d need r label bound is starts lands need_selected
     selected needs runs =
     let i = need.target in
     let j = r.target in
@@ -160,7 +161,7 @@ withdrawn_need_is_unsafe steps ready b s n d need r label bound is starts lands 
     let ask = read_word t.address status_word_code in
     let word = (values_for b ask).low in
     let first = start_at s in
-    let asks = sends_ask b p first i label t is ti refl refl in
+    let asks = sends_ask values b p first i label t is ti refl refl in
     let second = next_by (asking i label) ask word first in
     let at_second : second.place ≡ 1 = next_place (asking i label) ask word first in
     let offs = sends_turn b p second i 0x00 2 t ti (next_ended (asking i label) ask word first)

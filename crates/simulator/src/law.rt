@@ -14,10 +14,12 @@ ghost use Rattle.simulator.specs.SmallPrograms.{SomeVoltageIsOver, SomeRailHasNe
 ghost use Rattle.simulator.specs.SmallPrograms.{SomeNeedIsWithdrawn, SomeClearingIsListed};
 ghost use Rattle.simulator.specs.StepLaws.{StepsAreSeen, StartsAreReady, SomeStepIsTaken};
 
-use bit_bus::reads_back;
+use bit_bus::{plans_keep_slots, reads_back};
 use smbus::{messages_have_one_frame, slots_are_one_frame};
-use targets::{some_answer_fits, states_belong};
-use wires::least_byte_wins;
+use targets::{
+    fitting_bytes_are_on_wire, ranges_are_of_forms, some_answer_fits, states_belong,
+    targets_are_found,
+};
 
 /// The samples of an entry that sends a message have one frame, the one that shows the message, and
 /// what they are seen to do is what was asked and answered. Idle samples have no frame. The joined
@@ -29,6 +31,7 @@ pub fn entries_read_back()
     ensures joined { JoinedReadBack }
 {
     reads_back();
+    plans_keep_slots();
     slots_are_one_frame();
     messages_have_one_frame();
 }
@@ -44,10 +47,11 @@ pub fn steps_are_seen()
     // There are such steps.
     ensures some { SomeStepIsTaken }
 {
-    least_byte_wins();
     entries_read_back();
     states_belong();
     some_answer_fits();
+    ranges_are_of_forms();
+    fitting_bytes_are_on_wire();
 }
 
 /// The joined samples of a run are read as the frames of the messages that it sent, in order, and
@@ -112,4 +116,6 @@ pub fn small_programs_are_judged()
     steps_are_seen();
     safe_steps_are_safe_runs();
     some_answer_fits();
+    targets_are_found();
+    ranges_are_of_forms();
 }

@@ -22,7 +22,7 @@ use board::{Board, board_is_valid};
 use seq_program::{Instr, Program, message_of, program_is_valid};
 use smbus::{Answer, Message, slots_are_one_frame};
 use std::alloc::{AllocError, Global};
-use targets::{BusState, Outcome, after_in, fits, states_belong};
+use targets::{BusState, Outcome, after_in, fits, ranges_are_of_forms, states_belong};
 
 /// The most ticks of a run.
 pub(crate) const MOST_TICKS: u64 = 1 << 40;
@@ -101,6 +101,7 @@ fn step_by(
     slots_are_one_frame();
     reads_back();
     states_belong();
+    ranges_are_of_forms();
     let (machine, spare) = last;
     let samples = step_samples(alloc, spare.samples, &machine.bus, instr, message, answer)?;
     let (bus, outcome) = after_in(spare.before, board, &machine.bus, message, answer)?;

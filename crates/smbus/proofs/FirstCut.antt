@@ -1,12 +1,10 @@
 -- A plan of marks: what goes out before its first cut, and that it can be driven.
 use Rattle.std.proofs.Common.{◌≡◌, ◌≢◌, ℕ, suc, ◌+◌, ◌-◌, ◌≤◌, inl, inr, if◌then◌else◌, Option}
 use Rattle.std.proofs.Common.{Some, None, List, [], ◌∷◌, ◌++◌, length, take, refl, ap, ◌∙◌, arith}
-use Rattle.std.specs.List.{AllByRecursion}
 use Rattle.std.proofs.lemmas.Bool.{cases_Bool}
 use Rattle.bit_bus.specs.declared.plan.Slot.{Slot}
 use Rattle.bit_bus.specs.declared.plan.Slot.TheVariants.{Bit, Again, End}
 use Rattle.bit_bus.specs.Planned.{planned, EndsOnce}
-use Rattle.bit_bus.proofs.Plans.{ends_more}
 use Rattle.bit_bus.specs.Levels.{is_cut}
 use Rattle.smbus.proofs.MarksOut.{marks_out, cut_from, NoEnd}
 
@@ -95,12 +93,9 @@ cuts_of i (s ∷ marks) (h ∷ holds) n =
 
 -- a plan of marks is one that can be driven
 
-pub planned_holds : (longest : ℕ) (slots : List Slot) (holds : List ℕ)
-    → AllByRecursion (λ h. h ≤ longest) holds
-    → AllByRecursion (λ (s : Slot × ℕ). s.1 ≤ longest) (planned slots holds)
-planned_holds longest [] holds h = tt
-planned_holds longest (s ∷ slots) [] h = (omega arith, planned_holds longest slots [] tt)
-planned_holds longest (s ∷ slots) (k ∷ holds) h = (h.0, planned_holds longest slots holds h.1)
+ends_more : (s : Slot) (slots : List Slot) → s ≢ End → EndsOnce slots → EndsOnce (s ∷ slots)
+ends_more s [] ne once = absurd once
+ends_more s (t ∷ slots) ne once = (ne, once)
 
 pub marks_end_once : (marks : List Slot) → NoEnd marks → EndsOnce (marks ++ End ∷ [])
 marks_end_once [] n = refl

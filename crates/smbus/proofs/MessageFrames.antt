@@ -6,7 +6,7 @@ use Rattle.wires.specs.declared.event.Event.{Event}
 use Rattle.bit_bus.specs.declared.plan.Slot.{Slot}
 use Rattle.bit_bus.specs.Levels.{first_cut}
 use Rattle.bit_bus.specs.Word.{event_word}
-use Rattle.bit_bus.proofs.Plans.{length-planned}
+use Rattle.bit_bus.specs.PlannedSlots.{SlotsAreKept}
 use Rattle.smbus.specs.declared.message.Form.{Form}
 use Rattle.smbus.specs.declared.message.Form.TheVariants.{ReadWord}
 use Rattle.smbus.specs.Asked.{Asked}
@@ -25,7 +25,7 @@ use Rattle.smbus.proofs.FirstSegments.{first_up_to, Rest, out_rest}
 use Rattle.smbus.proofs.Fronts.{Token}
 use Rattle.smbus.proofs.MarkCounts.{length-marks_of, slots_few}
 use Rattle.smbus.proofs.MarksOut.{marks_out}
-use Rattle.smbus.proofs.OneFrameOfMessage.{pieces_of, cuts, sees}
+use Rattle.smbus.proofs.OneFrameOfMessage.{pieces_of, cuts, plan_length, sees}
 use Rattle.smbus.proofs.SeenFrames.{head_same, same_whole, same_tokens, Seen, seen_of}
 use Rattle.smbus.proofs.SmallPieces.{AreSmall, small_whole, small_up_to}
 use Rattle.smbus.proofs.Tokens.{sends_by, reports_by}
@@ -142,12 +142,12 @@ reports m a f asked only s x c w read lx lc lw no_block is =
       subst (IsCutLate (first_cut (plan_of m a))) (sym (whole_count m a.value a.bytes r.1.0)) late,
     )
 
-few_slots : (m : Asked) (a : Answered) (most : ℕ) → length (slots_of m a) ≤ most
+few_slots : SlotsAreKept → (m : Asked) (a : Answered) (most : ℕ) → length (slots_of m a) ≤ most
     → length (plan_of m a) ≤ most
-few_slots m a most le = let l = length-planned (slots_of m a) a.holds in omega arith
+few_slots kept m a most le = let l = plan_length kept m a in omega arith
 
-pub messages_have_one_frame : SlotsAreOneFrame → MessagesHaveOneFrame
-messages_have_one_frame one_frame m a asked =
+pub messages_have_one_frame : SlotsAreKept → SlotsAreOneFrame → MessagesHaveOneFrame
+messages_have_one_frame kept one_frame m a asked =
     let one : HasOneFrame m a = one_frame m a asked.can_be_sent in
     let f : Shown = one.frame in
     let only : IsOnly m a f = one.is_only in
@@ -155,7 +155,7 @@ messages_have_one_frame one_frame m a asked =
     let out = went_out m a f asked seen in
     record {
       one = one;
-      slots = few_slots m a _ (slots_few m a asked.can_be_sent.has_good_data.has_length);
+      slots = few_slots kept m a _ (slots_few m a asked.can_be_sent.has_good_data.has_length);
       went_out = out;
       begins = begins m a (bytes_seen f) out;
       writes = λ v form is.

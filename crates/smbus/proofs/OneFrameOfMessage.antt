@@ -1,19 +1,18 @@
 -- The slots of a message and an answer, up to any cut, are one frame.
-use Rattle.std.proofs.Common.{◌≡◌, ℕ, ◌-◌, ◌<◌, ◌≤◌, inl, inr, Bool, false, IsTrue, Option, Some}
+use Rattle.std.proofs.Common.{◌≡◌, ℕ, ◌-◌, ◌<◌, inl, inr, Bool, false, IsTrue, Option, Some}
 use Rattle.std.proofs.Common.{None}
 use Rattle.std.proofs.Common.{is_some}
 use Rattle.std.proofs.Common.{List, [], ◌∷◌, ◌++◌, length, take, refl, sym, ap, subst, ◌∙◌, arith}
 use Rattle.std.specs.List.{flat_map}
 use Rattle.std.proofs.lemmas.Bool.{cases_lt}
-use Rattle.std.proofs.lemmas.List.{append-nil, take_all}
-use Rattle.std.proofs.lemmas.List.Elements.{recursion_from_All, All-from_recursion, All-nil}
-use Rattle.std.proofs.lemmas.List.Elements.{All-cons}
+use Rattle.std.proofs.lemmas.List.{append-nil, length-map, take_all}
+use Rattle.std.proofs.lemmas.List.Elements.{All-nil, All-cons}
 use Rattle.wires.specs.declared.lines.Sample.{Sample}
 use Rattle.wires.specs.declared.event.Event.{Event}
 use Rattle.wires.specs.declared.event.Event.TheVariants.{Start, Stop, Rise}
 use Rattle.bit_bus.specs.declared.plan.Slot.{Slot}
 use Rattle.bit_bus.specs.Planned.{EndsOnce, IsPlan}
-use Rattle.bit_bus.proofs.Plans.{length-planned, slots_in-planned}
+use Rattle.bit_bus.specs.PlannedSlots.{SlotsAreKept, HoldsAreKept}
 use Rattle.bit_bus.specs.Levels.{first_cut, HasTimeout}
 use Rattle.bit_bus.specs.Word.{slot_word, event_word, CutIsSeen}
 use Rattle.smbus.specs.Asked.{Asked}
@@ -29,7 +28,7 @@ use Rattle.smbus.proofs.EventByEvent.{only_read, read_frames, closed}
 use Rattle.smbus.proofs.FrameMarks.{frame_of, is_frame, frame_word-marks, segment_marks-split}
 use Rattle.smbus.proofs.Fronts.{front_of}
 use Rattle.smbus.proofs.MarksOut.{marks_out, no_end-pieces, goes_out, refused_front}
-use Rattle.smbus.proofs.FirstCut.{Cuts, cuts_of, planned_holds, marks_end_once}
+use Rattle.smbus.proofs.FirstCut.{Cuts, cuts_of, marks_end_once}
 use Rattle.smbus.proofs.MarkCounts.{slots_few, most_few}
 
 abbrev Plan : Type 0
@@ -41,19 +40,24 @@ pieces_of m a = up_to_refused a.refuse (whole m a.value a.bytes)
 pub cuts : (m : Asked) (a : Answered) → Cuts 0 (marks_of (pieces_of m a)) (plan_of m a)
 cuts m a = cuts_of 0 (marks_of (pieces_of m a)) a.holds (no_end-pieces (pieces_of m a))
 
-is_plan : (m : Asked) (a : Answered) → CanBeSent m a → IsPlan (plan_of m a)
-is_plan m a can =
-    let l = length-planned (slots_of m a) a.holds in
+-- a plan has as many slots as it is made of
+pub plan_length : SlotsAreKept → (m : Asked) (a : Answered)
+    → length (plan_of m a) ≡ length (slots_of m a)
+plan_length kept m a =
+    sym (length-map (plan_of m a) (λ (s : Slot × ℕ). s.0)) ∙ ap length (kept (slots_of m a) a.holds)
+
+is_plan : SlotsAreKept → HoldsAreKept → (m : Asked) (a : Answered) → CanBeSent m a
+    → IsPlan (plan_of m a)
+is_plan kept short m a can =
+    let l = plan_length kept m a in
     let s = slots_few m a can.has_good_data.has_length in
     let most = most_few m.form (length m.out) (length a.bytes) can.has_good_block in
     record {
       few = omega arith;
       ends =
-          subst EndsOnce (sym (slots_in-planned (slots_of m a) a.holds))
+          subst EndsOnce (sym (kept (slots_of m a) a.holds))
           (marks_end_once (marks_of (pieces_of m a)) (no_end-pieces (pieces_of m a)));
-      holds =
-          All-from_recursion (λ (s : Slot × ℕ). s.1 ≤ 6999) (plan_of m a) (planned_holds 6999
-          (slots_of m a) a.holds (recursion_from_All (λ h. h ≤ 6999) a.holds can.holds));
+      holds = short 6999 (slots_of m a) a.holds can.holds;
     }
 
 -- how many marks go out
@@ -158,8 +162,8 @@ cut_by : (m : Asked) (a : Answered) (f : Shown) (slot : ℕ) (refuse : Option �
 cut_by m a f slot None lt k e = cut_off m a f slot k e
 cut_by m a f slot (Some n) lt k e = refused_by m a f n lt k (Some slot) e
 
-pub slots_are_one_frame : CutIsSeen → SlotsAreOneFrame
-slots_are_one_frame cut_is_seen m a can =
+pub slots_are_one_frame : CutIsSeen → SlotsAreKept → HoldsAreKept → SlotsAreOneFrame
+slots_are_one_frame cut_is_seen kept short m a can =
     let s = sees m a in
     let f : Shown = s.frame in
     let marked : Marked m a f a.refuse = (cuts m a, s.shown) in
@@ -169,7 +173,7 @@ slots_are_one_frame cut_is_seen m a can =
     subst (λ (r : Option ℕ). IsNumbered r (sent_count (whole m a.value a.bytes))) some numbered in
     let seen = λ (alert : Bool). (cut_is_seen alert alert (plan_of m a)).1 in
     record {
-      plan = is_plan m a can;
+      plan = is_plan kept short m a can;
       frame = f;
       is_only = s.is_only;
       done = λ none e. done m a f (along None none) e;

@@ -2,7 +2,7 @@ ghost use Rattle.smbus.specs.JoinedPieces.{PiecesAreUnique, PiecesJoin, SomeAreT
 ghost use Rattle.smbus.specs.MessageFrame.{MessagesHaveOneFrame, SomeAreAsked};
 ghost use Rattle.smbus.specs.OneFrame.{FramesAreUnique, SlotsAreOneFrame};
 
-use bit_bus::reads_back;
+use bit_bus::{plans_keep_slots, reads_back};
 
 /// The slots of a message under an answer that `frame_slots` takes can be driven, and their events
 /// are those of one frame and of no other frames: a whole frame of the message where nothing was
@@ -12,6 +12,7 @@ pub fn slots_are_one_frame()
     ensures unique { FramesAreUnique }
 {
     reads_back();
+    plans_keep_slots();
 }
 
 /// Where the message and the answer are bytes on the wire, that frame shows the message: the bytes
@@ -22,6 +23,7 @@ pub fn messages_have_one_frame()
     // There are such messages and answers.
     ensures case { SomeAreAsked }
 {
+    plans_keep_slots();
     slots_are_one_frame();
 }
 

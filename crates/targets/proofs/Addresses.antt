@@ -7,6 +7,7 @@ use Rattle.std.proofs.lemmas.Bool.{cases_lt, eqb-true, eq-eqb}
 use Rattle.std.proofs.lemmas.Iterator.Adapters.{position_from-zero}
 use Rattle.board.specs.Boards.{Target, Board, place_of_address}
 use Rattle.board.specs.Valid.{IsBoard}
+use Rattle.targets.specs.PlaceLaws.{TargetsAreFound}
 use Rattle.targets.specs.States.{IsTargetAt}
 
 abbrev has_address : ℕ → Target → Bool
@@ -115,3 +116,12 @@ only_one b is i j t u ti uj same =
         | inr ge ↦ omega arith
       ]
     ]
+
+pub targets_are_found : TargetsAreFound
+targets_are_found b i t is at = by (place_of_address t.address b.targets) refl
+  where
+    by : (place : Option ℕ) → place_of_address t.address b.targets ≡ place → place ≡ Some i
+    by None e = absurd (place_not_found t.address b.targets e i t at refl)
+    by (Some j) e =
+        let f = place_found t.address j b.targets e in
+        ap (λ (n : ℕ). Some n) (only_one b is j i f.0 t f.1 at f.2)

@@ -13,3 +13,4 @@ pub mod Answering
 pub mod SomeAnswerLaw
 pub mod StateLawProofs
 pub mod OneBoard
+pub mod WireAnswers

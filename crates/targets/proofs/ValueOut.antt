@@ -6,7 +6,7 @@ use Rattle.std.proofs.Common.{◌∷◌, ◌++◌, length, take, refl, sym, ap, 
 use Rattle.std.proofs.lemmas.Bool.Decides.{nat_tests}
 use Rattle.std.proofs.lemmas.Bool.{cases_Bool, lt-ltb, ltb-true}
 use Rattle.std.proofs.Math.Seq.{take-append-add, take-append_seam}
-use Rattle.std.proofs.lemmas.List.{length-map, length-take, map-append}
+use Rattle.std.proofs.lemmas.List.{length-take, map-append}
 use Rattle.wires.specs.Bits.{bits_of}
 use Rattle.bit_bus.specs.declared.plan.Slot.{Slot}
 use Rattle.bit_bus.specs.declared.plan.Slot.TheVariants.{Bit, End}
@@ -17,7 +17,6 @@ use Rattle.smbus.specs.Frames.{byte_bits}
 use Rattle.smbus.specs.Protocol.{Piece, whole_of, up_to_refused, bit_marks, byte_marks, marks_of}
 use Rattle.smbus.specs.Protocol.Piece.{Sent}
 use Rattle.smbus.specs.Slots.{slots_of}
-use Rattle.smbus.proofs.Bytes.{length-byte_bits}
 use Rattle.targets.specs.Outcomes.{cut_of}
 use Rattle.targets.specs.Effects.{slots_out, marks_to_value, ValueWentOut}
 use Rattle.targets.specs.WriteSlots.{reaches_value, cuts_after_value}
@@ -40,8 +39,8 @@ frame_of m a value form content =
     (whole_of WriteByte m.address m.code o a.value a.bytes)) ++ End ∷ []) content
 
 length_byte : (b : ℕ) (acknowledged : Bool) → length (byte_marks b acknowledged) ≡ 9
-length_byte b acknowledged =
-    length-map (byte_bits (b, acknowledged)) Bit ∙ length-byte_bits (b, acknowledged)
+unfolding byte_bits
+length_byte b acknowledged = refl
 
 -- a byte's marks are its bits and the acknowledge
 byte_split : (b : ℕ) (acknowledged : Bool)

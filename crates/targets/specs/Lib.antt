@@ -9,3 +9,6 @@ pub mod Fitting
 pub mod SomeAnswer
 pub mod StateLaws
 pub mod AlertLaws
+pub mod RangeLaws
+pub mod WireLaws
+pub mod PlaceLaws

@@ -1,6 +1,9 @@
 ghost use Rattle.targets.specs.SomeAnswer.{MessagesHaveAnswers, SilenceHasAnswers, SomeCase};
 ghost use Rattle.targets.specs.StateLaws.{StartsBelong, StepsBelong};
 ghost use Rattle.targets.specs.AlertLaws.{SomeTargetWins, OneTargetWins, LowestAddressWins};
+ghost use Rattle.targets.specs.PlaceLaws.{TargetsAreFound};
+ghost use Rattle.targets.specs.RangeLaws.{ValuesAreOfForm, LengthsAreOfBlocks};
+ghost use Rattle.targets.specs.WireLaws.{FittingBytesAreOnWire};
 
 use wires::least_byte_wins;
 
@@ -26,6 +29,26 @@ pub fn lowest_address_wins()
     ensures some { SomeTargetWins }
     ensures one { OneTargetWins }
     ensures lowest { LowestAddressWins }
+{
+    least_byte_wins();
+}
+
+/// A target is found by its address, which no other target of the board has.
+pub fn targets_are_found()
+    ensures { TargetsAreFound }
+{}
+
+/// To each message the board lets some value and some length be returned, and only such as the
+/// message's form and a block have.
+pub fn ranges_are_of_forms()
+    ensures values { ValuesAreOfForm }
+    ensures lengths { LengthsAreOfBlocks }
+{}
+
+/// Where an answer fits a message in a state of the board, its value is a word, and its block has
+/// bytes.
+pub fn fitting_bytes_are_on_wire()
+    ensures { FittingBytesAreOnWire }
 {
     least_byte_wins();
 }

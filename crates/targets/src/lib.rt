@@ -11,7 +11,10 @@ mod state;
 mod step;
 
 pub use fitting::fits;
-pub use law::{lowest_address_wins, some_answer_fits, states_belong};
+pub use law::{
+    fitting_bytes_are_on_wire, lowest_address_wins, ranges_are_of_forms, some_answer_fits,
+    states_belong, targets_are_found,
+};
 pub use outcome::{Outcome, cut_of};
 pub use start::starts;
 pub use state::BusState;

@@ -5,3 +5,4 @@ pub mod Names
 pub mod Reading
 pub mod Sending
 pub mod Words
+pub mod ReadBack

@@ -1,5 +1,5 @@
 use crate::expected::{holds, same};
-use bit_bus::{Driven, Plan, Slot, drive};
+use bit_bus::{Driven, Plan, Slot, drive, plans_keep_slots};
 use std::alloc::{AllocError, Global};
 use std::process::Abort;
 use std::test::*;
@@ -37,6 +37,7 @@ fn each_is_plan(rt: &impl Abort, alloc: Global, rows: &[(usize, &[u16], bool)]) 
 
 #[test]
 fn limits_of_a_plan(rt: HostRuntime) {
+    plans_keep_slots();
     each_is_plan(&rt, rt.alloc(), &LIMITS);
 }
 

@@ -7,6 +7,7 @@ pub returns-clause-one : goal.returns-clause-one
 returns-clause-one c =
     reads_one c.messages_have_one_frame.ensures.one c.reads_back.ensures.word
     c.reads_back.ensures.free c.reads_back.ensures.cut c.reads_back.ensures.few
+    c.plans_keep_slots.ensures.holds
 
 pub returns-clause-does : goal.returns-clause-does
 returns-clause-does c = do_as_asked (returns-clause-one c)

@@ -3,6 +3,7 @@ use Rattle.simulator.proofs.EnablingProgram.{enabling_at_once_is_unsafe}
 use Rattle.simulator.proofs.UnsafePrograms.{protected_write_is_unsafe, voltage_over_limit_is_unsafe}
 use Rattle.simulator.proofs.UnlistedForm.{unlisted_form_is_unsafe}
 use Rattle.simulator.proofs.WithdrawnNeed.{withdrawn_need_is_unsafe}
+use Rattle.targets.specs.PlaceLaws.{TargetsAreFound}
 use Rattle.simulator.specs.EntryLaws.{IdleReadsBack}
 use Rattle.simulator.specs.SafeLaws.{AllowedFramesAreSeen, SafeStepsAreSafeRuns}
 use Rattle.simulator.specs.StepLaws.{StepsAreSeen, StartsAreReady}
@@ -36,41 +37,48 @@ returns-clause-limits c =
 pub returns-clause-lists : goal.returns-clause-lists
 returns-clause-lists c =
     unlisted_form_is_unsafe c.steps_are_seen.ensures.steps c.steps_are_seen.ensures.starts
-    c.messages_have_one_frame.ensures.one
+    c.messages_have_one_frame.ensures.one c.targets_are_found.ensures
 
 pub returns-clause-withdraws : goal.returns-clause-withdraws
 returns-clause-withdraws c =
     withdrawn_need_is_unsafe c.steps_are_seen.ensures.steps c.steps_are_seen.ensures.starts
+    c.ranges_are_of_forms.ensures.values
 
 -- the laws on steps and runs
 known : StepsAreSeen → StartsAreReady → IdleReadsBack → AllowedFramesAreSeen → SafeStepsAreSafeRuns
-    → KnownOfSteps
-known steps ready idle frames runs =
-    record { steps = steps; ready = ready; idle = idle; frames = frames; runs = runs }
+    → TargetsAreFound → KnownOfSteps
+known steps ready idle frames runs found = record {
+  steps = steps;
+  ready = ready;
+  idle = idle;
+  frames = frames;
+  runs = runs;
+  found = found;
+}
 
 pub returns-clause-sends : goal.returns-clause-sends
 returns-clause-sends c =
     listed_send_is_safe (known c.steps_are_seen.ensures.steps c.steps_are_seen.ensures.starts
     c.entries_read_back.ensures.none c.safe_steps_are_safe_runs.ensures.frames
-    c.safe_steps_are_safe_runs.ensures.runs)
+    c.safe_steps_are_safe_runs.ensures.runs c.targets_are_found.ensures)
 
 pub returns-clause-clears : goal.returns-clause-clears
 returns-clause-clears c =
     clearing_is_safe (known c.steps_are_seen.ensures.steps c.steps_are_seen.ensures.starts
     c.entries_read_back.ensures.none c.safe_steps_are_safe_runs.ensures.frames
-    c.safe_steps_are_safe_runs.ensures.runs)
+    c.safe_steps_are_safe_runs.ensures.runs c.targets_are_found.ensures)
 
 pub returns-clause-commands : goal.returns-clause-commands
 returns-clause-commands c =
     voltage_within_limit_is_safe (known c.steps_are_seen.ensures.steps
     c.steps_are_seen.ensures.starts c.entries_read_back.ensures.none
-    c.safe_steps_are_safe_runs.ensures.frames c.safe_steps_are_safe_runs.ensures.runs)
+    c.safe_steps_are_safe_runs.ensures.frames c.safe_steps_are_safe_runs.ensures.runs c.targets_are_found.ensures)
 
 pub returns-clause-turns_on : goal.returns-clause-turns_on
 returns-clause-turns_on c =
     enabling_without_needs_is_safe (known c.steps_are_seen.ensures.steps
     c.steps_are_seen.ensures.starts c.entries_read_back.ensures.none
-    c.safe_steps_are_safe_runs.ensures.frames c.safe_steps_are_safe_runs.ensures.runs)
+    c.safe_steps_are_safe_runs.ensures.frames c.safe_steps_are_safe_runs.ensures.runs c.targets_are_found.ensures)
 
 pub returns-clause-some_send : goal.returns-clause-some_send
 returns-clause-some_send c = some_send_is_listed

@@ -4,7 +4,8 @@ use Rattle.simulator.proofs.law.steps_are_seen.Goals as goal
 
 pub returns-clause-steps : goal.returns-clause-steps
 returns-clause-steps c =
-    steps_are_seen c.least_byte_wins.ensures c.entries_read_back.ensures.one
+    steps_are_seen c.fitting_bytes_are_on_wire.ensures c.ranges_are_of_forms.ensures.lengths
+    c.entries_read_back.ensures.one
     c.entries_read_back.ensures.does
     c.entries_read_back.ensures.none c.states_belong.ensures.steps
 

@@ -23,13 +23,10 @@ use Rattle.targets.specs.States.{BusState, Belongs}
 use Rattle.targets.specs.Alerting.{alert_bytes}
 use Rattle.targets.specs.Fitting.{IsIn, values_for, place_of, IsStoredBy, FitsRead, FitsBlock}
 use Rattle.targets.specs.Fitting.{FitsAlert, ReadsNothing, FitsForm}
+use Rattle.targets.specs.WireLaws.{IsOnWire, FittingBytesAreOnWire}
 use Rattle.targets.proofs.Answering.{values_within}
 use Rattle.targets.proofs.AlertBytes.{wire_small}
-use Rattle.simulator.proofs.NextPlaces.{at_place}
-
-pub record IsOnWire (a : Answered) : Type 0 where
-  pub value : a.value < 65536
-  pub read : All (λ byte. byte < 256) a.bytes
+use Rattle.targets.proofs.SomeAnswerLaw.{inside}
 
 no_bytes : (bytes : List ℕ) → bytes ≡ [] → All (λ byte. byte < 256) bytes
 no_bytes bytes e = rw e (All-from_recursion (λ byte. byte < 256) [] tt)
@@ -108,7 +105,7 @@ indexed [] i x e = cc
 indexed (y ∷ xs) zero x e = cc
 indexed (y ∷ xs) (suc i) x e = indexed xs i x e
 
-pub target_there : (ts : List Target) (i : ℕ) → i < length ts
+target_there : (ts : List Target) (i : ℕ) → i < length ts
     → (t : Target) × (slice_get ts i ≡ Some t)
 target_there [] i lt = absurd (omega (arith, lt))
 target_there (t ∷ ts) zero lt = (t, refl)
@@ -132,7 +129,8 @@ page_stored b s m value is belongs stored =
     let t = target_there b.targets at.0 within in
     let may = (belongs.targets at.0 t.0 t.1).page_valid in
     let same : slice_index s.page at.0 ≡ value = indexed s.page at.0 value at.1 in
-    page_small t.0.pages value (at_place IsTarget b.targets at.0 t.0 is.targets t.1).few_pages
+    page_small t.0.pages value ((inside b.targets at.0 t.0 t.1).1
+    (recursion_from_All IsTarget b.targets is.targets)).few_pages
     (rw same at may)
 
 protect_stored : (b : Board) (s : BusState) (m : Asked) (value : ℕ) → Belongs b s
@@ -210,7 +208,5 @@ by_form wins b s m a form.BlockProcessCall e is belongs fits =
 by_form wins b s m a form.Alert e is belongs fits =
     number a (alert_small wins b s a (alert_bytes b s) refl is fits.0) fits.1
 
-pub fitting_bytes : LeastByteWins → (b : Board) (s : BusState) (m : Asked) (a : Answered)
-    → IsBoard b → Belongs b s
-    → FitsForm m.form b s m a → IsOnWire a
+pub fitting_bytes : LeastByteWins → FittingBytesAreOnWire
 fitting_bytes wins b s m a is belongs fits = by_form wins b s m a m.form refl is belongs fits
