@@ -17,3 +17,4 @@ pub mod PrintedLines
 pub mod PrintedPlain
 pub mod PrintedMessages
 pub mod PrintedCase
+pub mod LinesRead

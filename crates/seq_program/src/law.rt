@@ -1,8 +1,8 @@
+ghost use Rattle.seq_program.specs.LineOrder.{FirstFaultIsTold, LinesInOrder, SomeLineFails};
 ghost use Rattle.seq_program.specs.PrintedLaw.{PrintedProgramsReadBack, BoardsHavePrograms};
 ghost use Rattle.seq_program.specs.Valid.{IsProgram};
 
 use crate::program::Program;
-
 use pmbus_table::names_read_back;
 use texts::numbers_read_back;
 
@@ -23,3 +23,12 @@ pub fn program_is_valid(program: &Program)
     // It is what a reader says of the program that it reads.
     let _places = program.places();
 }
+
+/// The lines of a program are read one after another, and the first fault of a line is told exactly
+/// where the lines before it have none.
+pub fn lines_are_read_in_order()
+    ensures lines { LinesInOrder }
+    ensures fault { FirstFaultIsTold }
+    // There are lines with a fault after lines without.
+    ensures case { SomeLineFails }
+{}
