@@ -25,9 +25,11 @@ fn takes(operand: Operand, command: Command) -> bool {
 /// The names of the table's commands that the operand takes.
 fn command_names(alloc: Global, operand: Operand) -> Result<Vec<String>, AllocError> {
     let mut names = Vec::new(alloc);
-    for code in 0..FIRST_MANUFACTURER {
+    for code in 0..=u8::MAX {
         match by_code(code) {
-            Some(command) if takes(operand, command) => names.push(name_of(alloc, command)?)?,
+            Some(command) if !command.is_manufacturer() && takes(operand, command) => {
+                names.push(name_of(alloc, command)?)?;
+            }
             _ => {}
         }
     }
