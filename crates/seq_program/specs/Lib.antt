@@ -15,3 +15,4 @@ pub mod Messages
 pub mod PrintedWords
 pub mod Printed
 pub mod PrintedLaw
+pub mod JoinedWords

@@ -1,3 +1,4 @@
+ghost use Rattle.seq_program.specs.JoinedWords.{LinesReadBack};
 ghost use Rattle.seq_program.specs.PrintedLaw.{PrintedProgramsReadBack, BoardsHavePrograms};
 
 use pmbus_table::names_read_back;
@@ -12,3 +13,9 @@ pub fn printed_programs_read_back()
     numbers_read_back();
     names_read_back();
 }
+
+/// Lines of words, with a space between two words and LF at the end of each line, are cut there
+/// again.
+pub fn lines_read_back()
+    ensures { LinesReadBack }
+{}
