@@ -14,13 +14,7 @@ use Rattle.std.proofs.lemmas.List.Splits.{slice_split_none, slice_split_at, leng
 use Rattle.std.proofs.Math.Seq.{take-length}
 use Rattle.texts.specs.Words.{is_nonempty, words_of, without_empty_end, lines_by_feed}
 use Rattle.seq_program.specs.Labels.{without_comment}
-
--- bytes over `#`, which the spaces, the ends of lines and the comments are not
-abbrev pub is_word_byte : ℕ → Bool
-is_word_byte b = nat_lt 35 b
-
-abbrev pub is_word : List ℕ → Bool
-is_word word = is_nonempty word && list_all is_word_byte word
+use Rattle.seq_program.specs.JoinedWords.{is_word_byte, is_word, ended, LinesReadBack}
 
 abbrev is_line_byte : ℕ → Bool
 is_line_byte b = nat_lt 35 b || (b == 32)
@@ -119,17 +113,12 @@ parts-cons : (line : List ℕ) (parts : List (List ℕ)) → 0 < length parts
 parts-cons line [] some = absurd (omega arith)
 parts-cons line (next ∷ parts) some = refl
 
--- one space between words, and LF at the end
-abbrev ended : List (List ℕ) → List ℕ
-ended words = join_with_byte 32 words ++ 10 ∷ []
-
 shifted : (line rest : List ℕ) → (line ++ 10 ∷ []) ++ rest ≡ line ++ 10 ∷ rest
 shifted [] rest = refl
 shifted (b ∷ line) rest = ap (λ xs. b ∷ xs) (shifted line rest)
 
 -- the lines of a text are those that were ended
-pub lines_back : (words : List (List (List ℕ))) → list_all (list_all is_word) words ≡ true
-    → lines_by_feed (flat_map ended words) ≡ map (join_with_byte 32) words
+pub lines_back : LinesReadBack
 lines_back [] t = refl
 lines_back (line ∷ more) t =
     let own = and_parts (list_all is_word line) (list_all (list_all is_word) more) t in

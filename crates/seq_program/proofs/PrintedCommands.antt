@@ -24,7 +24,7 @@ use Rattle.seq_program.specs.CommandWords as words
 use Rattle.seq_program.specs.CommandWords.{form_at, width_of, named_sized, before}
 use Rattle.seq_program.specs.CommandWords.{manufacturer_word, manufacturer_sized, sized_in}
 use Rattle.seq_program.specs.CommandWords.{first_some}
-use Rattle.seq_program.proofs.JoinedWords.{is_word_byte, is_word}
+use Rattle.seq_program.specs.JoinedWords.{is_word_byte, is_word}
 
 -- names
 name_byte : (b : ℕ) → is_name_byte b ≡ true → is_word_byte b ≡ true

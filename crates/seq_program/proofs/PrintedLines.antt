@@ -21,7 +21,7 @@ use Rattle.seq_program.specs.Passes.{InstrsSoFar, after_instr, after_words}
 use Rattle.seq_program.specs.Valid.{jump_in}
 use Rattle.seq_program.specs.PrintedWords.{place_name}
 use Rattle.seq_program.specs.Printed.{else_words, words_in}
-use Rattle.seq_program.proofs.JoinedWords.{is_word}
+use Rattle.seq_program.specs.JoinedWords.{is_word}
 use Rattle.seq_program.proofs.PrintedNumbers.{place_word, label_back}
 use Rattle.seq_program.proofs.PrintedPlaces.{ReadsBack, IsFound, with_instr}
 

@@ -20,7 +20,7 @@ use Rattle.seq_program.specs.MessageLines.{block_read_of, block_call_of, alert_o
 use Rattle.seq_program.specs.PrintedWords.{target_name, register_name, direction_name, sized_name}
 use Rattle.seq_program.specs.Valid.{IsBlock, read_form}
 use Rattle.seq_program.specs.CommandWords.{form_at}
-use Rattle.seq_program.proofs.JoinedWords.{is_word}
+use Rattle.seq_program.specs.JoinedWords.{is_word}
 use Rattle.seq_program.proofs.KnownOfTexts.{KnownOfTexts}
 use Rattle.seq_program.proofs.PrintedNumbers.{number_back, decimal_word, decimal_no_register}
 use Rattle.seq_program.proofs.PrintedNumbers.{register_back, register_word, direction_back}

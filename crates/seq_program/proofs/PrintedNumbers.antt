@@ -20,7 +20,8 @@ use Rattle.seq_program.specs.Operands.{numbered, register_of, counter_of, label_
 use Rattle.seq_program.specs.Operands.{number_of, number_within, block_of}
 use Rattle.seq_program.specs.PrintedWords.{place_name, register_name, counter_name, direction_name}
 use Rattle.seq_program.specs.Valid.{IsBlock}
-use Rattle.seq_program.proofs.JoinedWords.{is_word_byte, is_word, word-cons}
+use Rattle.seq_program.specs.JoinedWords.{is_word_byte, is_word}
+use Rattle.seq_program.proofs.JoinedWords.{word-cons}
 
 -- printed numbers have digits alone
 abbrev HasDigits : List ℕ → Type 0

@@ -23,7 +23,8 @@ use Rattle.seq_program.specs.Passes.{InstrsSoFar, after_words, after_line, after
 use Rattle.seq_program.specs.Valid.{jump_in}
 use Rattle.seq_program.specs.PrintedWords.{place_name}
 use Rattle.seq_program.specs.Printed.{words_in, place_lines}
-use Rattle.seq_program.proofs.JoinedWords.{is_word, word-append, words_back}
+use Rattle.seq_program.specs.JoinedWords.{is_word}
+use Rattle.seq_program.proofs.JoinedWords.{word-append, words_back}
 use Rattle.seq_program.proofs.PrintedNumbers.{place_word, label_back}
 use Rattle.seq_program.proofs.PrintedCommands.{bytes_eq-apart}
 

@@ -21,7 +21,8 @@ use Rattle.seq_program.specs.CommandWords.{form_at, width_of, before, manufactur
 use Rattle.seq_program.specs.declared.instr.Width.{Width}
 use Rattle.seq_program.specs.declared.instr.Width.TheVariants as width
 use Rattle.seq_program.specs.PrintedWords.{width_letter, sized_name}
-use Rattle.seq_program.proofs.JoinedWords.{is_word_byte, is_word, word-append}
+use Rattle.seq_program.specs.JoinedWords.{is_word_byte, is_word}
+use Rattle.seq_program.proofs.JoinedWords.{word-append}
 use Rattle.seq_program.proofs.KnownOfTexts.{KnownOfTexts}
 use Rattle.seq_program.proofs.PrintedCommands.{Plain, plain, found_here, same_text, is_taken}
 use Rattle.seq_program.proofs.PrintedCommands.{taken_is_command, command_word}

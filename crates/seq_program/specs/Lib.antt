@@ -16,3 +16,4 @@ pub mod PrintedWords
 pub mod Printed
 pub mod PrintedLaw
 pub mod LineOrder
+pub mod JoinedWords

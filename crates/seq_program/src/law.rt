@@ -1,3 +1,4 @@
+ghost use Rattle.seq_program.specs.JoinedWords.{LinesReadBack};
 ghost use Rattle.seq_program.specs.LineOrder.{FirstFaultIsTold, LinesInOrder, SomeLineFails};
 ghost use Rattle.seq_program.specs.PrintedLaw.{PrintedProgramsReadBack, BoardsHavePrograms};
 ghost use Rattle.seq_program.specs.Valid.{IsProgram};
@@ -31,4 +32,10 @@ pub fn lines_are_read_in_order()
     ensures fault { FirstFaultIsTold }
     // There are lines with a fault after lines without.
     ensures case { SomeLineFails }
+{}
+
+/// Lines of words, with a space between two words and LF at the end of each line, are cut there
+/// again.
+pub fn lines_read_back()
+    ensures { LinesReadBack }
 {}

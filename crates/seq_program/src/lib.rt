@@ -19,7 +19,9 @@ pub use command::{command_in, sized_in};
 pub use fault::ProgramFault;
 pub use instr::{Block, Counter, Instr, Register, Width, Written};
 pub use labels::{label_in, without_comment};
-pub use law::{lines_are_read_in_order, printed_programs_read_back, program_is_valid};
+pub use law::{
+    lines_are_read_in_order, lines_read_back, printed_programs_read_back, program_is_valid,
+};
 pub use message::message_of;
 pub use operand::{block_of, counter_of, direction_of, number_within, register_of};
 pub use program::{Program, read_program};

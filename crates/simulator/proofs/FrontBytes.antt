@@ -6,9 +6,7 @@ use Rattle.smbus.specs.declared.message.Form.{Form}
 use Rattle.smbus.specs.declared.message.Form.TheVariants as form
 use Rattle.smbus.specs.Asked.{Asked}
 use Rattle.smbus.specs.Answered.{Answered}
-use Rattle.bit_bus.specs.Levels.{first_cut}
 use Rattle.smbus.specs.Protocol.{sent, whole_of}
-use Rattle.smbus.specs.Slots.{plan_of}
 use Rattle.smbus.specs.FirstSegment.{bytes_in, message_bytes, bytes_out}
 use Rattle.simulator.specs.Does.{IsFrontOfBytes}
 use Rattle.simulator.specs.StepDoes.{writes_data}

@@ -1,6 +1,6 @@
 -- Every run of a program that sends one message and ends is safe, where the board and its starts
 -- say so of the message.
-use Rattle.std.proofs.Common.{◌≡◌, ◌≤◌, ◌<◌, ◌+◌, ◌*◌, ℕ, true, Option, Some, None, IsSome}
+use Rattle.std.proofs.Common.{◌≡◌, ◌≤◌, ◌<◌, ◌+◌, ◌*◌, ℕ, true, Option, Some}
 use Rattle.std.proofs.Common.{List, [], ◌∷◌, length, slice_get, slice_index, IfSome, IsTrue}
 use Rattle.std.proofs.Common.{refl, sym, ap, subst, ◌∙◌, arith, lit<}
 use Rattle.std.proofs.lemmas.List.Elements.{All-nil}
@@ -13,7 +13,7 @@ use Rattle.pmbus_table.specs.Codes.{operation_code}
 use Rattle.pmbus_table.specs.Operation.{enables}
 use Rattle.pmbus_table.specs.Protect.{permits}
 use Rattle.pmbus_table.specs.Voltage.{IsWithin, carries_voltage}
-use Rattle.board.specs.Boards.{Target, Rail, Board, largest_stretch, place_of_address}
+use Rattle.board.specs.Boards.{Target, Rail, Board, largest_stretch}
 use Rattle.board.specs.Valid.{IsBoard}
 use Rattle.targets.specs.States.{BusState, IsStart, IsTargetAt}
 use Rattle.targets.specs.Fitting.{Fits, lengths_for}
@@ -139,7 +139,8 @@ first_of known b x i t m slots s a e next sends starts step =
     }
 
 -- the target of the message's address is the one that it is sent to
-its_target : TargetsAreFound → (b : Board) (i j : ℕ) (t u : Target) (m : Asked) → IsBoard b → IsTargetAt b i t
+its_target : TargetsAreFound → (b : Board) (i j : ℕ) (t u : Target) (m : Asked) → IsBoard b
+    → IsTargetAt b i t
     → IsTargetAt b j u → m.address ≡ t.address → m.address ≡ u.address → (i ≡ j) × (t ≡ u)
 its_target found b i j t u m is at uj to other =
     let same : i ≡ j = only_one found b is i j t u at uj (sym to ∙ other) in
@@ -173,7 +174,8 @@ first_safe known b x i t m slots s a e next sends starts f =
           rw (sym same.1) (rw (sym word) within);
       order = λ j u value d r uj begins on selected.
           let told = (f.does.operations j u value uj).0 begins in
-          let same = its_target known.found b i j t u m sends.is sends.at uj sends.to told.is_write.to in
+          let same =
+          its_target known.found b i j t u m sends.is sends.at uj sends.to told.is_write.to in
           let here : Selects b s i d r = rw same.0 (rw (sym f.does.before) selected) in
           let byte : slice_index m.out 0 ≡ value =
           ap (λ (bytes : List ℕ). slice_index bytes 0) told.is_write.content in
@@ -189,7 +191,8 @@ record Judged (b : Board) (p : List Instr) (bound : ℕ) (entries : List Entry)
   pub ticks : total_ticks entries ≤ bound
   pub sends : last.ended ≡ Running → SendsMessage b p last
 
-first_sends : TargetsAreFound → (b : Board) (x : Instr) (i : ℕ) (t : Target) (m : Asked) (slots : ℕ) (s : BusState)
+first_sends : TargetsAreFound
+    → (b : Board) (x : Instr) (i : ℕ) (t : Target) (m : Asked) (slots : ℕ) (s : BusState)
     → SendsSafely b x i t m slots → SendsMessage b (x ∷ End ∷ []) (start_at s)
 first_sends found b x i t m slots s sends y here =
     let same : x ≡ y = let two : Some x ≡ Some y = here in cc in

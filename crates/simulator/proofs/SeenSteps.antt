@@ -1,6 +1,7 @@
 -- What a step of the model is seen to do.
 use Rattle.std.proofs.Common.{◌≡◌, ◌≤◌, ◌<◌, ◌+◌, ◌%◌, ℕ, zero, suc, Option, Some, None, List, []}
-use Rattle.std.proofs.Common.{◌∷◌, ◌++◌, ◌∙◌, Bool, min, replicate, slice_index, slice_set, refl, sym}
+use Rattle.std.proofs.Common.{◌∷◌, ◌++◌, ◌∙◌, Bool, min, replicate, slice_index, slice_set, refl}
+use Rattle.std.proofs.Common.{sym}
 use Rattle.std.proofs.Common.{ap, arith}
 use Rattle.std.specs.List.{AllByRecursion}
 use Rattle.std.proofs.lemmas.List.Elements.{All-from_recursion, recursion_from_All}

@@ -159,7 +159,8 @@ can_be_sent lengths b s i regs m a is instr e fits =
     }
 
 pub sendable : LengthsAreOfBlocks → (b : Board) (s : BusState) (i : Instr) (regs : List ℕ)
-    (o : Option Asked) (a : Answered) → IsBoard b → IsInstr i → o ≡ message_of b i regs → FitsStep b s o a
+    (o : Option Asked) (a : Answered) → IsBoard b → IsInstr i → o ≡ message_of b i regs
+    → FitsStep b s o a
     → IfSome o (λ m. CanBeSent m a)
 sendable lengths b s i regs None a is instr e fits = tt
 sendable lengths b s i regs (Some m) a is instr e fits =

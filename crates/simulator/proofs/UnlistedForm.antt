@@ -14,7 +14,7 @@ use Rattle.smbus.specs.Slots.{slots_of, plan_of}
 use Rattle.smbus.specs.Whole.{shown_marks, IsWhole, IsBrokenOff}
 use Rattle.smbus.specs.MessageFrame.{send_byte, IsSendByte, AreAsked, MessagesHaveOneFrame}
 use Rattle.board.specs.Boards.{Target, Board, entry_of}
-use Rattle.board.specs.Valid.{IsBoard, IsTarget}
+use Rattle.board.specs.Valid.{IsBoard}
 use Rattle.targets.specs.States.{BusState, IsTargetAt}
 use Rattle.targets.specs.PlaceLaws.{TargetsAreFound}
 use Rattle.simulator.specs.Machines.{start_at}
@@ -85,7 +85,8 @@ no_timeout None e t = cc
 no_timeout (Some slot) e t = cc
 
 -- who allows it is the target, by an entry of the form and the code
-listed_so : TargetsAreFound → (b : Board) (s : BusState) (samples : List Sample) (f : Shown) (i : ℕ) (t : Target)
+listed_so : TargetsAreFound
+    → (b : Board) (s : BusState) (samples : List Sample) (f : Shown) (i : ℕ) (t : Target)
     (code : ℕ) → IsBoard b → IsTargetAt b i t → (al : IsAllowed b s samples f)
     → IsSendByte t.address code al.message → entry_of SendByte code t.allow ≡ None → ⊥
 listed_so found b s samples f i t code is at al sends none = by al.allowed

@@ -1,6 +1,6 @@
 -- What an instruction sends are bytes on the wire.
 use Rattle.std.proofs.Common.{◌≡◌, ◌≢◌, ◌≤◌, ◌<◌, ◌/◌, ◌%◌, ℕ, zero, suc, Option, Some, None, List}
-use Rattle.std.proofs.Common.{[], ◌∷◌, slice_get, slice_index, option_map, IsTrue, All, refl, sym}
+use Rattle.std.proofs.Common.{[], ◌∷◌, slice_get, slice_index, option_map, All, refl, sym}
 use Rattle.std.proofs.Common.{arith}
 use Rattle.std.specs.List.{AllByRecursion}
 use Rattle.std.proofs.lemmas.List.Elements.{All-from_recursion}
@@ -8,9 +8,8 @@ use Rattle.smbus.specs.declared.message.Form.{Form}
 use Rattle.smbus.specs.declared.message.Form.TheVariants as form
 use Rattle.smbus.specs.Asked.{Asked, IsAddressed}
 use Rattle.pmbus_table.specs.Codes.{vout_command_code}
-use Rattle.pmbus_table.specs.Commands.{takes_form}
 use Rattle.board.specs.Boards.{Target, Board}
-use Rattle.board.specs.Valid.{IsTarget, IsBoard}
+use Rattle.board.specs.Valid.{IsBoard}
 use Rattle.seq_program.specs.declared.instr.Instr.{Instr}
 use Rattle.seq_program.specs.declared.instr.Instr.TheVariants as instr
 use Rattle.seq_program.specs.declared.instr.Width.TheVariants as width

@@ -13,7 +13,7 @@ mod words;
 
 pub use decimal::decimal_within;
 pub use hex::{hex_number, pair_of, pairs_of, push_pair, push_word};
-pub use law::numbers_read_back;
+pub use law::{numbers_are_spelled, numbers_read_back};
 pub use lines::{first_by_feed, first_line, line_count};
 pub use name::is_name;
 pub use reading::ReadError;

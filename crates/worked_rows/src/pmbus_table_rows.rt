@@ -1,8 +1,8 @@
 use crate::expected::{same, says};
 use bitflags::Flags;
 use pmbus_table::{
-    Command, StatusWord, by_code, by_name, carries_voltage, code, enables, name_of, permits,
-    reported_good, within,
+    Command, StatusWord, by_code, by_name, carries_voltage, code, enables, name_of,
+    names_read_back, permits, reported_good, within,
 };
 use smbus::Form;
 use std::alloc::{AllocError, Global};
@@ -139,6 +139,7 @@ fn each_is_known(rt: &impl Abort, alloc: Global, rows: &[Known]) -> Result<(), F
 
 #[test]
 fn named_commands(rt: HostRuntime) -> Result<(), Fail> {
+    names_read_back();
     each_is_known(&rt, rt.alloc(), &KNOWN)
 }
 

@@ -1,6 +1,6 @@
 use crate::boards::two_board;
 use board::{Board, BoardFault};
-use seq_program::{Instr, Program, ProgramFault, Width, message_of, read_program};
+use seq_program::{Instr, Program, ProgramFault, Width, lines_read_back, message_of, read_program};
 use smbus::Form;
 use std::alloc::Global;
 use std::process::Abort;
@@ -75,6 +75,7 @@ fn compare_program(rt: &impl Abort, alloc: Global, board: &Board) -> Result<(), 
 
 #[test]
 fn messages(rt: HostRuntime) -> Result<(), Fail> {
+    lines_read_back();
     let board = two_board(rt.alloc())?;
     Ok(compare_program(&rt, rt.alloc(), &board)?)
 }

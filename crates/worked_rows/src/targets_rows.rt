@@ -4,7 +4,10 @@ use smbus::{Answer, Form, Message};
 use std::alloc::Global;
 use std::process::Abort;
 use std::test::Fail;
-use targets::{BusState, Outcome, after, after_in, fits, starts};
+use targets::{
+    BusState, Outcome, after, after_in, fits, fitting_bytes_are_on_wire, ranges_are_of_forms,
+    starts, targets_are_found,
+};
 
 pub(crate) fn state_of(
     alloc: Global,
@@ -78,6 +81,9 @@ fn compare_starts(rt: &impl Abort, alloc: Global, board: &Board, rows: &[Start])
 
 #[test]
 fn runs_start_where_the_board_says(rt: HostRuntime) -> Result<(), Fail> {
+    targets_are_found();
+    ranges_are_of_forms();
+    fitting_bytes_are_on_wire();
     let board = range_board(rt.alloc())?;
     compare_starts(&rt, rt.alloc(), &board, &STARTS);
     Ok(())

@@ -5,7 +5,8 @@ use std::io::Write;
 use std::process::Abort;
 use texts::{
     CutShort, ReadError, decimal_within, first_by_feed, first_line, hex_number, is_name,
-    line_count, pair_of, pairs_of, push_pair, push_word, send, words_of,
+    line_count, numbers_are_spelled, numbers_read_back, pair_of, pairs_of, push_pair, push_word,
+    send, words_of,
 };
 
 /// A text, its first line, and what is behind that.
@@ -77,6 +78,8 @@ fn each_is_within(rt: &impl Abort, rows: &[Decimal]) {
 
 #[test]
 fn decimals(rt: HostRuntime) {
+    numbers_read_back();
+    numbers_are_spelled();
     each_is_within(&rt, &DECIMALS);
 }
 
