@@ -64,7 +64,8 @@ reads_one shown reads_back leaves_bus_free cut_is_seen levels_are_few short m a 
       done = one.done;
       cut_in_end = λ r c. (one.cut_in_end r c, one.cut _ c alert);
       few = λ longest h.
-          few levels_are_few short m a alert (most_slots m.form (length m.out) (length a.bytes)) longest
+          few levels_are_few short m a alert
+          (most_slots m.form (length m.out) (length a.bytes)) longest
           shows.slots h;
       some = omega arith;
       entry = record {

@@ -97,7 +97,8 @@ sends_turn b p machine i value next t at running here = record {
 }
 
 sends_ask : ValuesAreOfForm → (b : Board) (p : List Instr) (machine : Machine) (i label : ℕ)
-    (t : Target) → IsBoard b → IsTargetAt b i t → machine.ended ≡ Running → slice_get p machine.place ≡ Some (asking i label)
+    (t : Target) → IsBoard b → IsTargetAt b i t → machine.ended ≡ Running
+    → slice_get p machine.place ≡ Some (asking i label)
     → Sends b p machine (asking i label) (read_word t.address status_word_code)
     (values_for b (read_word t.address status_word_code)).low
 sends_ask values b p machine i label t is at running here =

@@ -72,13 +72,15 @@ pub returns-clause-commands : goal.returns-clause-commands
 returns-clause-commands c =
     voltage_within_limit_is_safe (known c.steps_are_seen.ensures.steps
     c.steps_are_seen.ensures.starts c.entries_read_back.ensures.none
-    c.safe_steps_are_safe_runs.ensures.frames c.safe_steps_are_safe_runs.ensures.runs c.targets_are_found.ensures)
+    c.safe_steps_are_safe_runs.ensures.frames c.safe_steps_are_safe_runs.ensures.runs
+    c.targets_are_found.ensures)
 
 pub returns-clause-turns_on : goal.returns-clause-turns_on
 returns-clause-turns_on c =
     enabling_without_needs_is_safe (known c.steps_are_seen.ensures.steps
     c.steps_are_seen.ensures.starts c.entries_read_back.ensures.none
-    c.safe_steps_are_safe_runs.ensures.frames c.safe_steps_are_safe_runs.ensures.runs c.targets_are_found.ensures)
+    c.safe_steps_are_safe_runs.ensures.frames c.safe_steps_are_safe_runs.ensures.runs
+    c.targets_are_found.ensures)
 
 pub returns-clause-some_send : goal.returns-clause-some_send
 returns-clause-some_send c = some_send_is_listed

@@ -11,7 +11,8 @@ use Rattle.simulator.proofs.stepping.step_by.Goals as goal
 pub step_samples-requires-clause-sendable : goal.step_samples-requires-clause-sendable
 step_samples-requires-clause-sendable c =
     sendable c.ranges_are_of_forms.ensures.lengths c.args.board.now c.args.last.0.bus
-    c.args.instr.now c.args.last.0.regs _ c.args.answer.now c.board_is_valid.ensures c.requires.instr c.requires.asked
+    c.args.instr.now c.args.last.0.regs _ c.args.answer.now c.board_is_valid.ensures
+    c.requires.instr c.requires.asked
     c.requires.fits
 
 pub returns-clause-step : goal.returns-clause-step
@@ -47,7 +48,8 @@ returns-clause-seen c =
     c.args.answer.now c.in_ok-bus.ensures.outcome) c.total.ensures.total in
     let can =
     sendable c.ranges_are_of_forms.ensures.lengths c.args.board.now c.args.last.0.bus
-    c.args.instr.now c.args.last.0.regs (option_map (λ m. m.now) c.args.message) c.args.answer.now c.board_is_valid.ensures
+    c.args.instr.now c.args.last.0.regs
+    (option_map (λ m. m.now) c.args.message) c.args.answer.now c.board_is_valid.ensures
     c.requires.instr c.requires.asked c.requires.fits in
     subst IsSeen (sym entry)
     (seen_entry c.args.instr.now (option_map (λ m. m.now) c.args.message) c.args.answer.now

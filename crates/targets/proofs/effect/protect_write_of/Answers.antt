@@ -3,8 +3,6 @@ use Rattle.pmbus_table.specs.Codes.{write_protect_code}
 use Rattle.pmbus_table.specs.Protect.{is_protection}
 use Rattle.targets.proofs.Written.{Test, IsOnly, writes, is_same}
 use Rattle.targets.proofs.effect.protect_write_of.Goals as goal
-use Rattle.targets.proofs.effect.protect_write_of.Goals.{else-is_valid-via-then-is_valid+else-is_taken}
-use Rattle.targets.proofs.effect.protect_write_of.Goals.{else-is_valid-via-else-is_valid}
 
 abbrev is_value : Test
 is_value = λ t v. is_protection v
@@ -41,12 +39,12 @@ returns-else-is_valid-clause-only c is i v w =
     let e = is_same write_protect_code is_value c.args.board.now c.args.state.now c.args.message.now
     c.args.answer.now c.in_ok-index.index t c.in_ok-index.value o i v w in
     elim c.else-is_valid.branch [
-      | else-is_valid-via-then-is_valid+else-is_taken x ↦
+      | goal.else-is_valid-via-then-is_valid+else-is_taken x ↦
           let bad : true ≡ false =
           sym ((x.is_taken.ensures t.address c.in_ok-index.value c.in_ok-index.ensures.some.1).1
           e.taken) ∙ x.if-is_taken.false in
           cc
-      | else-is_valid-via-else-is_valid x ↦
+      | goal.else-is_valid-via-else-is_valid x ↦
           let same : is_value t c.in_ok-index.value ≡ c.is_protection-is_valid.result =
           sym c.is_protection-is_valid.ensures in
           let bad : true ≡ false = sym e.valid ∙ (same ∙ x.if-is_valid.false) in

@@ -4,8 +4,6 @@ use Rattle.smbus.specs.Observers.{Observing, most_events}
 use Rattle.smbus.specs.declared.control.Control.TheVariants.{Free}
 use Rattle.smbus.proofs.PiecesRead.{control_on, cut_controls, refused, stopped, took_all}
 use Rattle.smbus.proofs.PiecesRead.{took_up_to}
-use Rattle.smbus.proofs.observer.Observer.feed.Goals.{in-Some-behind_last_stop+in_ok-frames-in-Some-behind_last_stop}
-use Rattle.smbus.proofs.observer.Observer.feed.Goals.{in-None+in_ok-extend_from_slice-in-None}
 use Rattle.smbus.proofs.observer.Observer.feed.Goals as goal
 
 pub returns-in-Err-clause-fault : goal.returns-in-Err-clause-fault
@@ -35,13 +33,13 @@ invariant_of-self-2 c =
     let few : o.fed + length piece ≤ most_events =
     subst (λ (v : Observing). v.fed + length piece ≤ most_events) (sym c.self.view_is) c.requires in
     elim c.match-behind_last_stop.branch [
-      | in-Some-behind_last_stop+in_ok-frames-in-Some-behind_last_stop w ↦
+      | goal.in-Some-behind_last_stop+in_ok-frames-in-Some-behind_last_stop w ↦
           let f = w.in_ok-frames-in-Some-behind_last_stop in
           rw (w.self-inside-is, c.in_default.is, f.ensures.rest)
           (took_up_to o s.control c.in-Ok.control piece w.in-Some-behind_last_stop.behind
           f.frames.items c.self.invariant c.in_default.is few c.in-Ok.ensures.after
           w.in-Some-behind_last_stop.ensures (rw (← w.deref.ensures.value) f.ensures.frames)).kept
-      | in-None+in_ok-extend_from_slice-in-None w ↦
+      | goal.in-None+in_ok-extend_from_slice-in-None w ↦
           rw (w.self-inside-is, c.in_default.is, w.in_ok-extend_from_slice-in-None.ensures.items)
           (took_all o s.control c.in-Ok.control piece c.self.invariant c.in_default.is few
           c.in-Ok.ensures.after w.in-None.ensures).kept
@@ -55,13 +53,13 @@ returns-clause-taken c =
     let few : o.fed + length piece ≤ most_events =
     subst (λ (v : Observing). v.fed + length piece ≤ most_events) (sym c.self.view_is) c.requires in
     elim c.match-behind_last_stop.branch [
-      | in-Some-behind_last_stop+in_ok-frames-in-Some-behind_last_stop w ↦
+      | goal.in-Some-behind_last_stop+in_ok-frames-in-Some-behind_last_stop w ↦
           let f = w.in_ok-frames-in-Some-behind_last_stop in
           rw (w.self-inside-is, w.frames-is, c.in_default.is, f.ensures.rest, ← c.self.view_is)
           (took_up_to o s.control c.in-Ok.control piece w.in-Some-behind_last_stop.behind
           f.frames.items c.self.invariant c.in_default.is few c.in-Ok.ensures.after
           w.in-Some-behind_last_stop.ensures (rw (← w.deref.ensures.value) f.ensures.frames)).taken
-      | in-None+in_ok-extend_from_slice-in-None w ↦
+      | goal.in-None+in_ok-extend_from_slice-in-None w ↦
           rw (
             w.self-inside-is,
             w.frames-is,
