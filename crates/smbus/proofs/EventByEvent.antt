@@ -489,11 +489,14 @@ begins_open frames false segments bytes bits h = (
 begins_open frames true segments bytes bits h =
     let l = last_events frames segments bytes bits h.few in
     let k =
-    run_keeps (Rise false ∷ Stop ∷ []) (state frames true segments bytes bits) (closed l.0) h l.1 in
-    (l.0, Rise false ∷ Stop ∷ [], record {
-      each = k.0.each;
-      words = sym k.1 ∙ append-nil (flat_map frame_word l.0);
-    })
+    run_keeps (Rise false ∷ Stop ∷ []) (state frames true segments bytes bits) (closed l.0) h l.1 in (
+      l.0,
+      Rise false ∷ Stop ∷ [],
+      record {
+        each = k.0.each;
+        words = sym k.1 ∙ append-nil (flat_map frame_word l.0);
+      },
+    )
 
 pub sound_start : Sound start
 sound_start = record {
