@@ -488,8 +488,8 @@ begins_open frames false segments bytes bits h = (
 )
 begins_open frames true segments bytes bits h =
     let l = last_events frames segments bytes bits h.few in
-    let k =
-    run_keeps (Rise false ∷ Stop ∷ []) (state frames true segments bytes bits) (closed l.0) h l.1 in (
+    let s = state frames true segments bytes bits in
+    let k = run_keeps (Rise false ∷ Stop ∷ []) s (closed l.0) h l.1 in (
       l.0,
       Rise false ∷ Stop ∷ [],
       record {
