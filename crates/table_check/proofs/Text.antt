@@ -4,6 +4,8 @@ pub mod WritableRows
 pub mod Values
 pub mod Options
 pub mod SetWords
+pub mod Names
+pub mod Known
 pub mod Spelled
 pub mod SpelledRows
 pub mod PartLines

@@ -14,7 +14,9 @@ ghost use Rattle.table_check.specs.TextLaws.{TextsHaveOneTable, TablesHaveTexts,
 ghost use Rattle.table_check.specs.declared.verdict.Verdict.TheVariants.{Refused};
 
 use facts::{covered_rows_follow, steps_are_sound};
+use seq_program::lines_read_back;
 use simulator::{safe_steps_are_safe_runs, steps_are_seen};
+use texts::{numbers_are_spelled, numbers_read_back};
 
 /// Every run of a program with a table that keeps the rule book is safe and ends within the ticks
 /// that are left at the start, whatever the targets answer.
@@ -54,7 +56,11 @@ pub fn tables_have_texts()
     ensures text { TablesHaveTexts }
     // There are such tables, with a row.
     ensures case { BoardsHaveTables }
-{}
+{
+    numbers_read_back();
+    numbers_are_spelled();
+    lines_read_back();
+}
 
 /// Worked tables of facts. A voltage within a rail's limit has a table that keeps the rule book,
 /// with no tick to spare; the voltage one bit over the limit has none. Two rails that are turned on

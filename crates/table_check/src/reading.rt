@@ -14,7 +14,7 @@ use crate::shape::is_board;
 use crate::table::Table;
 use board::Board;
 use std::alloc::{AllocError, Global};
-use texts::first_by_feed;
+use texts::{first_by_feed, numbers_are_spelled, numbers_read_back};
 
 /// Takes the words of a line, between single spaces, in place of those before.
 fn take_words<'a>(words: &mut Vec<&'a str>, line: &'a str) -> Result<(), AllocError>
@@ -66,5 +66,7 @@ pub fn read_table(alloc: Global, board: &Board, text: &str) -> Result<Table, Tab
     ensures bad { IfErr result (λ e. CarriesFirst board.now (lines_by_feed text.now) e) }
 {
     is_board(board);
+    numbers_read_back();
+    numbers_are_spelled();
     table_in(alloc, board, text)
 }

@@ -23,6 +23,7 @@ use crate::written::{
 };
 use board::Board;
 use facts::{GoodSet, PageSet, ProtectSet, Row, Source, Span};
+use seq_program::lines_read_back;
 use std::alloc::{AllocError, Global};
 
 fn push_page_line(
@@ -286,5 +287,6 @@ pub fn write_table(alloc: Global, board: &Board, table: &Table) -> Result<String
 {
     is_board(board);
     is_typed(table);
+    lines_read_back();
     written(alloc, board, table)
 }

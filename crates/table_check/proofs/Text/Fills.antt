@@ -19,6 +19,7 @@ use Rattle.table_check.specs.Writable.{IsWordSpan}
 use Rattle.table_check.specs.Passes.{Part, RowsSoFar, is_full, row_from, finished, with_line}
 use Rattle.table_check.specs.Passes.{with_page}
 use Rattle.table_check.specs.Passes.{with_protect, with_good, with_register, with_counter}
+use Rattle.table_check.proofs.Text.Known.{KnownOfNumbers}
 use Rattle.table_check.proofs.Text.Spelled.{IsByteSet, AreRails, page_back, protect_back, good_back}
 use Rattle.table_check.proofs.Text.SpelledRows.{IsKnown, AreTicks, register_back, counter_back}
 use Rattle.table_check.proofs.Text.SpelledRows.{ticks_back}
@@ -95,52 +96,57 @@ pub record HasAll (b : Board) (q : Part) (set : Set) : Type 0 where
   pub protects : length b.targets ≤ length q.protects
   pub good : q.good ≡ Some set
 
-one_counter : (b : Board) (q : Part) (set : Set) → HasAll b q set → length q.regs ≡ 8
+one_counter : KnownOfNumbers → (b : Board) (q : Part) (set : Set) → HasAll b q set
+    → length q.regs ≡ 8
     → One b (λ done. record q { counters = done }) counter_words IsWordSpan 4
 unfolding with_line with_counter
-one_counter b q set h n done x less good = (
+one_counter laws b q set h n done x less good = (
   few_counters (length q.regs) (length done) less,
   rw (
     not_below _ _ h.pages,
     not_below _ _ h.protects,
     h.good,
     not_below (length q.regs) 8 (omega (arith, n)),
-  ) (rw (counter_back (length done) x less good)
+  ) (rw (counter_back laws (length done) x less good)
       refl),
 )
 
-last : (b : Board) (rows : Table) (q : Part) (set : Set) (ticks : ℕ × List ℕ) → q.good ≡ Some set
+last : KnownOfNumbers → (b : Board) (rows : Table) (q : Part) (set : Set) (ticks : ℕ × List ℕ)
+    → q.good ≡ Some set
     → is_full q ≡ true → AreTicks ticks → (more : List Words)
     → run b (at rows q) (ticks_words ticks.0 ticks.1 ∷ more)
     ≡ run b (past rows (row_from q set ticks)) more
 unfolding finished
-last b rows q set ticks e full t more = rw full (rw e (rw (ticks_back ticks t) refl))
+last laws b rows q set ticks e full t more = rw full (rw e (rw (ticks_back laws ticks t) refl))
 
-from_counters : (b : Board) (rows : Table) (rest : Rest b) (q : Part) → HasAll b q rest.set
+from_counters : KnownOfNumbers → (b : Board) (rows : Table) (rest : Rest b) (q : Part)
+    → HasAll b q rest.set
     → length q.regs ≡ 8 → length q.counters + length rest.counters ≡ 4 → (more : List Words)
     → run b (at rows q) (each_at counter_words (length q.counters) rest.counters
     ++ (ticks_words rest.ticks.0 rest.ticks.1 ∷ more))
     ≡ run b (past rows (row_from (record q { counters = q.counters ++ rest.counters }) rest.set
     rest.ticks)) more
-from_counters b rows rest q h n count more =
+from_counters laws b rows rest q h n count more =
     let m = length-append q.counters rest.counters in
     family b rows (λ done. record q { counters = done }) counter_words IsWordSpan 4
-    (one_counter b q rest.set h n) rest.counters q.counters (length q.counters) refl
+    (one_counter laws b q rest.set h n) rest.counters q.counters (length q.counters) refl
     (omega (arith, count)) rest.spans (ticks_words rest.ticks.0 rest.ticks.1 ∷ more)
-    ∙ last b rows (record q { counters = q.counters ++ rest.counters }) rest.set rest.ticks h.good
+    ∙ last laws b rows
+    (record q { counters = q.counters ++ rest.counters }) rest.set rest.ticks h.good
     (all_there (length q.regs) (length (q.counters ++ rest.counters)) n (omega (arith, m, count)))
     rest.numbers more
 
-one_register : (b : Board) (q : Part) (set : Set) → IsBoard b → HasAll b q set
+one_register : KnownOfNumbers → (b : Board) (q : Part) (set : Set) → IsBoard b → HasAll b q set
     → One b (λ done. record q { regs = done }) (register_words b) (IsKnown b) 8
 unfolding with_line with_register
-one_register b q set board h done x less good = (
+one_register laws b q set board h done x less good = (
   few_regs (length done) (length q.counters) less,
   rw (not_below _ _ h.pages, not_below _ _ h.protects, h.good, below (length done) 8 less)
-      (rw (register_back b (length done) x board less good) refl),
+      (rw (register_back laws b (length done) x board less good) refl),
 )
 
-pub from_registers : (b : Board) (rows : Table) (rest : Rest b) (q : Part) → HasAll b q rest.set
+pub from_registers : KnownOfNumbers → (b : Board) (rows : Table) (rest : Rest b) (q : Part)
+    → HasAll b q rest.set
     → length q.regs + length rest.regs ≡ 8 → length q.counters + length rest.counters ≡ 4
     → (more : List Words)
     → run b (at rows q) (each_at (register_words b) (length q.regs) rest.regs
@@ -150,36 +156,37 @@ pub from_registers : (b : Board) (rows : Table) (rest : Rest b) (q : Part) → H
       regs = q.regs ++ rest.regs;
       counters = q.counters ++ rest.counters;
     }) rest.set rest.ticks)) more
-from_registers b rows rest q h n count more =
+from_registers laws b rows rest q h n count more =
     let m = length-append q.regs rest.regs in
     family b rows (λ done. record q { regs = done }) (register_words b) (IsKnown b) 8
-    (one_register b q rest.set rest.board h) rest.regs q.regs (length q.regs) refl
+    (one_register laws b q rest.set rest.board h) rest.regs q.regs (length q.regs) refl
     (omega (arith, n)) rest.known (each_at counter_words (length q.counters) rest.counters
     ++ (ticks_words rest.ticks.0 rest.ticks.1 ∷ more))
-    ∙ from_counters b rows rest (record q { regs = q.regs ++ rest.regs })
+    ∙ from_counters laws b rows rest (record q { regs = q.regs ++ rest.regs })
     (record { pages = h.pages; protects = h.protects; good = h.good }) (omega (arith, m, n)) count
     more
 
-one_page : (b : Board) (q : Part) → IsBoard b → q.regs ≡ []
+one_page : KnownOfNumbers → (b : Board) (q : Part) → IsBoard b → q.regs ≡ []
     → One b (λ done. record q { pages = done }) (page_words b) (IsByteSet is_page)
     (length b.targets)
 unfolding with_line with_page
-one_page b q board none done x less good =
+one_page laws b q board none done x less good =
     let names = board.target_names in (
       rw none refl,
-      rw (below _ _ less) (rw (page_back b (length done) x (omega (arith, less, names)) good) refl),
+      rw (below _ _ less)
+          (rw (page_back laws b (length done) x (omega (arith, less, names)) good) refl),
     )
 
-one_protect : (b : Board) (q : Part) → IsBoard b → q.regs ≡ []
+one_protect : KnownOfNumbers → (b : Board) (q : Part) → IsBoard b → q.regs ≡ []
     → length b.targets ≤ length q.pages
     → One b (λ done. record q { protects = done }) (protect_words b) (IsByteSet is_protect)
     (length b.targets)
 unfolding with_line with_protect
-one_protect b q board none pages done x less good =
+one_protect laws b q board none pages done x less good =
     let names = board.target_names in (
       rw none refl,
       rw (not_below _ _ pages, below _ _ less)
-          (rw (protect_back b (length done) x (omega (arith, less, names)) good) refl),
+          (rw (protect_back laws b (length done) x (omega (arith, less, names)) good) refl),
     )
 
 one_good : (b : Board) (q : Part) (set : Set) → IsBoard b → AreRails b set
@@ -199,7 +206,8 @@ pub record Sets (b : Board) (q : Part) : Type 0 where
   pub protect_count : length q.protects + length protects ≡ length b.targets
   pub protect_sets : AllByRecursion (IsByteSet is_protect) protects
 
-pub from_pages : (b : Board) (rows : Table) (rest : Rest b) (q : Part) (sets : Sets b q)
+pub from_pages : KnownOfNumbers
+    → (b : Board) (rows : Table) (rest : Rest b) (q : Part) (sets : Sets b q)
     → q.good ≡ None → q.regs ≡ [] → q.counters ≡ [] → length rest.regs ≡ 8
     → length rest.counters ≡ 4 → (more : List Words)
     → run b (at rows q) (each_at (page_words b) (length q.pages) sets.pages
@@ -215,7 +223,7 @@ pub from_pages : (b : Board) (rows : Table) (rest : Rest b) (q : Part) (sets : S
       regs = q.regs ++ rest.regs;
       counters = q.counters ++ rest.counters;
     }) rest.set rest.ticks)) more
-from_pages b rows rest q sets none no_regs no_counters n count more =
+from_pages laws b rows rest q sets none no_regs no_counters n count more =
     let p1 : Part = record q { pages = q.pages ++ sets.pages } in
     let p2 : Part = record p1 { protects = q.protects ++ sets.protects } in
     let p3 : Part = record p2 { good = Some rest.set } in
@@ -228,13 +236,14 @@ from_pages b rows rest q sets none no_regs no_counters n count more =
     let pages : length b.targets ≤ length p1.pages = omega (arith, c1, e1) in
     let protects : length b.targets ≤ length p2.protects = omega (arith, c2, e2) in
     family b rows (λ done. record q { pages = done }) (page_words b) (IsByteSet is_page)
-    (length b.targets) (one_page b q rest.board no_regs) sets.pages q.pages (length q.pages) refl
+    (length b.targets) (one_page laws b q rest.board no_regs) sets.pages q.pages
+    (length q.pages) refl
     (omega (arith, e1)) sets.page_sets _
     ∙ family b rows (λ done. record p1 { protects = done }) (protect_words b)
-    (IsByteSet is_protect) (length b.targets) (one_protect b p1 rest.board no_regs pages)
+    (IsByteSet is_protect) (length b.targets) (one_protect laws b p1 rest.board no_regs pages)
     sets.protects q.protects (length q.protects) refl (omega (arith, e2)) sets.protect_sets _
     ∙ taken b rows p2 p3 (good_words b rest.set) _ (rw no_regs refl)
     (one_good b p2 rest.set rest.board rest.rails pages protects none)
-    ∙ from_registers b rows rest p3
+    ∙ from_registers laws b rows rest p3
     (record { pages = pages; protects = protects; good = refl }) (omega (arith, z1, n))
     (omega (arith, z2, count)) more

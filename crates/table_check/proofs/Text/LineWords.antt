@@ -1,7 +1,7 @@
 -- The words of each line are words: a line is cut into them again.
 use Rattle.std.proofs.Common.{◌≡◌, ℕ, zero, suc, ◌/◌, ◌%◌, ◌^◌, ◌<◌, ◌≤◌, ◌==◌, Bool}
 use Rattle.std.proofs.Common.{true, false, List, [], ◌∷◌, ◌++◌, length, map, filter, All, refl, ap}
-use Rattle.std.proofs.Common.{◌∙◌, arith, rules, Some, None, ◌+◌}
+use Rattle.std.proofs.Common.{◌∙◌, arith, rules, Some, None, ◌+◌, nat_lt}
 use Rattle.std.specs.Prelude.{zip}
 use Rattle.std.specs.List.{list_all, AllPass, AllByRecursion, range_with_len}
 use Rattle.std.specs.Char.{is_ascii_digit}
@@ -16,12 +16,11 @@ use Rattle.std.proofs.lemmas.List.Splits.{join_with_byte-slice_split}
 use Rattle.std.proofs.lemmas.List.Sums.{AllPass-from_list_all, list_all-from_AllPass}
 use Rattle.std.proofs.lemmas.Str.Parse.{IsNumeralModel, numerals_by_value}
 use Rattle.texts.specs.Hex.{digit_of, pair_text}
-use Rattle.texts.specs.Names.{is_name}
+use Rattle.texts.specs.Names.{is_name, is_name_byte}
 use Rattle.texts.specs.Words.{is_nonempty}
 use Rattle.board.specs.Boards.{Board}
 use Rattle.board.specs.Valid.{IsBoard}
-use Rattle.seq_program.proofs.JoinedWords.{is_word_byte, is_word}
-use Rattle.seq_program.proofs.PrintedCommands.{name_word}
+use Rattle.seq_program.specs.JoinedWords.{is_word_byte, is_word}
 use Rattle.facts.specs.Sets.{Set}
 use Rattle.facts.specs.Rows.{Row, IsSource}
 use Rattle.facts.specs.declared.source.Source.{Source}
@@ -61,6 +60,15 @@ decimal_word : (n : ℕ) → n < 2 ^ 64 → is_word (decimal n) ≡ true
 decimal_word n less =
     and_from _ _ (lt-ltb 0 (length (decimal n)) (decimal_nonempty n less))
     (all_pass is_ascii_digit is_word_byte word_digit (decimal n) (digits_decimal own n less))
+
+name_byte : (b : ℕ) → is_name_byte b ≡ true → is_word_byte b ≡ true
+name_byte b t = grind (arith, nat_tests)
+
+name_word : (name : List ℕ) → is_name name ≡ true → is_word name ≡ true
+name_word name t =
+    let front = and_parts (nat_lt 0 (length name)) _ (and_parts _ _ t).0 in
+    let bytes = (and_parts _ (list_all is_name_byte name) (and_parts _ _ t).1).1 in
+    and_from _ _ front.0 (all_pass is_name_byte is_word_byte name_byte name bytes)
 
 names_are_words : (names : Words) → AllPass is_name names → AreWords names
 names_are_words names good =

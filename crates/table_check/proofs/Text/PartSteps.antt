@@ -15,6 +15,7 @@ use Rattle.table_check.specs.Saying.{page_said, protect_said, good_said, registe
 use Rattle.table_check.specs.Saying.{counter_said}
 use Rattle.table_check.specs.Passes.{Part, with_page, with_protect, with_good, with_register}
 use Rattle.table_check.specs.Passes.{with_counter, with_line, is_missing, is_full}
+use Rattle.table_check.proofs.Text.Known.{KnownOfNumbers}
 use Rattle.table_check.proofs.Text.Options.{from_map}
 use Rattle.table_check.proofs.Text.Spelled.{IsByteSet, page_only, protect_only, good_only}
 use Rattle.table_check.proofs.Text.SpelledRows.{IsKnown, register_only, counter_only}
@@ -33,14 +34,14 @@ pub record Longer (b : Board) (p q : Part) (ws : Words) : Type 0 where
   pub good : GoodPart b q
   pub lines : part_lines b q ≡ part_lines b p ++ ws ∷ []
 
-page_added : (b : Board) (p q : Part) (ws : Words) → GoodPart b p
+page_added : KnownOfNumbers → (b : Board) (p q : Part) (ws : Words) → GoodPart b p
     → length p.pages < length b.targets → with_page b p ws ≡ Some q → Longer b p q ws
 unfolding with_page
-page_added b p q ws good less e =
+page_added laws b p q ws good less e =
     let r = from_map (λ set. record p { pages = p.pages ++ set ∷ [] })
     (page_said b (length p.pages) ws) q e in
     let S : Set = r.value in
-    let s = page_only b (length p.pages) ws S r.there in
+    let s = page_only laws b (length p.pages) ws S r.there in
     let e1 = good.after_pages less in
     let e2 = good.after_protects (no_items p.protects _ e1 (omega (arith, less))) in
     let e3 = good.after_good e2 in
@@ -67,15 +68,15 @@ page_added b p q ws good less e =
           ∙ ap (λ (l : Words). part_lines b p ++ l ∷ []) (sym s.0);
     })
 
-protect_added : (b : Board) (p q : Part) (ws : Words) → GoodPart b p
+protect_added : KnownOfNumbers → (b : Board) (p q : Part) (ws : Words) → GoodPart b p
     → length b.targets ≤ length p.pages → length p.protects < length b.targets
     → with_protect b p ws ≡ Some q → Longer b p q ws
 unfolding with_protect
-protect_added b p q ws good all less e =
+protect_added laws b p q ws good all less e =
     let r = from_map (λ set. record p { protects = p.protects ++ set ∷ [] })
     (protect_said b (length p.protects) ws) q e in
     let S : Set = r.value in
-    let s = protect_only b (length p.protects) ws S r.there in
+    let s = protect_only laws b (length p.protects) ws S r.there in
     let e2 = good.after_protects less in
     let e3 = good.after_good e2 in
     let e4 = good.after_regs (no_items p.regs 8 e3 (omega arith)) in
@@ -143,15 +144,15 @@ good_added b p q ws board good all e2 e =
           ∙ ap (λ (l : Words). part_lines b p ++ l ∷ []) (sym s.0);
     })
 
-register_added : (b : Board) (p q : Part) (ws : Words) → IsBoard b → GoodPart b p
+register_added : KnownOfNumbers → (b : Board) (p q : Part) (ws : Words) → IsBoard b → GoodPart b p
     → is_missing p.good ≡ false → length p.regs < 8
     → with_register b p ws ≡ Some q → Longer b p q ws
 unfolding with_register
-register_added b p q ws board good some less e =
+register_added laws b p q ws board good some less e =
     let r = from_map (λ known. record p { regs = p.regs ++ known ∷ [] })
     (register_said b (length p.regs) ws) q e in
     let k : Span × Source = r.value in
-    let s = register_only b (length p.regs) ws k board r.there in
+    let s = register_only laws b (length p.regs) ws k board r.there in
     let e4 = good.after_regs less in
     let n = one_longer p.regs k in
     rw (← r.is) (record {
@@ -180,13 +181,14 @@ few_left : (p : Part) → is_full p ≡ false → 8 ≤ length p.regs → length
     → length p.counters ≤ 4 → length p.counters < 4
 few_left p f all few less = grind (arith, nat_tests)
 
-counter_added : (b : Board) (p q : Part) (ws : Words) → GoodPart b p → is_full p ≡ false
+counter_added : KnownOfNumbers → (b : Board) (p q : Part) (ws : Words) → GoodPart b p
+    → is_full p ≡ false
     → 8 ≤ length p.regs → with_counter p ws ≡ Some q → Longer b p q ws
 unfolding with_counter
-counter_added b p q ws good left all e =
+counter_added laws b p q ws good left all e =
     let r = from_map (λ span. record p { counters = p.counters ++ span ∷ [] })
     (counter_said (length p.counters) ws) q e in
-    let s = counter_only (length p.counters) ws r.value r.there in
+    let s = counter_only laws (length p.counters) ws r.value r.there in
     let n = one_longer p.counters r.value in
     let less = few_left p left all good.few_regs good.few_counters in
     rw (← r.is) (record {
@@ -210,21 +212,21 @@ counter_added b p q ws good left all e =
           ∙ ap (λ (l : Words). part_lines b p ++ l ∷ []) (sym s.0);
     })
 
-pub line_added : (b : Board) (p q : Part) (ws : Words) → IsBoard b → GoodPart b p
+pub line_added : KnownOfNumbers → (b : Board) (p q : Part) (ws : Words) → IsBoard b → GoodPart b p
     → is_full p ≡ false → with_line b p ws ≡ Some q → Longer b p q ws
 unfolding with_line
-line_added b p q ws board good left e =
+line_added laws b p q ws board good left e =
     elim (either (nat_lt (length p.pages) (length b.targets)) (with_page b p ws) _ (Some q) e) [
-      | inl h ↦ page_added b p q ws good (less_of _ _ h.0) h.1
+      | inl h ↦ page_added laws b p q ws good (less_of _ _ h.0) h.1
       | inr h ↦ elim (either (nat_lt (length p.protects) (length b.targets)) (with_protect b p ws) _
           (Some q) h.1) [
-            | inl i ↦ protect_added b p q ws good (more_of _ _ h.0) (less_of _ _ i.0) i.1
+            | inl i ↦ protect_added laws b p q ws good (more_of _ _ h.0) (less_of _ _ i.0) i.1
             | inr i ↦ elim (either (is_missing p.good) (with_good b p ws) _ (Some q) i.1) [
               | inl j ↦ good_added b p q ws board good (more_of _ _ i.0) (missing p.good j.0) j.1
               | inr j ↦
                   elim (either (nat_lt (length p.regs) 8) (with_register b p ws) _ (Some q) j.1) [
-                    | inl k ↦ register_added b p q ws board good j.0 (less_of _ _ k.0) k.1
-                    | inr k ↦ counter_added b p q ws good left (more_of _ _ k.0) k.1
+                    | inl k ↦ register_added laws b p q ws board good j.0 (less_of _ _ k.0) k.1
+                    | inr k ↦ counter_added laws b p q ws good left (more_of _ _ k.0) k.1
                   ]
             ]
           ]

@@ -11,17 +11,19 @@ use Rattle.table_check.specs.Faults.{Gives}
 use Rattle.table_check.specs.Tables.{Table, table_view}
 use Rattle.table_check.specs.Texts.{Lines, AreLinesOf, FindsTable, CarriesFirst}
 use Rattle.table_check.specs.Passes.{table_in}
+use Rattle.table_check.proofs.Text.Known.{KnownOfNumbers}
 use Rattle.table_check.proofs.Text.TableReads.{read_only, read_all}
 use Rattle.table_check.proofs.Text.TableFaults.{read_wrong}
 
 abbrev Answer : Type 0
 Answer = Result CodeTable TableFault
 
-pub ok_of : (b : Board) (lines : Lines) (r : Answer) → IsBoard b → length lines < 2 ^ 64
+pub ok_of : KnownOfNumbers → (b : Board) (lines : Lines) (r : Answer) → IsBoard b
+    → length lines < 2 ^ 64
     → Gives table_view r (table_in b lines) → IfOk r (λ t. AreLinesOf b (table_view t) lines)
-ok_of b lines (Ok t) board small g =
-    read_only b lines (table_view t) board small g
-ok_of b lines (Err e) board small g = tt
+ok_of laws b lines (Ok t) board small g =
+    read_only laws b lines (table_view t) board small g
+ok_of laws b lines (Err e) board small g = tt
 
 abbrev read : Table → Result Table TableFault
 read t = Ok t
@@ -35,17 +37,19 @@ no_fault t e p = cc
 not_memory : (n : ℕ) → fault.BadLine n ≡ fault.Memory → ⊥
 not_memory n e = cc
 
-pub all_of : (b : Board) (lines : Lines) (r : Answer) → IsBoard b
+pub all_of : KnownOfNumbers → (b : Board) (lines : Lines) (r : Answer) → IsBoard b
     → Gives table_view r (table_in b lines) → FindsTable b lines r
-all_of b lines (Ok u) board g = λ t are.
-    same_table (table_view u) t (sym g ∙ read_all b lines t board are)
-all_of b lines (Err fault.Memory) board g = λ t are. refl
-all_of b lines (Err (fault.BadLine n)) board g = λ t are.
-    absurd (no_fault t (fault.BadLine n) (sym (g (not_memory n)) ∙ read_all b lines t board are))
+all_of laws b lines (Ok u) board g = λ t are.
+    same_table (table_view u) t (sym g ∙ read_all laws b lines t board are)
+all_of laws b lines (Err fault.Memory) board g = λ t are. refl
+all_of laws b lines (Err (fault.BadLine n)) board g = λ t are.
+    absurd
+    (no_fault t (fault.BadLine n) (sym (g (not_memory n)) ∙ read_all laws b lines t board are))
 
-pub bad_of : (b : Board) (lines : Lines) (r : Answer) → IsBoard b → length lines ≤ 2 ^ 63
+pub bad_of : KnownOfNumbers → (b : Board) (lines : Lines) (r : Answer) → IsBoard b
+    → length lines ≤ 2 ^ 63
     → Gives table_view r (table_in b lines) → IfErr r (λ e. CarriesFirst b lines e)
-bad_of b lines (Ok t) board small g = tt
-bad_of b lines (Err fault.Memory) board small g = tt
-bad_of b lines (Err (fault.BadLine n)) board small g =
-    read_wrong b lines n board small (g (not_memory n))
+bad_of laws b lines (Ok t) board small g = tt
+bad_of laws b lines (Err fault.Memory) board small g = tt
+bad_of laws b lines (Err (fault.BadLine n)) board small g =
+    read_wrong laws b lines n board small (g (not_memory n))

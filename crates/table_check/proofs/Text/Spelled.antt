@@ -10,11 +10,8 @@ use Rattle.std.proofs.lemmas.Bool.{ltb-true}
 use Rattle.std.proofs.lemmas.Bool.Decides.{nat_tests}
 use Rattle.std.proofs.lemmas.List.Sums.{passes_at_first}
 use Rattle.texts.specs.Hex.{pair_of, pair_text}
-use Rattle.texts.proofs.HexLaws.{pair_of-pair_text, pair_of_spelled}
-use Rattle.texts.proofs.DecimalTexts.{decimal_within-decimal, decimal_within_spelled}
 use Rattle.board.specs.Boards.{Board, place_of_name}
 use Rattle.board.specs.Valid.{IsBoard}
-use Rattle.seq_program.proofs.PrintedCommands.{bytes_eq-same, same_text, name_at_place}
 use Rattle.facts.specs.Sets.{Set, is_page, is_protect, is_rail}
 use Rattle.facts.specs.declared.span.Span.{Span}
 use Rattle.table_check.specs.Lines.{Words, name_at, values_below}
@@ -23,9 +20,11 @@ use Rattle.table_check.specs.Writable.{HasValue, IsWordSpan}
 use Rattle.table_check.specs.Saying.{after_key, after_name, rail_named, page_set}
 use Rattle.table_check.specs.Saying.{protect_set, rail_set, some_pages, some_protects, page_said}
 use Rattle.table_check.specs.Saying.{protect_said, good_said, word_of, number_of, span_of}
+use Rattle.table_check.proofs.Text.Known.{KnownOfNumbers}
 use Rattle.table_check.proofs.Text.Options.{none_some, same_some, from_then, from_map, from_if}
 use Rattle.table_check.proofs.Text.Options.{from_else}
 use Rattle.table_check.proofs.Text.SetWords.{EachIs, AreSpelled, IsIn, has, set_only, set_back}
+use Rattle.table_check.proofs.Text.Names.{bytes_eq-same, same_text, name_at_place}
 use Rattle.table_check.proofs.Text.SetWords.{members_in}
 use Rattle.table_check.proofs.Text.SetWords.{member}
 
@@ -93,9 +92,9 @@ place_back names i less apart =
 abbrev pub IsByteSet : (ℕ → Bool) → Set → Type 0
 IsByteSet is_value S = HasValue S × IsIn is_value 256 S
 
-pair_spelled : AreSpelled pair_of pair_text 256
-pair_spelled w v e =
-    let h : IfSome (Some v) (λ b. (b < 256) × (w ≡ pair_text b)) = rw e at (pair_of_spelled w) in
+pair_spelled : KnownOfNumbers → AreSpelled pair_of pair_text 256
+pair_spelled laws w v e =
+    let h : IfSome (Some v) (λ b. (b < 256) × (w ≡ pair_text b)) = rw e at (laws.pair_spelled w) in
     (h.1, h.0)
 
 some_listed : (word : ℕ → List ℕ) (S : Set) (most : ℕ)
@@ -121,79 +120,84 @@ listed_some word S most some below =
     nonempty [] t = absurd cc
     nonempty (v ∷ vs) t = grind (arith, nat_tests)
 
-pages_only : (ws : Words) (S : Set) → some_pages ws ≡ Some S
+pages_only : KnownOfNumbers → (ws : Words) (S : Set) → some_pages ws ≡ Some S
     → (ws ≡ byte_words S) × IsByteSet is_page S
 unfolding page_set
-pages_only ws S e =
+pages_only laws ws S e =
     let q = from_else (length ws == 0) (page_set ws) S e in
-    let r = set_only pair_of pair_text is_page 256 pair_spelled ws S q.1 in
+    let r = set_only pair_of pair_text is_page 256 (pair_spelled laws) ws S q.1 in
     (r.0, (some_listed pair_text S 256 (rw r.0 at q.0), r.1))
 
-pages_back : (S : Set) → IsByteSet is_page S → some_pages (byte_words S) ≡ Some S
+pages_back : KnownOfNumbers → (S : Set) → IsByteSet is_page S → some_pages (byte_words S) ≡ Some S
 unfolding page_set
-pages_back S good =
+pages_back laws S good =
     rw (listed_some pair_text S 256 good.0 (λ v t. (good.1 v t).0))
-    (set_back pair_of pair_text is_page 256 pair_of-pair_text S good.1)
+    (set_back pair_of pair_text is_page 256 laws.pair S good.1)
 
-protects_only : (ws : Words) (S : Set) → some_protects ws ≡ Some S
+protects_only : KnownOfNumbers → (ws : Words) (S : Set) → some_protects ws ≡ Some S
     → (ws ≡ byte_words S) × IsByteSet is_protect S
 unfolding protect_set
-protects_only ws S e =
+protects_only laws ws S e =
     let q = from_else (length ws == 0) (protect_set ws) S e in
-    let r = set_only pair_of pair_text is_protect 256 pair_spelled ws S q.1 in
+    let r = set_only pair_of pair_text is_protect 256 (pair_spelled laws) ws S q.1 in
     (r.0, (some_listed pair_text S 256 (rw r.0 at q.0), r.1))
 
-protects_back : (S : Set) → IsByteSet is_protect S → some_protects (byte_words S) ≡ Some S
+protects_back : KnownOfNumbers → (S : Set) → IsByteSet is_protect S
+    → some_protects (byte_words S) ≡ Some S
 unfolding protect_set
-protects_back S good =
+protects_back laws S good =
     rw (listed_some pair_text S 256 good.0 (λ v t. (good.1 v t).0))
-    (set_back pair_of pair_text is_protect 256 pair_of-pair_text S good.1)
+    (set_back pair_of pair_text is_protect 256 laws.pair S good.1)
 
-pub page_only : (b : Board) (i : ℕ) (ws : Words) (S : Set) → page_said b i ws ≡ Some S
+pub page_only : KnownOfNumbers → (b : Board) (i : ℕ) (ws : Words) (S : Set)
+    → page_said b i ws ≡ Some S
     → (ws ≡ page_words b i S) × IsByteSet is_page S
 unfolding page_said
-page_only b i ws S e =
+page_only laws b i ws S e =
     let q = from_then (λ name. option_and_then some_pages (after_name (codes "page") name ws))
     (slice_get b.target_names i) S e in
     let n = at_only b.target_names i q.value q.there in
     let r = from_then some_pages (after_name (codes "page") q.value ws) S q.gives in
-    let p = pages_only r.value S r.gives in (
+    let p = pages_only laws r.value S r.gives in (
       name_only (codes "page") q.value ws r.value r.there
           ∙ ap (λ name. codes "page" ∷ name ∷ r.value) n.0
           ∙ ap (λ vs. codes "page" ∷ name_at b.target_names i ∷ vs) p.0,
       p.1,
     )
 
-pub page_back : (b : Board) (i : ℕ) (S : Set) → i < length b.target_names → IsByteSet is_page S
+pub page_back : KnownOfNumbers → (b : Board) (i : ℕ) (S : Set) → i < length b.target_names
+    → IsByteSet is_page S
     → page_said b i (page_words b i S) ≡ Some S
 unfolding page_said
-page_back b i S less good =
+page_back laws b i S less good =
     rw (at_back b.target_names i less)
     (ap (option_and_then some_pages)
-    (name_back (codes "page") (name_at b.target_names i) (byte_words S)) ∙ pages_back S good)
+    (name_back (codes "page") (name_at b.target_names i) (byte_words S)) ∙ pages_back laws S good)
 
-pub protect_only : (b : Board) (i : ℕ) (ws : Words) (S : Set) → protect_said b i ws ≡ Some S
+pub protect_only : KnownOfNumbers → (b : Board) (i : ℕ) (ws : Words) (S : Set)
+    → protect_said b i ws ≡ Some S
     → (ws ≡ protect_words b i S) × IsByteSet is_protect S
 unfolding protect_said
-protect_only b i ws S e =
+protect_only laws b i ws S e =
     let q = from_then (λ name. option_and_then some_protects (after_name (codes "protect") name ws))
     (slice_get b.target_names i) S e in
     let n = at_only b.target_names i q.value q.there in
     let r = from_then some_protects (after_name (codes "protect") q.value ws) S q.gives in
-    let p = protects_only r.value S r.gives in (
+    let p = protects_only laws r.value S r.gives in (
       name_only (codes "protect") q.value ws r.value r.there
           ∙ ap (λ name. codes "protect" ∷ name ∷ r.value) n.0
           ∙ ap (λ vs. codes "protect" ∷ name_at b.target_names i ∷ vs) p.0,
       p.1,
     )
 
-pub protect_back : (b : Board) (i : ℕ) (S : Set) → i < length b.target_names
+pub protect_back : KnownOfNumbers → (b : Board) (i : ℕ) (S : Set) → i < length b.target_names
     → IsByteSet is_protect S → protect_said b i (protect_words b i S) ≡ Some S
 unfolding protect_said
-protect_back b i S less good =
+protect_back laws b i S less good =
     rw (at_back b.target_names i less)
     (ap (option_and_then some_protects)
-    (name_back (codes "protect") (name_at b.target_names i) (byte_words S)) ∙ protects_back S good)
+    (name_back (codes "protect") (name_at b.target_names i) (byte_words S))
+    ∙ protects_back laws S good)
 
 -- rails of the board, of at most 64
 abbrev pub AreRails : Board → Set → Type 0
@@ -233,39 +237,41 @@ good_back b S board good =
 
 -- ---- numbers
 
-word_only : (text : List ℕ) (n : ℕ) → word_of text ≡ Some n → (text ≡ decimal n) × (n < 65536)
-word_only text n e =
+word_only : KnownOfNumbers → (text : List ℕ) (n : ℕ) → word_of text ≡ Some n
+    → (text ≡ decimal n) × (n < 65536)
+word_only laws text n e =
     let h : IfSome (Some n) (λ n. (n ≤ 65535) × (text ≡ decimal n)) =
-    rw e at (decimal_within_spelled 65535 text (lit< tt)) in
+    rw e at (laws.decimal_spelled 65535 text (lit< tt)) in
     (h.1, omega (arith, h.0))
 
-word_back : (n : ℕ) → n < 65536 → word_of (decimal n) ≡ Some n
-word_back n less = decimal_within-decimal 65535 n (omega (arith, less)) (lit< tt)
+word_back : KnownOfNumbers → (n : ℕ) → n < 65536 → word_of (decimal n) ≡ Some n
+word_back laws n less = laws.decimal 65535 n (omega (arith, less)) (lit< tt)
 
-pub number_only : (text : List ℕ) (n : ℕ) → number_of text ≡ Some n
+pub number_only : KnownOfNumbers → (text : List ℕ) (n : ℕ) → number_of text ≡ Some n
     → (text ≡ decimal n) × (n < 2 ^ 64)
-number_only text n e =
+number_only laws text n e =
     let h : IfSome (Some n) (λ n. (n ≤ 18446744073709551615) × (text ≡ decimal n)) =
-    rw e at (decimal_within_spelled 18446744073709551615 text (lit< tt)) in
+    rw e at (laws.decimal_spelled 18446744073709551615 text (lit< tt)) in
     (h.1, omega (arith, h.0))
 
-pub number_back : (n : ℕ) → n < 2 ^ 64 → number_of (decimal n) ≡ Some n
-number_back n less = decimal_within-decimal 18446744073709551615 n (omega (arith, less)) (lit< tt)
+pub number_back : KnownOfNumbers → (n : ℕ) → n < 2 ^ 64 → number_of (decimal n) ≡ Some n
+number_back laws n less = laws.decimal 18446744073709551615 n (omega (arith, less)) (lit< tt)
 
-pub span_only : (lo hi : List ℕ) (s : Span) → span_of lo hi ≡ Some s
+pub span_only : KnownOfNumbers → (lo hi : List ℕ) (s : Span) → span_of lo hi ≡ Some s
     → (lo ≡ decimal s.lo) × (hi ≡ decimal s.hi) × IsWordSpan s
 unfolding span_of
-span_only lo hi s e =
+span_only laws lo hi s e =
     let q = from_then (λ l. option_map (λ h. record { lo = l; hi = h }) (word_of hi)) (word_of lo)
     s e in
     let r = from_map (λ h. record { lo = q.value; hi = h }) (word_of hi) s q.gives in
-    let l = word_only lo q.value q.there in
-    let h = word_only hi r.value r.there in (
+    let l = word_only laws lo q.value q.there in
+    let h = word_only laws hi r.value r.there in (
       l.0 ∙ ap (λ (t : Span). decimal t.lo) r.is,
       h.0 ∙ ap (λ (t : Span). decimal t.hi) r.is,
       rw (← r.is) (l.1, h.1),
     )
 
-pub span_back : (s : Span) → IsWordSpan s → span_of (decimal s.lo) (decimal s.hi) ≡ Some s
+pub span_back : KnownOfNumbers → (s : Span) → IsWordSpan s
+    → span_of (decimal s.lo) (decimal s.hi) ≡ Some s
 unfolding span_of
-span_back s good = rw (word_back s.lo good.0, word_back s.hi good.1) refl
+span_back laws s good = rw (word_back laws s.lo good.0, word_back laws s.hi good.1) refl

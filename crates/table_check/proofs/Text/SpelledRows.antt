@@ -8,7 +8,6 @@ use Rattle.std.proofs.lemmas.Bool.{cases_Bool}
 use Rattle.std.proofs.lemmas.Bool.Decides.{nat_tests}
 use Rattle.board.specs.Boards.{Board}
 use Rattle.board.specs.Valid.{IsBoard}
-use Rattle.seq_program.proofs.PrintedCommands.{same_text}
 use Rattle.facts.specs.Rows.{IsSource}
 use Rattle.facts.specs.declared.source.Source.{Source}
 use Rattle.facts.specs.declared.source.Source.TheVariants as source
@@ -22,7 +21,9 @@ use Rattle.table_check.specs.Saying.{number_of, span_of, named_source, source_of
 use Rattle.table_check.specs.Saying.{only_span, register_said, counter_said, five_numbers}
 use Rattle.table_check.specs.Saying.{numbers_of}
 use Rattle.table_check.specs.Saying.{ticks_said, has_row, is_some_of, numbered, head_said}
+use Rattle.table_check.proofs.Text.Known.{KnownOfNumbers}
 use Rattle.table_check.proofs.Text.Options.{none_some, same_some, from_then, from_map, from_if}
+use Rattle.table_check.proofs.Text.Names.{same_text}
 use Rattle.table_check.proofs.Text.SetWords.{EachIs}
 use Rattle.table_check.proofs.Text.Spelled.{key_only, key_back, name_only, name_back, at_only}
 use Rattle.table_check.proofs.Text.Spelled.{at_back}
@@ -132,74 +133,76 @@ three : (a c : List ℕ) (d e : List ℕ) (f g : Words) → a ≡ c → d ≡ e 
     → a ∷ d ∷ f ≡ c ∷ e ∷ g
 three a c d e f g p q r = cc
 
-sourced_only : (b : Board) (ws : Words) (known : Span × Source) → IsBoard b
+sourced_only : KnownOfNumbers → (b : Board) (ws : Words) (known : Span × Source) → IsBoard b
     → sourced_span b ws ≡ Some known
     → (ws ≡ decimal known.0.lo ∷ decimal known.0.hi ∷ source_words b known.1) × IsKnown b known
-sourced_only b [] known board e = absurd (none_some known e)
-sourced_only b (lo ∷ []) known board e = absurd (none_some known e)
-sourced_only b (lo ∷ hi ∷ from) known board e =
+sourced_only laws b [] known board e = absurd (none_some known e)
+sourced_only laws b (lo ∷ []) known board e = absurd (none_some known e)
+sourced_only laws b (lo ∷ hi ∷ from) known board e =
     let q = from_then (λ (span : Span). option_map (λ (s : Source). (span, s)) (source_of b from))
     (span_of lo hi) known e in
     let r = from_map (λ (s : Source). (q.value, s)) (source_of b from) known q.gives in
-    let p = span_only lo hi q.value q.there in
+    let p = span_only laws lo hi q.value q.there in
     let s = source_only b from r.value board r.there in
     rw (← r.is) (three lo _ hi _ from _ p.0 p.1 s.0, (p.2, s.1))
 
-pub register_only : (b : Board) (i : ℕ) (ws : Words) (known : Span × Source) → IsBoard b
+pub register_only : KnownOfNumbers → (b : Board) (i : ℕ) (ws : Words) (known : Span × Source)
+    → IsBoard b
     → register_said b i ws ≡ Some known → (ws ≡ register_words b i known) × IsKnown b known
 unfolding register_said
-register_only b i ws known board e =
+register_only laws b i ws known board e =
     let q = from_then
     (λ name. option_and_then (sourced_span b) (after_name (codes "reg") name ws))
     (slice_get register_names i) known e in
     let n = at_only register_names i q.value q.there in
     let r = from_then (sourced_span b) (after_name (codes "reg") q.value ws) known q.gives in
-    let p = sourced_only b r.value known board r.gives in (
+    let p = sourced_only laws b r.value known board r.gives in (
       name_only (codes "reg") q.value ws r.value r.there
           ∙ ap (λ name. codes "reg" ∷ name ∷ r.value) n.0
           ∙ ap (λ vs. codes "reg" ∷ name_at register_names i ∷ vs) p.0,
       p.1,
     )
 
-pub register_back : (b : Board) (i : ℕ) (known : Span × Source) → IsBoard b → i < 8
+pub register_back : KnownOfNumbers → (b : Board) (i : ℕ) (known : Span × Source) → IsBoard b → i < 8
     → IsKnown b known → register_said b i (register_words b i known) ≡ Some known
 unfolding register_said
-register_back b i known board less good =
+register_back laws b i known board less good =
     rw (at_back register_names i (omega (arith, less)))
     (ap (option_and_then (sourced_span b))
     (name_back (codes "reg") (name_at register_names i) _)
-    ∙ rw (span_back known.0 good.0, source_back b known.1 board good.1) refl)
+    ∙ rw (span_back laws known.0 good.0, source_back b known.1 board good.1) refl)
 
-only_only : (ws : Words) (span : Span) → only_span ws ≡ Some span
+only_only : KnownOfNumbers → (ws : Words) (span : Span) → only_span ws ≡ Some span
     → (ws ≡ decimal span.lo ∷ decimal span.hi ∷ []) × IsWordSpan span
-only_only [] span e = absurd (none_some span e)
-only_only (lo ∷ []) span e = absurd (none_some span e)
-only_only (lo ∷ hi ∷ []) span e =
-    let p = span_only lo hi span e in (three lo _ hi _ [] [] p.0 p.1 refl, p.2)
-only_only (lo ∷ hi ∷ x ∷ more) span e = absurd (none_some span e)
+only_only laws [] span e = absurd (none_some span e)
+only_only laws (lo ∷ []) span e = absurd (none_some span e)
+only_only laws (lo ∷ hi ∷ []) span e =
+    let p = span_only laws lo hi span e in (three lo _ hi _ [] [] p.0 p.1 refl, p.2)
+only_only laws (lo ∷ hi ∷ x ∷ more) span e = absurd (none_some span e)
 
-pub counter_only : (i : ℕ) (ws : Words) (span : Span) → counter_said i ws ≡ Some span
+pub counter_only : KnownOfNumbers → (i : ℕ) (ws : Words) (span : Span)
+    → counter_said i ws ≡ Some span
     → (ws ≡ counter_words i span) × IsWordSpan span
 unfolding counter_said
-counter_only i ws span e =
+counter_only laws i ws span e =
     let q = from_then (λ name. option_and_then only_span (after_name (codes "counter") name ws))
     (slice_get counter_names i) span e in
     let n = at_only counter_names i q.value q.there in
     let r = from_then only_span (after_name (codes "counter") q.value ws) span q.gives in
-    let p = only_only r.value span r.gives in (
+    let p = only_only laws r.value span r.gives in (
       name_only (codes "counter") q.value ws r.value r.there
           ∙ ap (λ name. codes "counter" ∷ name ∷ r.value) n.0
           ∙ ap (λ vs. codes "counter" ∷ name_at counter_names i ∷ vs) p.0,
       p.1,
     )
 
-pub counter_back : (i : ℕ) (span : Span) → i < 4 → IsWordSpan span
+pub counter_back : KnownOfNumbers → (i : ℕ) (span : Span) → i < 4 → IsWordSpan span
     → counter_said i (counter_words i span) ≡ Some span
 unfolding counter_said
-counter_back i span less good =
+counter_back laws i span less good =
     rw (at_back counter_names i (omega (arith, less)))
     (ap (option_and_then only_span) (name_back (codes "counter") (name_at counter_names i) _)
-    ∙ span_back span good)
+    ∙ span_back laws span good)
 
 -- ---- ticks
 
@@ -212,65 +215,67 @@ five : (b k0 k1 k2 k3 c l0 l1 l2 l3 : List ℕ) → b ≡ c → k0 ≡ l0 → k1
     → b ∷ k0 ∷ k1 ∷ k2 ∷ k3 ∷ [] ≡ c ∷ l0 ∷ l1 ∷ l2 ∷ l3 ∷ []
 five b k0 k1 k2 k3 c l0 l1 l2 l3 p q r s t = cc
 
-five_only : (b k0 k1 k2 k3 : List ℕ) (ticks : ℕ × List ℕ) → five_numbers b k0 k1 k2 k3 ≡ Some ticks
+five_only : KnownOfNumbers → (b k0 k1 k2 k3 : List ℕ) (ticks : ℕ × List ℕ)
+    → five_numbers b k0 k1 k2 k3 ≡ Some ticks
     → (b ∷ k0 ∷ k1 ∷ k2 ∷ k3 ∷ [] ≡ decimal ticks.0 ∷ map decimal ticks.1) × AreTicks ticks
 unfolding five_numbers
-five_only b k0 k1 k2 k3 ticks e =
+five_only laws b k0 k1 k2 k3 ticks e =
     let q = from_then _ (number_of b) ticks e in
     let q0 = from_then _ (number_of k0) ticks q.gives in
     let q1 = from_then _ (number_of k1) ticks q0.gives in
     let q2 = from_then _ (number_of k2) ticks q1.gives in
     let q3 = from_map _ (number_of k3) ticks q2.gives in
-    let n = number_only b q.value q.there in
-    let n0 = number_only k0 q0.value q0.there in
-    let n1 = number_only k1 q1.value q1.there in
-    let n2 = number_only k2 q2.value q2.there in
-    let n3 = number_only k3 q3.value q3.there in
+    let n = number_only laws b q.value q.there in
+    let n0 = number_only laws k0 q0.value q0.there in
+    let n1 = number_only laws k1 q1.value q1.there in
+    let n2 = number_only laws k2 q2.value q2.there in
+    let n3 = number_only laws k3 q3.value q3.there in
     rw (← q3.is) (
       five b k0 k1 k2 k3 _ _ _ _ _ n.0 n0.0 n1.0 n2.0 n3.0,
       record { base = n.1; count = refl; coeffs = (n0.1, (n1.1, (n2.1, (n3.1, tt)))) },
     )
 
-numbers_only : (ws : Words) (ticks : ℕ × List ℕ) → numbers_of ws ≡ Some ticks
+numbers_only : KnownOfNumbers → (ws : Words) (ticks : ℕ × List ℕ) → numbers_of ws ≡ Some ticks
     → (ws ≡ decimal ticks.0 ∷ map decimal ticks.1) × AreTicks ticks
-numbers_only [] ticks e = absurd (none_some ticks e)
-numbers_only (b ∷ []) ticks e = absurd (none_some ticks e)
-numbers_only (b ∷ k0 ∷ []) ticks e = absurd (none_some ticks e)
-numbers_only (b ∷ k0 ∷ k1 ∷ []) ticks e = absurd (none_some ticks e)
-numbers_only (b ∷ k0 ∷ k1 ∷ k2 ∷ []) ticks e = absurd (none_some ticks e)
-numbers_only (b ∷ k0 ∷ k1 ∷ k2 ∷ k3 ∷ []) ticks e = five_only b k0 k1 k2 k3 ticks e
-numbers_only (b ∷ k0 ∷ k1 ∷ k2 ∷ k3 ∷ x ∷ more) ticks e = absurd (none_some ticks e)
+numbers_only laws [] ticks e = absurd (none_some ticks e)
+numbers_only laws (b ∷ []) ticks e = absurd (none_some ticks e)
+numbers_only laws (b ∷ k0 ∷ []) ticks e = absurd (none_some ticks e)
+numbers_only laws (b ∷ k0 ∷ k1 ∷ []) ticks e = absurd (none_some ticks e)
+numbers_only laws (b ∷ k0 ∷ k1 ∷ k2 ∷ []) ticks e = absurd (none_some ticks e)
+numbers_only laws (b ∷ k0 ∷ k1 ∷ k2 ∷ k3 ∷ []) ticks e = five_only laws b k0 k1 k2 k3 ticks e
+numbers_only laws (b ∷ k0 ∷ k1 ∷ k2 ∷ k3 ∷ x ∷ more) ticks e = absurd (none_some ticks e)
 
-pub ticks_only : (ws : Words) (ticks : ℕ × List ℕ) → ticks_said ws ≡ Some ticks
+pub ticks_only : KnownOfNumbers → (ws : Words) (ticks : ℕ × List ℕ) → ticks_said ws ≡ Some ticks
     → (ws ≡ ticks_words ticks.0 ticks.1) × AreTicks ticks
-ticks_only ws ticks e =
+ticks_only laws ws ticks e =
     let q = from_then numbers_of (after_key (codes "ticks") ws) ticks e in
-    let p = numbers_only q.value ticks q.gives in
+    let p = numbers_only laws q.value ticks q.gives in
     (key_only (codes "ticks") ws q.value q.there ∙ ap (λ vs. codes "ticks" ∷ vs) p.0, p.1)
 
-five_back : (b : ℕ) (ks : List ℕ) → length ks ≡ 4 → b < 2 ^ 64 → EachIs (λ k. k < 2 ^ 64) ks
+five_back : KnownOfNumbers → (b : ℕ) (ks : List ℕ) → length ks ≡ 4 → b < 2 ^ 64
+    → EachIs (λ k. k < 2 ^ 64) ks
     → numbers_of (decimal b ∷ map decimal ks) ≡ Some (b, ks)
 unfolding five_numbers
-five_back b [] n less all = absurd (omega (arith, n))
-five_back b (k0 ∷ []) n less all = absurd (omega (arith, n))
-five_back b (k0 ∷ k1 ∷ []) n less all = absurd (omega (arith, n))
-five_back b (k0 ∷ k1 ∷ k2 ∷ []) n less all = absurd (omega (arith, n))
-five_back b (k0 ∷ k1 ∷ k2 ∷ k3 ∷ []) n less all =
+five_back laws b [] n less all = absurd (omega (arith, n))
+five_back laws b (k0 ∷ []) n less all = absurd (omega (arith, n))
+five_back laws b (k0 ∷ k1 ∷ []) n less all = absurd (omega (arith, n))
+five_back laws b (k0 ∷ k1 ∷ k2 ∷ []) n less all = absurd (omega (arith, n))
+five_back laws b (k0 ∷ k1 ∷ k2 ∷ k3 ∷ []) n less all =
     rw (
-      number_back b less,
-      number_back k0 all.0,
-      number_back k1 all.1.0,
-      number_back k2 all.1.1.0,
-      number_back k3 all.1.1.1.0,
+      number_back laws b less,
+      number_back laws k0 all.0,
+      number_back laws k1 all.1.0,
+      number_back laws k2 all.1.1.0,
+      number_back laws k3 all.1.1.1.0,
     ) refl
-five_back b (k0 ∷ k1 ∷ k2 ∷ k3 ∷ x ∷ more) n less all = absurd (omega (arith, n))
+five_back laws b (k0 ∷ k1 ∷ k2 ∷ k3 ∷ x ∷ more) n less all = absurd (omega (arith, n))
 
-pub ticks_back : (ticks : ℕ × List ℕ) → AreTicks ticks
+pub ticks_back : KnownOfNumbers → (ticks : ℕ × List ℕ) → AreTicks ticks
     → ticks_said (ticks_words ticks.0 ticks.1) ≡ Some ticks
-ticks_back ticks good =
+ticks_back laws ticks good =
     ap (option_and_then numbers_of)
     (key_back (codes "ticks") (decimal ticks.0 ∷ map decimal ticks.1))
-    ∙ five_back ticks.0 ticks.1 good.count good.base good.coeffs
+    ∙ five_back laws ticks.0 ticks.1 good.count good.base good.coeffs
 
 -- ---- the first line of a place
 
@@ -281,9 +286,10 @@ abbrev pub first_words : ℕ → Bool → Words
 first_words n true = head_words n
 first_words n false = none_words n
 
-pub head_back : (n : ℕ) (has : Bool) → n < 2 ^ 64 → head_said n (first_words n has) ≡ Some has
-head_back n true less = rw (number_back n less, same_number n) refl
-head_back n false less = rw (number_back n less, same_number n) refl
+pub head_back : KnownOfNumbers → (n : ℕ) (has : Bool) → n < 2 ^ 64
+    → head_said n (first_words n has) ≡ Some has
+head_back laws n true less = rw (number_back laws n less, same_number n) refl
+head_back laws n false less = rw (number_back laws n less, same_number n) refl
 
 some_of : (n : ℕ) (o : Option ℕ) → is_some_of n o ≡ true → o ≡ Some n
 some_of n None t = absurd cc
@@ -301,15 +307,15 @@ row_only n word (w ∷ []) false is e =
     ∙ ap (λ (x : List ℕ). codes "row" ∷ decimal n ∷ x ∷ []) (same_text w (codes "none") q.0)
 row_only n word (w ∷ x ∷ more) has is e = absurd (none_some has e)
 
-numbered_only : (n : ℕ) (ws : Words) (has : Bool) → numbered n ws ≡ Some has
+numbered_only : KnownOfNumbers → (n : ℕ) (ws : Words) (has : Bool) → numbered n ws ≡ Some has
     → codes "row" ∷ ws ≡ first_words n has
-numbered_only n [] has e = absurd (none_some has e)
-numbered_only n (word ∷ ws) has e =
+numbered_only laws n [] has e = absurd (none_some has e)
+numbered_only laws n (word ∷ ws) has e =
     let q = from_if (is_some_of n (number_of word)) (has_row ws) has e in
-    row_only n word ws has (number_only word n (some_of n (number_of word) q.0)).0 q.1
+    row_only n word ws has (number_only laws word n (some_of n (number_of word) q.0)).0 q.1
 
-pub head_only : (n : ℕ) (ws : Words) (has : Bool) → head_said n ws ≡ Some has
+pub head_only : KnownOfNumbers → (n : ℕ) (ws : Words) (has : Bool) → head_said n ws ≡ Some has
     → ws ≡ first_words n has
-head_only n ws has e =
+head_only laws n ws has e =
     let q = from_then (numbered n) (after_key (codes "row") ws) has e in
-    key_only (codes "row") ws q.value q.there ∙ numbered_only n q.value has q.gives
+    key_only (codes "row") ws q.value q.there ∙ numbered_only laws n q.value has q.gives

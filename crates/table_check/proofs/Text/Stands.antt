@@ -23,6 +23,7 @@ use Rattle.table_check.specs.Saying.{ticks_said, head_said}
 use Rattle.table_check.specs.Passes.{Part, RowsSoFar, no_part, is_full, row_from, finished}
 use Rattle.table_check.specs.Passes.{with_head}
 use Rattle.table_check.specs.Passes.{with_line, after_words}
+use Rattle.table_check.proofs.Text.Known.{KnownOfNumbers}
 use Rattle.table_check.proofs.Text.Options.{from_then, from_map}
 use Rattle.table_check.proofs.Text.Spelled.{IsByteSet, AreRails}
 use Rattle.table_check.proofs.Text.SpelledRows.{IsKnown, AreTicks, ticks_only, first_words}
@@ -130,13 +131,14 @@ pub record Finished (b : Board) (n : ℕ) (p : Part) (ws : Words) (row : Row) : 
   pub good : IsGoodRow b row
   pub lines : place_lines b n (Some row) ≡ (head_words n ∷ part_lines b p) ++ ws ∷ []
 
-pub row_finished : (b : Board) (n : ℕ) (p : Part) (ws : Words) (row : Row) → GoodPart b p
+pub row_finished : KnownOfNumbers → (b : Board) (n : ℕ) (p : Part) (ws : Words) (row : Row)
+    → GoodPart b p
     → is_full p ≡ true → finished p ws ≡ Some row → Finished b n p ws row
 unfolding finished
-row_finished b n p ws row good full e =
+row_finished laws b n p ws row good full e =
     let q = from_then (λ (S : Set). option_map (row_from p S) (ticks_said ws)) p.good row e in
     let r = from_map (row_from p q.value) (ticks_said ws) row q.gives in
-    let t = ticks_only ws r.value r.there in
+    let t = ticks_only laws ws r.value r.there in
     rw (← r.is) (record {
       good = good_row b p q.value r.value good full q.there t.1;
       lines =
@@ -210,23 +212,25 @@ headed b rows lines false s = record {
       (s.all ∙ append-nil (lines_from b 0 rows)) ∙ sym (rows_end b rows None);
 }
 
-pub stepped : (b : Board) (rows : Table) (o : Option Part) (lines : List Words) (ws : Words)
+pub stepped : KnownOfNumbers
+    → (b : Board) (rows : Table) (o : Option Part) (lines : List Words) (ws : Words)
     (next : RowsSoFar) → IsBoard b → Stands b (record { rows = rows; part = o }) lines
     → after_words b (record { rows = rows; part = o }) o ws ≡ Some next
     → Stands b next (lines ++ ws ∷ [])
-stepped b rows None lines ws next board s e =
+stepped laws b rows None lines ws next board s e =
     let r = from_map (with_head (record { rows = rows; part = None })) (head_said (length rows) ws)
     next e in
-    let is : ws ≡ first_words (length rows) r.value = head_only (length rows) ws r.value r.there in
+    let is : ws ≡ first_words (length rows) r.value =
+    head_only laws (length rows) ws r.value r.there in
     let here = headed b rows lines r.value s in
     rw (← r.is) (subst (λ (w : Words). Stands b (with_head (record { rows = rows; part = None })
     r.value) (lines ++ w ∷ [])) (sym is) here)
-stepped b rows (Some p) lines ws next board s e =
+stepped laws b rows (Some p) lines ws next board s e =
     elim (either (is_full p) (option_map done (finished p ws)) (option_map more (with_line b p ws))
     (Some next) e) [
       | inl h ↦
           let r = from_map done (finished p ws) next h.1 in
-          let f = row_finished b (length rows) p ws r.value s.part h.0 r.there in
+          let f = row_finished laws b (length rows) p ws r.value s.part h.0 r.there in
           rw (← r.is) (record {
             rows = each_push (GoodPlace b) rows (Some r.value) s.rows f.good;
             part = tt;
@@ -235,7 +239,7 @@ stepped b rows (Some p) lines ws next board s e =
           })
       | inr h ↦
           let r = from_map more (with_line b p ws) next h.1 in
-          let l = line_added b p r.value ws board s.part h.0 r.there in
+          let l = line_added laws b p r.value ws board s.part h.0 r.there in
           rw (← r.is) (record {
             rows = s.rows;
             part = l.good;
@@ -263,15 +267,15 @@ run b pass [] = Some pass
 run b pass (ws ∷ more) =
     option_and_then (λ (next : RowsSoFar). run b next more) (after_words b pass pass.part ws)
 
-pub ran : (b : Board) (lines : List Words) (pass : RowsSoFar) (before : List Words)
-    (end : RowsSoFar)
+pub ran : KnownOfNumbers
+    → (b : Board) (lines : List Words) (pass : RowsSoFar) (before : List Words) (end : RowsSoFar)
     → IsBoard b → Stands b pass before → run b pass lines ≡ Some end
     → Stands b end (before ++ lines)
-ran b [] pass before end board s e =
+ran laws b [] pass before end board s e =
     let is : pass ≡ end = cc in rw (← is) (rw (append-nil before) s)
-ran b (ws ∷ lines) pass before end board s e =
+ran laws b (ws ∷ lines) pass before end board s e =
     let q =
     from_then (λ (next : RowsSoFar). run b next lines) (after_words b pass pass.part ws) end e in
-    let one = stepped b pass.rows pass.part before ws q.value board s q.there in
+    let one = stepped laws b pass.rows pass.part before ws q.value board s q.there in
     rw (← append_assoc before (ws ∷ []) lines)
-    (ran b lines q.value (before ++ ws ∷ []) end board one q.gives)
+    (ran laws b lines q.value (before ++ ws ∷ []) end board one q.gives)

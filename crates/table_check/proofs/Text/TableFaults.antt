@@ -24,6 +24,7 @@ use Rattle.table_check.specs.Texts.{Lines, Begins, IsWrongAt, IsFirstBadLine}
 use Rattle.table_check.specs.Passes.{Part, RowsSoFar, no_pass, parted, row_from, after_lines}
 use Rattle.table_check.specs.Passes.{whole_of}
 use Rattle.table_check.specs.Passes.{whole, table_in}
+use Rattle.table_check.proofs.Text.Known.{KnownOfNumbers}
 use Rattle.table_check.proofs.Text.Spelled.{IsByteSet, AreRails}
 use Rattle.table_check.proofs.Text.SpelledRows.{IsKnown}
 use Rattle.table_check.proofs.Text.PartLines.{GoodPart, no_items, one_longer}
@@ -96,10 +97,10 @@ last_lines b rest q =
     ++ (each_at counter_words (length q.counters) rest.counters
     ++ (ticks_words rest.ticks.0 rest.ticks.1 ∷ []))
 
-with_good : (b : Board) (rows : Table) (q : Part) (rest : Rest b) → GoodPart b q
+with_good : KnownOfNumbers → (b : Board) (rows : Table) (q : Part) (rest : Rest b) → GoodPart b q
     → q.good ≡ Some rest.set → length q.regs + length rest.regs ≡ 8
     → length q.counters + length rest.counters ≡ 4 → Completion b rows q
-with_good b rows q rest good e n m =
+with_good laws b rows q rest good e n m =
     let pages = all_pages b q rest.set good e in
     let protects = all_protects b q rest.set good e in
     record {
@@ -108,17 +109,18 @@ with_good b rows q rest good e n m =
         regs = q.regs ++ rest.regs;
         counters = q.counters ++ rest.counters;
       }) rest.set rest.ticks;
-      ran = from_registers b rows rest q (record {
+      ran = from_registers laws b rows rest q (record {
         pages = omega (arith, pages);
         protects = omega (arith, protects);
         good = e;
       }) n m [];
     }
 
-without_good : (b : Board) (rows : Table) (q : Part) (rest : Rest b) (sets : Sets b q)
+without_good : KnownOfNumbers
+    → (b : Board) (rows : Table) (q : Part) (rest : Rest b) (sets : Sets b q)
     → q.good ≡ None → q.regs ≡ [] → q.counters ≡ [] → length rest.regs ≡ 8
     → length rest.counters ≡ 4 → Completion b rows q
-without_good b rows q rest sets e e3 e4 n m = record {
+without_good laws b rows q rest sets e e3 e4 n m = record {
   more = each_at (page_words b) (length q.pages) sets.pages
       ++ (each_at (protect_words b) (length q.protects) sets.protects
       ++ (good_words b rest.set ∷ last_lines b rest q));
@@ -129,21 +131,23 @@ without_good b rows q rest sets e e3 e4 n m = record {
     regs = q.regs ++ rest.regs;
     counters = q.counters ++ rest.counters;
   }) rest.set rest.ticks;
-  ran = from_pages b rows rest q sets e e3 e4 n m [];
+  ran = from_pages laws b rows rest q sets e e3 e4 n m [];
 }
 
 no_rails : (b : Board) → AreRails b empty
 no_rails b d t = absurd cc
 
-pub completed_by : (b : Board) (rows : Table) (q : Part) (o : Option Set) → q.good ≡ o → IsBoard b
+pub completed_by : KnownOfNumbers → (b : Board) (rows : Table) (q : Part) (o : Option Set)
+    → q.good ≡ o → IsBoard b
     → GoodPart b q → Completion b rows q
 unfolding least_rest
-completed_by b rows q None e board good =
+completed_by laws b rows q None e board good =
     let e3 = good.after_good e in
     let e4 = good.after_regs (no_items q.regs 8 e3 (omega arith)) in
-    without_good b rows q (least_rest b board empty (no_rails b) 8 4) (least_sets b q good) e e3 e4
+    without_good laws b rows q (least_rest b board empty (no_rails b) 8 4)
+    (least_sets b q good) e e3 e4
     refl refl
-completed_by b rows q (Some S) e board good =
+completed_by laws b rows q (Some S) e board good =
     let rails : IfSome (Some S) (AreRails b) = rw e at good.good in
     let r = 8 - length q.regs in
     let c = 4 - length q.counters in
@@ -151,7 +155,7 @@ completed_by b rows q (Some S) e board good =
     let less = good.few_counters in
     let n = length-replicate r (zero_known) in
     let m = length-replicate c (zero_only) in
-    with_good b rows q (least_rest b board S rails r c) good e (omega (arith, n, few))
+    with_good laws b rows q (least_rest b board S rails r c) good e (omega (arith, n, few))
     (omega (arith, m, less))
   where
     zero_known : Span × Source
@@ -186,37 +190,43 @@ rows_small b lines pass small s =
     (left_lines b (length pass.rows) pass.part) in
     omega (arith, few, size, same, sum, small)
 
-begins_by : (b : Board) (lines : Lines) (rows : Table) (o : Option Part) → IsBoard b
+begins_by : KnownOfNumbers → (b : Board) (lines : Lines) (rows : Table) (o : Option Part)
+    → IsBoard b
     → length lines ≤ 2 ^ 63 → Stands b (record { rows = rows; part = o }) (cut lines)
     → Begins b lines
-begins_by b lines rows None board small s =
+begins_by laws b lines rows None board small s =
     let are = table_stands b lines rows (omega (arith, small)) s in
     record { table = rows; writable = are.0; more = []; all = sym are.1 ∙ sym (append-nil lines) }
-begins_by b lines rows (Some q) board small s =
-    let c = completed_by b rows q q.good refl board s.part in
+begins_by laws b lines rows (Some q) board small s =
+    let c = completed_by laws b rows q q.good refl board s.part in
     row_begins b lines rows c.row c.more (rows_small b lines (at rows q) small s)
-    (ran b c.more (at rows q) (cut lines) (past rows c.row) board s c.ran)
+    (ran laws b c.more (at rows q) (cut lines) (past rows c.row) board s c.ran)
 
-begins : (b : Board) (lines : Lines) (pass : RowsSoFar) → IsBoard b → length lines ≤ 2 ^ 63
+begins : KnownOfNumbers → (b : Board) (lines : Lines) (pass : RowsSoFar) → IsBoard b
+    → length lines ≤ 2 ^ 63
     → run b no_pass (cut lines) ≡ Some pass → Begins b lines
-begins b lines pass board small e =
-    begins_by b lines pass.rows pass.part board small (stands b lines pass board e)
+begins laws b lines pass board small e =
+    begins_by laws b lines pass.rows pass.part board small (stands laws b lines pass board e)
 
 -- ---- the first bad line
 
 number_is : (n m : ℕ) → BadLine n ≡ BadLine m → n ≡ m
 number_is n m e = cc
 
-wrong_at : (b : Board) (lines : Lines) (e : TableFault) → IsBoard b → length lines ≤ 2 ^ 63
+wrong_at : KnownOfNumbers → (b : Board) (lines : Lines) (e : TableFault) → IsBoard b
+    → length lines ≤ 2 ^ 63
     → (h : Stuck b 1 no_pass lines e) → IsWrongAt b lines h.before
-wrong_at b lines e board small h =
+wrong_at laws b lines e board small h =
     let less = h.less in
     let parts = ap (λ (ls : Lines). length ls) (take-append-drop h.before lines) in
     let sum = length-append (take h.before lines) (drop h.before lines) in
     record {
       there = omega (arith, less);
-      good = begins b (take h.before lines) h.next board (omega (arith, parts, sum, small)) h.good;
-      bad = λ g. never b g.table (take (suc h.before) lines) g.more board g.writable g.all h.bad;
+      good =
+          begins laws b (take h.before lines) h.next board
+          (omega (arith, parts, sum, small)) h.good;
+      bad = λ g.
+          never laws b g.table (take (suc h.before) lines) g.more board g.writable g.all h.bad;
     }
 
 abbrev failed : TableFault → Result Table TableFault
@@ -228,12 +238,13 @@ same_error e f p = cc
 ok_error : (t : Table) (e : TableFault) → Ok t ≡ Err e → ⊥
 ok_error t e p = cc
 
-whole_wrong : (b : Board) (lines : Lines) (rows : Table) (o : Option Part) (n : ℕ) → IsBoard b
+whole_wrong : KnownOfNumbers → (b : Board) (lines : Lines) (rows : Table) (o : Option Part) (n : ℕ)
+    → IsBoard b
     → length lines ≤ 2 ^ 63 → run b no_pass (cut lines) ≡ Some (record { rows = rows; part = o })
     → whole_of (length lines) (record { rows = rows; part = o }) o ≡ Err (BadLine n)
     → table_in b lines ≡ Err (BadLine n) → IsFirstBadLine b lines n
-whole_wrong b lines rows None n board small h e none = absurd (ok_error rows (BadLine n) e)
-whole_wrong b lines rows (Some q) n board small h e none =
+whole_wrong laws b lines rows None n board small h e none = absurd (ok_error rows (BadLine n) e)
+whole_wrong laws b lines rows (Some q) n board small h e none =
     let is : length lines + 1 ≡ n =
     number_is (length lines + 1) n (same_error (BadLine (length lines + 1)) (BadLine n) e) in
     record {
@@ -241,30 +252,33 @@ whole_wrong b lines rows (Some q) n board small h e none =
       number = omega (arith, is);
       first = inr (record {
         all = refl;
-        good = begins b lines (record { rows = rows; part = Some q }) board small h;
+        good = begins laws b lines (record { rows = rows; part = Some q }) board small h;
         bad = λ t are.
-            ok_error t (BadLine n) (sym (read_all b lines t board are) ∙ none);
+            ok_error t (BadLine n) (sym (read_all laws b lines t board are) ∙ none);
       });
     }
 
-wrong_by : (b : Board) (lines : Lines) (r : Result RowsSoFar TableFault) (n : ℕ) → IsBoard b
+wrong_by : KnownOfNumbers → (b : Board) (lines : Lines) (r : Result RowsSoFar TableFault) (n : ℕ)
+    → IsBoard b
     → length lines ≤ 2 ^ 63 → Linked b 1 no_pass lines r
     → (r >>= λ pass. whole (length lines) pass) ≡ Err (BadLine n)
     → table_in b lines ≡ Err (BadLine n) → IsFirstBadLine b lines n
-wrong_by b lines (Ok end) n board small h e none =
-    whole_wrong b lines end.rows end.part n board small h e none
-wrong_by b lines (Err x) n board small h e none =
+wrong_by laws b lines (Ok end) n board small h e none =
+    whole_wrong laws b lines end.rows end.part n board small h e none
+wrong_by laws b lines (Err x) n board small h e none =
     let is : 1 + h.before ≡ n =
     number_is (1 + h.before) n (sym h.is ∙ same_error x (BadLine n) e) in
     record {
       before = h.before;
       number = omega (arith, is);
-      first = inl (wrong_at b lines x board small h);
+      first = inl (wrong_at laws b lines x board small h);
     }
 
 -- the fault carries the first bad line
-pub read_wrong : (b : Board) (lines : Lines) (n : ℕ) → IsBoard b → length lines ≤ 2 ^ 63
+pub read_wrong : KnownOfNumbers → (b : Board) (lines : Lines) (n : ℕ) → IsBoard b
+    → length lines ≤ 2 ^ 63
     → table_in b lines ≡ Err (BadLine n) → IsFirstBadLine b lines n
 unfolding table_in
-read_wrong b lines n board small e =
-    wrong_by b lines (after_lines b 1 no_pass lines) n board small (linked b 1 no_pass lines) e e
+read_wrong laws b lines n board small e =
+    wrong_by laws b lines (after_lines b 1 no_pass lines) n board small
+    (linked b 1 no_pass lines) e e

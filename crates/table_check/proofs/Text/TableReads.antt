@@ -19,6 +19,7 @@ use Rattle.table_check.specs.Texts.{Lines, AreLinesOf}
 use Rattle.table_check.specs.Passes.{Part, RowsSoFar, no_pass, after_words, parted, after_line}
 use Rattle.table_check.specs.Passes.{after_lines}
 use Rattle.table_check.specs.Passes.{whole_of, whole, table_in}
+use Rattle.table_check.proofs.Text.Known.{KnownOfNumbers}
 use Rattle.table_check.proofs.Text.Options.{none_some, same_some}
 use Rattle.table_check.proofs.Text.Stands.{run, ran, Stands, GoodPlace}
 use Rattle.table_check.proofs.Text.TableRuns.{between, table_taken}
@@ -135,9 +136,9 @@ writable b t all small =
 pub start : (b : Board) → Stands b no_pass []
 start b = record { rows = tt; part = tt; all = refl }
 
-pub stands : (b : Board) (lines : Lines) (end : RowsSoFar) → IsBoard b
+pub stands : KnownOfNumbers → (b : Board) (lines : Lines) (end : RowsSoFar) → IsBoard b
     → run b no_pass (cut lines) ≡ Some end → Stands b end (cut lines)
-stands b lines end board e = ran b (cut lines) no_pass [] end board (start b) e
+stands laws b lines end board e = ran laws b (cut lines) no_pass [] end board (start b) e
 
 pub table_stands : (b : Board) (lines : Lines) (rows : Table) → length lines < 2 ^ 64
     → Stands b (between rows) (cut lines) → AreLinesOf b rows lines
@@ -159,19 +160,21 @@ whole_is b lines rows None t small s e =
     let same : rows ≡ t = cc in rw (← same) (table_stands b lines rows small s)
 whole_is b lines rows (Some p) t small s e = absurd cc
 
-read_is : (b : Board) (lines : Lines) (r : Result RowsSoFar TableFault) (t : Table) → IsBoard b
+read_is : KnownOfNumbers → (b : Board) (lines : Lines) (r : Result RowsSoFar TableFault) (t : Table)
+    → IsBoard b
     → length lines < 2 ^ 64 → Linked b 1 no_pass lines r
     → (r >>= λ pass. whole (length lines) pass) ≡ Ok t → AreLinesOf b t lines
-read_is b lines (Ok end) t board small h e =
-    whole_is b lines end.rows end.part t small (stands b lines end board h) e
-read_is b lines (Err x) t board small h e = absurd cc
+read_is laws b lines (Ok end) t board small h e =
+    whole_is b lines end.rows end.part t small (stands laws b lines end board h) e
+read_is laws b lines (Err x) t board small h e = absurd cc
 
 -- what is read are the lines of the table
-pub read_only : (b : Board) (lines : Lines) (t : Table) → IsBoard b → length lines < 2 ^ 64
+pub read_only : KnownOfNumbers → (b : Board) (lines : Lines) (t : Table) → IsBoard b
+    → length lines < 2 ^ 64
     → table_in b lines ≡ Ok t → AreLinesOf b t lines
 unfolding table_in
-read_only b lines t board small e =
-    read_is b lines (after_lines b 1 no_pass lines) t board small (linked b 1 no_pass lines) e
+read_only laws b lines t board small e =
+    read_is laws b lines (after_lines b 1 no_pass lines) t board small (linked b 1 no_pass lines) e
 
 pub cut_lines : (b : Board) (t : Table) (lines more : Lines) → IsBoard b → IsWritable b t
     → table_lines b t ≡ lines ++ more → lines_from b 0 t ≡ cut lines ++ cut more
@@ -179,36 +182,40 @@ cut_lines b t lines more board w e =
     sym (lines_back (lines_from b 0 t) (table_are_lines b t board w)) ∙ ap cut e
     ∙ map-append parted lines more
 
-pub lines_taken : (b : Board) (t : Table) (lines more : Lines) → IsBoard b → IsWritable b t
+pub lines_taken : KnownOfNumbers → (b : Board) (t : Table) (lines more : Lines) → IsBoard b
+    → IsWritable b t
     → table_lines b t ≡ lines ++ more
     → run b no_pass (cut lines ++ cut more) ≡ Some (between t)
-lines_taken b t lines more board w e =
+lines_taken laws b t lines more board w e =
     ap (run b no_pass) (sym (append-nil (cut lines ++ cut more))
     ∙ ap (λ (ls : List Words). ls ++ []) (sym (cut_lines b t lines more board w e)))
-    ∙ table_taken b t [] board w
+    ∙ table_taken laws b t [] board w
 
 -- no table's lines begin so
-pub never : (b : Board) (t : Table) (lines more : Lines) → IsBoard b → IsWritable b t
+pub never : KnownOfNumbers → (b : Board) (t : Table) (lines more : Lines) → IsBoard b
+    → IsWritable b t
     → table_lines b t ≡ lines ++ more → run b no_pass (cut lines) ≡ None → ⊥
-never b t lines more board w e none =
+never laws b t lines more board w e none =
     none_some (between t) (sym (stuck b (cut lines) (cut more) no_pass none)
-    ∙ lines_taken b t lines more board w e)
+    ∙ lines_taken laws b t lines more board w e)
 
-read_of : (b : Board) (lines : Lines) (r : Result RowsSoFar TableFault) (t : Table) → IsBoard b
+read_of : KnownOfNumbers → (b : Board) (lines : Lines) (r : Result RowsSoFar TableFault) (t : Table)
+    → IsBoard b
     → Linked b 1 no_pass lines r → AreLinesOf b t lines
     → (r >>= λ pass. whole (length lines) pass) ≡ Ok t
-read_of b lines (Ok end) t board h are =
-    let taken = lines_taken b t lines [] board are.0 (sym are.1 ∙ sym (append-nil lines)) in
+read_of laws b lines (Ok end) t board h are =
+    let taken = lines_taken laws b t lines [] board are.0 (sym are.1 ∙ sym (append-nil lines)) in
     let is : Some (between t) ≡ Some end =
     sym taken ∙ ap (run b no_pass) (append-nil (cut lines)) ∙ h in
     rw (← same_some (between t) end is) refl
-read_of b lines (Err x) t board h are =
-    absurd (never b t (take (suc h.before) lines) (drop (suc h.before) lines) board are.0
+read_of laws b lines (Err x) t board h are =
+    absurd (never laws b t (take (suc h.before) lines) (drop (suc h.before) lines) board are.0
     (sym are.1 ∙ sym (take-append-drop (suc h.before) lines)) h.bad)
 
 -- the lines of a table are read as the table
-pub read_all : (b : Board) (lines : Lines) (t : Table) → IsBoard b → AreLinesOf b t lines
+pub read_all : KnownOfNumbers → (b : Board) (lines : Lines) (t : Table) → IsBoard b
+    → AreLinesOf b t lines
     → table_in b lines ≡ Ok t
 unfolding table_in
-read_all b lines t board are =
-    read_of b lines (after_lines b 1 no_pass lines) t board (linked b 1 no_pass lines) are
+read_all laws b lines t board are =
+    read_of laws b lines (after_lines b 1 no_pass lines) t board (linked b 1 no_pass lines) are

@@ -20,6 +20,7 @@ use Rattle.table_check.specs.Lines.{place_lines, lines_from}
 use Rattle.table_check.specs.Writable.{HasValue, IsShapedRow, IsTypedRow, IsOfKind, IsWordSpan}
 use Rattle.table_check.specs.Writable.{IsWritable}
 use Rattle.table_check.specs.Passes.{RowsSoFar, no_part, no_pass, row_from, with_head}
+use Rattle.table_check.proofs.Text.Known.{KnownOfNumbers}
 use Rattle.table_check.proofs.Text.Spelled.{IsByteSet}
 use Rattle.table_check.proofs.Text.SpelledRows.{IsKnown, first_words, head_back}
 use Rattle.table_check.proofs.Text.PartLines.{one_longer}
@@ -146,43 +147,47 @@ same_row b r good =
 abbrev pub between : Table → RowsSoFar
 between rows = record { rows = rows; part = None }
 
-head_taken : (b : Board) (done : Table) (n : ℕ) (has : Bool) (more : List Words) → n ≡ length done
+head_taken : KnownOfNumbers → (b : Board) (done : Table) (n : ℕ) (has : Bool) (more : List Words)
+    → n ≡ length done
     → n < 2 ^ 64
     → run b (between done) (first_words n has ∷ more) ≡ run b (with_head (between done) has) more
-head_taken b done n has more e less = rw (← e) (rw (head_back n has less) refl)
+head_taken laws b done n has more e less = rw (← e) (rw (head_back laws n has less) refl)
 
-row_taken : (b : Board) (done : Table) (n : ℕ) (r : Row) (more : List Words) → IsBoard b
+row_taken : KnownOfNumbers → (b : Board) (done : Table) (n : ℕ) (r : Row) (more : List Words)
+    → IsBoard b
     → n ≡ length done → n < 2 ^ 64 → IsGoodRow b r
     → run b (between done) (place_lines b n (Some r) ++ more)
     ≡ run b (between (done ++ Some r ∷ [])) more
 unfolding rest_of sets_of
-row_taken b done n r more board e less good =
+row_taken laws b done n r more board e less good =
     let n8 = good.0.reg_count in
     let m8 = good.0.source_count in
     let count = pairs r.regs r.sources (omega (arith, n8, m8)) in
     ap (λ ls. run b (between done) (head_words n ∷ ls)) (regrouped _ _ _ _ more _ _)
-    ∙ head_taken b done n true _ e less
-    ∙ from_pages b done (rest_of b r board good) no_part (sets_of b r good) refl refl refl
+    ∙ head_taken laws b done n true _ e less
+    ∙ from_pages laws b done (rest_of b r board good) no_part (sets_of b r good) refl refl refl
     (omega (arith, count, n8)) good.0.counter_count more
     ∙ ap (λ row. run b (past done row) more) (same_row b r good)
 
-rows_taken : (b : Board) (rows done : Table) (n : ℕ) (more : List Words) → IsBoard b
+rows_taken : KnownOfNumbers → (b : Board) (rows done : Table) (n : ℕ) (more : List Words)
+    → IsBoard b
     → n ≡ length done → n + length rows < 2 ^ 64 → AllByRecursion (GoodPlace b) rows
     → run b (between done) (lines_from b n rows ++ more) ≡ run b (between (done ++ rows)) more
-rows_taken b [] done n more board e few all =
+rows_taken laws b [] done n more board e few all =
     ap (λ rows. run b (between rows) more) (sym (append-nil done))
-rows_taken b (None ∷ rows) done n more board e few all =
+rows_taken laws b (None ∷ rows) done n more board e few all =
     let size = one_longer done None in
-    head_taken b done n false (lines_from b (n + 1) rows ++ more) e (omega (arith, few))
-    ∙ rows_taken b rows (done ++ None ∷ []) (n + 1) more board (omega (arith, e, size))
+    head_taken laws b done n false (lines_from b (n + 1) rows ++ more) e (omega (arith, few))
+    ∙ rows_taken laws b rows (done ++ None ∷ []) (n + 1) more board (omega (arith, e, size))
     (omega (arith, few)) all.1
     ∙ ap (λ rows. run b (between rows) more) (append_assoc done (None ∷ []) rows)
-rows_taken b (Some r ∷ rows) done n more board e few all =
+rows_taken laws b (Some r ∷ rows) done n more board e few all =
     let size = one_longer done (Some r) in
     ap (λ ls. run b (between done) ls)
     (append_assoc (place_lines b n (Some r)) (lines_from b (n + 1) rows) more)
-    ∙ row_taken b done n r (lines_from b (n + 1) rows ++ more) board e (omega (arith, few)) all.0
-    ∙ rows_taken b rows (done ++ Some r ∷ []) (n + 1) more board (omega (arith, e, size))
+    ∙ row_taken laws b done n r (lines_from b (n + 1) rows ++ more) board e
+    (omega (arith, few)) all.0
+    ∙ rows_taken laws b rows (done ++ Some r ∷ []) (n + 1) more board (omega (arith, e, size))
     (omega (arith, few)) all.1
     ∙ ap (λ rows. run b (between rows) more) (append_assoc done (Some r ∷ []) rows)
 
@@ -199,8 +204,9 @@ good_places b t w =
     (recursion_from_All (λ row. IfSome row IsTypedRow) t w.1.rows)
 
 -- all of a table, and what follows
-pub table_taken : (b : Board) (t : Table) (more : List Words) → IsBoard b → IsWritable b t
+pub table_taken : KnownOfNumbers → (b : Board) (t : Table) (more : List Words) → IsBoard b
+    → IsWritable b t
     → run b no_pass (lines_from b 0 t ++ more) ≡ run b (between t) more
-table_taken b t more board w =
+table_taken laws b t more board w =
     let few = w.1.few in
-    rows_taken b t [] 0 more board refl (omega (arith, few)) (good_places b t w)
+    rows_taken laws b t [] 0 more board refl (omega (arith, few)) (good_places b t w)

@@ -10,7 +10,7 @@ use Rattle.std.proofs.lemmas.List.{append_assoc, append-nil}
 use Rattle.texts.specs.Words.{lines_by_feed}
 use Rattle.board.specs.Boards.{Board}
 use Rattle.board.specs.Valid.{IsBoard}
-use Rattle.seq_program.proofs.JoinedWords.{is_word, lines_back}
+use Rattle.seq_program.specs.JoinedWords.{is_word, LinesReadBack}
 use Rattle.table_check.specs.declared.fault.TableFault.{TableFault}
 use Rattle.table_check.specs.Tables.{Table}
 use Rattle.table_check.specs.Lines.{Words, lines_from, line_of, ended, table_text, head_words}
@@ -19,6 +19,7 @@ use Rattle.table_check.specs.Texts.{IsTextOf}
 use Rattle.table_check.specs.TextLaws.{TextsHaveOneTable, TablesHaveTexts, BoardsHaveTables}
 use Rattle.table_check.specs.Written.{all_spaced, line_text, text_of}
 use Rattle.table_check.specs.Passes.{no_part}
+use Rattle.table_check.proofs.Text.Known.{KnownOfNumbers}
 use Rattle.table_check.proofs.Text.Stands.{ran, Stands, nothing_read}
 use Rattle.table_check.proofs.Text.Fills.{at, past}
 use Rattle.table_check.proofs.Text.LineWords.{IsLine, table_are_lines}
@@ -65,17 +66,17 @@ all_words : (wss : List Words) → AllByRecursion IsLine wss
 all_words [] all = refl
 all_words (words ∷ wss) all = and_from _ _ (line_words words all.0) (all_words wss all.1)
 
-pub written_back : TablesHaveTexts
-written_back b t board w = (
+pub written_back : LinesReadBack → TablesHaveTexts
+written_back lines b t board w = (
   w,
   ap lines_by_feed (sym (together (lines_from b 0 t)))
-      ∙ lines_back (lines_from b 0 t)
+      ∙ lines (lines_from b 0 t)
       (all_words (lines_from b 0 t) (table_are_lines b t board w)),
 )
 
-pub text_read : (b : Board) (t : Table) (text : List ℕ) → IsBoard b → IsShaped b t
+pub text_read : LinesReadBack → (b : Board) (t : Table) (text : List ℕ) → IsBoard b → IsShaped b t
     → text ≡ table_text b t → IsTyped t → IsTextOf b t text
-text_read b t text board shaped e typed = rw e (written_back b t board (shaped, typed))
+text_read lines b t text board shaped e typed = rw e (written_back lines b t board (shaped, typed))
 
 -- ---- one table
 
@@ -85,19 +86,20 @@ read t = Ok t
 same_table : (t u : Table) → read t ≡ read u → t ≡ u
 same_table t u e = cc
 
-pub one_table : TextsHaveOneTable
-one_table b t u text board p q =
-    same_table t u (sym (read_all b (lines_by_feed text) t board p)
-    ∙ read_all b (lines_by_feed text) u board q)
+pub one_table : KnownOfNumbers → TextsHaveOneTable
+one_table laws b t u text board p q =
+    same_table t u (sym (read_all laws b (lines_by_feed text) t board p)
+    ∙ read_all laws b (lines_by_feed text) u board q)
 
 -- ---- some table
 
-pub some_table : BoardsHaveTables
-some_table b board =
-    let c = completed_by b [] no_part None refl board (nothing_read b) in
+pub some_table : KnownOfNumbers → LinesReadBack → BoardsHaveTables
+some_table laws lines b board =
+    let c = completed_by laws b [] no_part None refl board (nothing_read b) in
     let before : Stands b (at [] no_part) (head_words 0 ∷ []) =
     record { rows = tt; part = nothing_read b; all = refl } in
-    let s = ran b c.more (at [] no_part) (head_words 0 ∷ []) (past [] c.row) board before c.ran in
+    let s =
+    ran laws b c.more (at [] no_part) (head_words 0 ∷ []) (past [] c.row) board before c.ran in
     let t : Table = Some c.row ∷ [] in
     let w : IsWritable b t = writable b t s.rows (lit< tt) in
     record {
@@ -105,7 +107,7 @@ some_table b board =
       row = c.row;
       first = refl;
       text = table_text b t;
-      is = written_back b t board w;
+      is = written_back lines b t board w;
     }
 
 -- ---- what a writer returned
@@ -119,9 +121,9 @@ pub text_written : (b : Board) (t : Table) (r : Answer)
 text_written b t (Ok text) e = e ∙ text_is b t
 text_written b t (Err x) e = tt
 
-pub reads_written : (b : Board) (t : Table) (r : Answer) → IsBoard b → IsShaped b t
+pub reads_written : LinesReadBack → (b : Board) (t : Table) (r : Answer) → IsBoard b → IsShaped b t
     → IsTyped t → IfOk r (λ text. string_bytes text ≡ text_of (lines_from b 0 t))
     → IfOk r (λ text. IsTextOf b t (string_bytes text))
-reads_written b t (Ok text) board shaped typed e =
-    text_read b t (string_bytes text) board shaped (e ∙ text_is b t) typed
-reads_written b t (Err x) board shaped typed e = tt
+reads_written lines b t (Ok text) board shaped typed e =
+    text_read lines b t (string_bytes text) board shaped (e ∙ text_is b t) typed
+reads_written lines b t (Err x) board shaped typed e = tt

@@ -8,5 +8,6 @@ returns-clause-text c =
 
 pub returns-clause-read : goal.returns-clause-read
 returns-clause-read c =
-    reads_written c.args.board.now (table_view c.args.table.now) c.written.result
+    reads_written c.lines_read_back.ensures c.args.board.now
+    (table_view c.args.table.now) c.written.result
     c.is_board.ensures c.requires c.is_typed.ensures c.written.ensures
