@@ -2,7 +2,7 @@ pub mod Feeds
 pub mod CountedNames
 pub mod JudgedRuns
 pub mod EndedRuns
-pub mod CountedLines
+pub mod LongerRuns
 pub mod Replayed
 pub mod FoundAnswers
 pub mod Places

@@ -1,12 +1,11 @@
 -- A run that is done step by step, of which nothing is kept but the last machine.
 use Rattle.std.proofs.Common.{◌≡◌, ◌≤◌, ◌<◌, ◌^◌, drop, ◌+◌, ℕ, List, [], ◌∷◌, ◌++◌, length, take}
 use Rattle.std.proofs.Common.{slice_get}
-use Rattle.std.proofs.Common.{slice_index_or, Some, All, zero, suc, refl, sym, ap, subst, ◌∙◌}
+use Rattle.std.proofs.Common.{Some, All, zero, suc, refl, ap, subst, ◌∙◌}
 use Rattle.std.proofs.Common.{length-drop, arith}
 use native.Mathlib.Numerals.{unary_clauses}
 use Rattle.std.proofs.lemmas.List.{take_all}
-use Rattle.std.proofs.lemmas.List.Elements.{All-from_recursion}
-use Rattle.std.proofs.lemmas.Option.{slice_get_within, get_or_from_slice_get}
+use Rattle.std.proofs.lemmas.List.Elements.{All-append, All-from_recursion}
 use Rattle.smbus.specs.Answered.{Answered}
 use Rattle.targets.specs.States.{IsStart}
 use Rattle.simulator.specs.declared.fault.RunFault.{RunFault}
@@ -15,7 +14,7 @@ use Rattle.simulator.specs.Faults.{most_ticks, IsStepFault, FailsAt}
 use Rattle.simulator.specs.Machines.{Machine, Entry, start_at, IsMachine}
 use Rattle.simulator.specs.Steps.{IsRun, total_ticks}
 use Rattle.simulator.specs.Traces.{Trace, IsSeen}
-use Rattle.simulator.proofs.Runs.{next_run, seen_more, sum_more, fails_here}
+use Rattle.diagnostics.proofs.LongerRuns.{next_run, ticks_more}
 use Rattle.diagnostics.specs.Runs.{IsNextStep}
 use Rattle.session.specs.declared.scenario.Scenario.{Scenario}
 use Rattle.session.specs.Scenarios.{start_of, IsRunOf, IsFaultOf}
@@ -46,11 +45,6 @@ nothing_done s m is machine left all few = record {
   few = few;
 }
 
-pub at_place : (answers : List Answered) (index : ℕ) (a : Answered)
-    → slice_get answers index ≡ Some a
-    → a ≡ slice_index_or answers index a
-at_place answers index a here = sym (get_or_from_slice_get answers index a a here)
-
 -- the first of the answers that are left
 pub record IsNext (answers : List Answered) (index : ℕ) (a : Answered)
     (later : List Answered) : Type 0 where
@@ -78,11 +72,11 @@ one_more s left later index ticks m next a e h first n =
       entries = h.entries ++ e ∷ [];
       run =
           next_run s.board s.program (start_at (start_of s)) m next answers h.entries index a e
-          (slice_get_within answers index a at.here) (at_place answers index a at.here) h.run
-          n.step;
+          at.here h.run n.step;
       machine = n.machine;
-      seen = seen_more h.entries e h.seen n.seen;
-      sum = sum_more h.entries e ticks e.ticks h.sum refl;
+      seen = All-append IsSeen h.entries (e ∷ []) h.seen
+          (All-from_recursion IsSeen (e ∷ []) (n.seen, tt));
+      sum = ticks_more h.entries e ticks h.sum;
       few_ticks = n.within;
       rest = at.rest;
       few = h.few;
@@ -103,9 +97,16 @@ pub fails : (s : Scenario) (left later : List Answered) (index ticks : ℕ) (m :
 fails s left later index ticks m a fault h first start why =
     let answers = s.answers.answers in
     let at = next_is answers index a later (h.rest ∙ first) in
-    is_fault s fault start (fails_here s.board s.program (start_at (start_of s)) m answers h.entries
-    index ticks a fault h.run h.sum h.few_ticks (slice_get_within answers index a at.here)
-    (at_place answers index a at.here) why)
+    is_fault s fault start (record {
+      index = index;
+      entries = h.entries;
+      reached = m;
+      run = h.run;
+      within = subst (λ (n : ℕ). n ≤ most_ticks) h.sum h.few_ticks;
+      answer = a;
+      here = at.here;
+      why = subst (λ (n : ℕ). IsStepFault s.board s.program m a n index fault) h.sum why;
+    })
 
 pub ends : (s : Scenario) (left : List Answered) (index ticks : ℕ) (m : Machine)
     → IsReplayed s left index ticks m → left ≡ [] → IsStart s.board (start_of s)

@@ -1,5 +1,6 @@
 pub mod Transfers
 pub mod Fronts
+pub mod LongerRuns
 pub mod Told
 pub mod Reported
 pub mod GaveUp

@@ -1,12 +1,11 @@
 -- A run that is told step by step.
 use Rattle.std.proofs.Common.{◌≡◌, ◌≤◌, ◌<◌, ◌^◌, drop, ◌+◌, ℕ, List, [], ◌∷◌, ◌++◌, length, take}
 use Rattle.std.proofs.Common.{slice_get}
-use Rattle.std.proofs.Common.{slice_index_or, Some, All, zero, suc, refl, sym, ap, subst, ◌∙◌}
+use Rattle.std.proofs.Common.{Some, All, zero, suc, refl, ap, subst, ◌∙◌}
 use Rattle.std.proofs.Common.{length-drop, arith}
 use native.Mathlib.Numerals.{unary_clauses}
 use Rattle.std.proofs.lemmas.List.{take_all}
-use Rattle.std.proofs.lemmas.List.Elements.{All-from_recursion}
-use Rattle.std.proofs.lemmas.Option.{slice_get_within, get_or_from_slice_get}
+use Rattle.std.proofs.lemmas.List.Elements.{All-append, All-from_recursion}
 use Rattle.smbus.specs.Answered.{Answered}
 use Rattle.targets.specs.States.{IsStart}
 use Rattle.simulator.specs.declared.fault.RunFault.{RunFault}
@@ -15,7 +14,7 @@ use Rattle.simulator.specs.Faults.{most_ticks, IsStepFault, FailsAt}
 use Rattle.simulator.specs.Machines.{Machine, Entry, start_at, IsMachine}
 use Rattle.simulator.specs.Steps.{IsStep, IsRun, total_ticks}
 use Rattle.simulator.specs.Traces.{Trace, IsSeen}
-use Rattle.simulator.proofs.Runs.{next_run, seen_more, sum_more, fails_here}
+use Rattle.session.proofs.LongerRuns.{next_run, ticks_more}
 use Rattle.session.specs.declared.scenario.Scenario.{Scenario}
 use Rattle.session.specs.declared.report.Report.{Report}
 use Rattle.session.specs.declared.report.Telling.{Telling}
@@ -62,10 +61,6 @@ pub record IsNextStep (s : Scenario) (ticks : ℕ) (m : Machine) (a : Answered) 
   pub seen : IsSeen e
   pub within : ticks + e.ticks ≤ most_ticks
 
-at_place : (answers : List Answered) (index : ℕ) (a : Answered) → slice_get answers index ≡ Some a
-    → a ≡ slice_index_or answers index a
-at_place answers index a here = sym (get_or_from_slice_get answers index a a here)
-
 -- the first of the answers that are left
 record IsNext (answers : List Answered) (index : ℕ) (a : Answered)
     (later : List Answered) : Type 0 where
@@ -96,10 +91,11 @@ told_more telling s index ticks m next old new a e h here n more =
       entries = h.entries ++ e ∷ [];
       run =
           next_run s.board s.program (start_at (start_of s)) m next answers h.entries index a e
-          (slice_get_within answers index a here) (at_place answers index a here) h.run n.step;
+          here h.run n.step;
       machine = n.machine;
-      seen = seen_more h.entries e h.seen n.seen;
-      sum = sum_more h.entries e ticks e.ticks h.sum refl;
+      seen = All-append IsSeen h.entries (e ∷ []) h.seen
+          (All-from_recursion IsSeen (e ∷ []) (n.seen, tt));
+      sum = ticks_more h.entries e ticks h.sum;
       few = n.within;
       told = more telling h.entries h.told;
     }
@@ -142,10 +138,16 @@ pub told_fault : (telling : Telling) (s : Scenario) (index ticks : ℕ) (m : Mac
     → slice_get s.answers.answers index ≡ Some a → IsStart s.board (start_of s)
     → IsStepFault s.board s.program m a ticks index fault → IsFaultOf s fault
 told_fault telling s index ticks m report a fault h here start why =
-    let answers = s.answers.answers in
-    is_fault s fault start (fails_here s.board s.program (start_at (start_of s)) m answers h.entries
-    index ticks a fault h.run h.sum h.few (slice_get_within answers index a here)
-    (at_place answers index a here) why)
+    is_fault s fault start (record {
+      index = index;
+      entries = h.entries;
+      reached = m;
+      run = h.run;
+      within = subst (λ (n : ℕ). n ≤ most_ticks) h.sum h.few;
+      answer = a;
+      here = here;
+      why = subst (λ (n : ℕ). IsStepFault s.board s.program m a n index fault) h.sum why;
+    })
 
 pub told_to_more : (telling : Telling) (s : Scenario) (left later : List Answered)
     (index ticks : ℕ) (m next : Machine) (old new : Report) (a : Answered) (e : Entry)

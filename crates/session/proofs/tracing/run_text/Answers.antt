@@ -1,11 +1,19 @@
-use Rattle.std.proofs.Common.{◌≡◌, ap, ◌∙◌, string_bytes}
+use Rattle.std.proofs.Common.{◌≡◌, ◌≢◌, Result, Ok, Err, IfErr, sym, subst, ap, ◌∙◌, string_bytes}
+use Rattle.std.specs.Result.{IsErrAnd}
 use Rattle.targets.specs.States.{IsStart}
 use Rattle.simulator.specs.Machines.{Machine, Entry}
-use Rattle.simulator.proofs.Runs.{passed_on}
+use Rattle.simulator.specs.declared.fault.RunFault.{RunFault}
+use Rattle.simulator.specs.declared.fault.RunFault.TheVariants.{Memory}
 use Rattle.bundles.specs.Answers.{Answers}
 use Rattle.session.specs.Scenarios.{start_of, IsFaultOf}
 use Rattle.session.proofs.Told.{told_to_more, told_to_end, told_to_fault}
 use Rattle.session.proofs.tracing.run_text.Goals as goal
+
+-- a fault that is passed on
+passed_on : {T : Type 0} (r : Result T RunFault) (f : RunFault) (P : RunFault → Type 0)
+    → IsErrAnd r (λ e. e ≡ f) → (f ≢ Memory → P f) → IfErr r (λ e. e ≢ Memory → P e)
+passed_on (Ok t) f P is p = tt
+passed_on (Err e) f P is p = λ real. subst P (sym is) (p (λ none. real (is ∙ none)))
 
 pub loop-report-preserved : goal.loop-report-preserved
 loop-report-preserved c =
