@@ -1,4 +1,5 @@
 use super::known::{Counted, Known, row_of, rule_board};
+use crate::expected::same;
 use board::Board;
 use facts::Source::{self, Page, Protect, Status};
 use facts::{Part, Row, duty, edges};
@@ -30,27 +31,38 @@ fn is_same(row: &Row, other: &Row) -> bool {
     row.covers(other) && other.covers(row) && row.base == other.base && row.coeffs == other.coeffs
 }
 
-/// Whether an instruction leads from what is known to these places and what is known there.
+/// A place, and what is known there.
+type Reached = (usize, Known, Counted);
+
+/// Whether an edge leads to a place where this is known.
+fn reaches(alloc: Global, edge: &(usize, Row, u64), want: Reached) -> Result<bool, Fail> {
+    let (place, known, counted) = want;
+    let row = row_of(alloc, known, counted)?;
+    Ok(edge.0 == place && is_same(&edge.1, &row))
+}
+
+fn all_reach(alloc: Global, edges: &[(usize, Row, u64)], wanted: &[Reached]) -> Result<bool, Fail> {
+    for (edge, want) in edges.iter().zip(wanted) {
+        if !reaches(alloc, edge, *want)? {
+            return Ok(false);
+        }
+    }
+    Ok(edges.len() == wanted.len())
+}
+
+/// Tries that an instruction leads from what is known to these places and what is known there.
 pub(super) fn leads(
+    rt: &impl Abort,
     alloc: Global,
     board: &Board,
     line: &str,
     before: (Known, Counted),
-    after: &[(usize, Known, Counted)],
-) -> Result<bool, Fail> {
+    after: &[Reached],
+) -> Result<(), Fail> {
     let row = row_of(alloc, before.0, before.1)?;
     let found = edges_of(alloc, board, line, &row)?.ok_or("a duty isn't met")?;
-    if found.len() != after.len() {
-        return Ok(false);
-    }
-    for i in 0..found.len() {
-        let (place, known, counted) = after[i];
-        let wanted = row_of(alloc, known, counted)?;
-        if found[i].0 != place || !is_same(&found[i].1, &wanted) {
-            return Ok(false);
-        }
-    }
-    Ok(true)
+    same(rt, (line, all_reach(alloc, &found, after)?), (line, true));
+    Ok(())
 }
 
 /// Nothing is counted.
@@ -60,8 +72,8 @@ pub(super) const UNCOUNTED: Counted = ((0, 0), 7, 3);
 /// other one.
 type Sent = (&'static str, Known, Known, Known);
 
-/// What is written to PAGE, and to WRITE_PROTECT.
-const PAGES: [Sent; 5] = [
+static MESSAGES: [Sent; 17] = [
+    // what is written to PAGE, and to WRITE_PROTECT
     (
         "write a PAGE 1",
         (&[0], &[0], &[], (0, 0), Page(0)),
@@ -92,10 +104,7 @@ const PAGES: [Sent; 5] = [
         (&[0], &[0x80], &[], (0, 0), Page(0)),
         (&[0], &[0, 0x40, 0x80], &[], (0, 0), Page(0)),
     ),
-];
-
-/// What is written to OPERATION.
-const OPERATIONS: [Sent; 5] = [
+    // what is written to OPERATION
     (
         "write a OPERATION 0x00",
         (&[0], &[0], &[0, 1, 2], (0, 0), Status(0)),
@@ -126,10 +135,7 @@ const OPERATIONS: [Sent; 5] = [
         (&[255], &[0], &[1], (0, 0), Status(1)),
         (&[255], &[0], &[1], (0, 0), Status(1)),
     ),
-];
-
-/// Reads of STATUS_WORD.
-const REPORTS: [Sent; 4] = [
+    // reads of STATUS_WORD
     (
         "read a STATUS_WORD r0",
         (&[0], &[0], &[0, 1, 2], (5, 5), Page(0)),
@@ -154,10 +160,7 @@ const REPORTS: [Sent; 4] = [
         (&[2], &[0], &[0, 1, 2], (1, 4096), NO),
         (&[2], &[0], &[0, 1, 2], (0, 0), Status(2)),
     ),
-];
-
-/// Reads of PAGE and WRITE_PROTECT.
-const STORED: [Sent; 3] = [
+    // reads of PAGE and WRITE_PROTECT
     (
         "read a PAGE r0",
         (&[0, 2], &[0], &[], (5, 5), Status(1)),
@@ -178,54 +181,25 @@ const STORED: [Sent; 3] = [
     ),
 ];
 
-fn sends(
-    alloc: Global,
-    board: &Board,
-    line: &str,
-    before: Known,
-    ways: (Known, Known),
-) -> Result<bool, Fail> {
+fn sends(rt: &impl Abort, alloc: Global, board: &Board, sent: Sent) -> Result<(), Fail> {
+    let (line, before, done, otherwise) = sent;
     let text = format!(in alloc; "{line} else x")?;
-    let after = [(1, ways.0, UNCOUNTED), (2, ways.1, UNCOUNTED)];
-    leads(alloc, board, &text, (before, UNCOUNTED), &after)
+    let after = [(1, done, UNCOUNTED), (2, otherwise, UNCOUNTED)];
+    leads(rt, alloc, board, &text, (before, UNCOUNTED), &after)
 }
 
-fn compare(rt: &impl Abort, alloc: Global, board: &Board, rows: &[Sent]) -> Result<(), Fail> {
-    for (line, before, done, otherwise) in rows {
-        let is_so = sends(alloc, board, line, *before, (*done, *otherwise))?;
-        assert!(rt; is_so, "{line}");
+fn all_send(rt: &impl Abort, alloc: Global, rows: &[Sent]) -> Result<(), Fail> {
+    let board = rule_board(alloc)?;
+    for sent in rows {
+        sends(rt, alloc, &board, *sent)?;
     }
     Ok(())
-}
-
-#[test]
-fn edges_of_page_writes(rt: HostRuntime) -> Result<(), Fail> {
-    let board = rule_board(rt.alloc())?;
-    compare(&rt, rt.alloc(), &board, &PAGES)
-}
-
-#[test]
-fn edges_of_operations(rt: HostRuntime) -> Result<(), Fail> {
-    let board = rule_board(rt.alloc())?;
-    compare(&rt, rt.alloc(), &board, &OPERATIONS)
-}
-
-#[test]
-fn edges_of_reports(rt: HostRuntime) -> Result<(), Fail> {
-    let board = rule_board(rt.alloc())?;
-    compare(&rt, rt.alloc(), &board, &REPORTS)
-}
-
-#[test]
-fn edges_of_stored_reads(rt: HostRuntime) -> Result<(), Fail> {
-    let board = rule_board(rt.alloc())?;
-    compare(&rt, rt.alloc(), &board, &STORED)
 }
 
 /// Messages that return a number, and the numbers. The register equals nothing then.
 type Load = (&'static str, (u16, u16));
 
-const LOADS: [Load; 6] = [
+static LOADS: [Load; 6] = [
     ("read a OPERATION r0", (0, 255)),
     ("receive a r0", (3, 9)),
     ("call a D0 1 r0", (256, 4096)),
@@ -235,7 +209,7 @@ const LOADS: [Load; 6] = [
 ];
 
 /// Messages after which nothing else is known.
-const UNCHANGING: [&str; 5] = [
+static UNCHANGING: [&str; 5] = [
     "quick a r",
     "send a CLEAR_FAULTS",
     "write a OPERATION 0x80",
@@ -248,38 +222,28 @@ fn with_register(ends: (u16, u16), source: Source) -> Known {
     (&[0], &[0], &[0, 1, 2], ends, source)
 }
 
-fn compare_loads(rt: &impl Abort, alloc: Global, board: &Board, rows: &[Load]) -> Result<(), Fail> {
+fn all_load(rt: &impl Abort, alloc: Global, rows: &[Load]) -> Result<(), Fail> {
+    let board = rule_board(alloc)?;
     let before = with_register((5, 5), Status(0));
     for (line, ends) in rows {
-        let is_so = sends(
-            alloc,
-            board,
-            line,
-            before,
-            (with_register(*ends, NO), before),
-        )?;
-        assert!(rt; is_so, "{line}");
+        let loaded = with_register(*ends, NO);
+        sends(rt, alloc, &board, (line, before, loaded, before))?;
     }
     Ok(())
 }
 
-fn compare_unchanged(
-    rt: &impl Abort,
-    alloc: Global,
-    board: &Board,
-    lines: &[&str],
-) -> Result<(), Fail> {
+fn none_changes(rt: &impl Abort, alloc: Global, lines: &[&'static str]) -> Result<(), Fail> {
+    let board = rule_board(alloc)?;
     let before = with_register((5, 5), Status(0));
     for line in lines {
-        let is_so = sends(alloc, board, line, before, (before, before))?;
-        assert!(rt; is_so, "{line}");
+        sends(rt, alloc, &board, (line, before, before, before))?;
     }
     Ok(())
 }
 
 #[test]
-fn edges_of_other_messages(rt: HostRuntime) -> Result<(), Fail> {
-    let board = rule_board(rt.alloc())?;
-    compare_loads(&rt, rt.alloc(), &board, &LOADS)?;
-    compare_unchanged(&rt, rt.alloc(), &board, &UNCHANGING)
+fn edges_of_messages(rt: HostRuntime) -> Result<(), Fail> {
+    all_send(&rt, rt.alloc(), &MESSAGES)?;
+    all_load(&rt, rt.alloc(), &LOADS)?;
+    none_changes(&rt, rt.alloc(), &UNCHANGING)
 }

@@ -1,4 +1,5 @@
 use super::known::{rule_board, slow_board};
+use crate::expected::same;
 use board::Board;
 use facts::worst_ticks;
 use seq_program::read_program;
@@ -10,7 +11,7 @@ use std::test::Fail;
 /// up to 100.
 type Ticks = (&'static str, u64, u64);
 
-const TICKS: [Ticks; 29] = [
+static TICKS: [Ticks; 29] = [
     ("quick a r else x", 32, 1032),
     ("send a CLEAR_FAULTS else x", 59, 1959),
     ("receive a r0 else x", 59, 1959),
@@ -45,32 +46,26 @@ const TICKS: [Ticks; 29] = [
     ("fail", 1, 1),
 ];
 
-fn ticks_of(alloc: Global, board: &Board, line: &str) -> Result<u64, Fail> {
+/// Tries the ticks of a line.
+fn takes(rt: &impl Abort, alloc: Global, board: &Board, line: &str, want: u64) -> Result<(), Fail> {
     let text = format!(in alloc; "{line}\nx:\nend")?;
     let program = read_program(alloc, board, &text)?;
     let instr = program.at(0).ok_or("no such place")?;
-    Ok(worst_ticks(board, instr))
+    same(rt, (line, worst_ticks(board, instr)), (line, want));
+    Ok(())
 }
 
-fn compare(
-    rt: &impl Abort,
-    alloc: Global,
-    quick: &Board,
-    slow: &Board,
-    rows: &[Ticks],
-) -> Result<(), Fail> {
+fn all_take(rt: &impl Abort, alloc: Global, rows: &[Ticks]) -> Result<(), Fail> {
+    let quick = rule_board(alloc)?;
+    let slow = slow_board(alloc)?;
     for (line, least, most) in rows {
-        let ticks = ticks_of(alloc, quick, line)?;
-        assert!(rt; ticks == *least, "{line}");
-        let stretched = ticks_of(alloc, slow, line)?;
-        assert!(rt; stretched == *most, "{line}");
+        takes(rt, alloc, &quick, line, *least)?;
+        takes(rt, alloc, &slow, line, *most)?;
     }
     Ok(())
 }
 
 #[test]
 fn worst_ticks_of_forms(rt: HostRuntime) -> Result<(), Fail> {
-    let quick = rule_board(rt.alloc())?;
-    let slow = slow_board(rt.alloc())?;
-    compare(&rt, rt.alloc(), &quick, &slow, &TICKS)
+    all_take(&rt, rt.alloc(), &TICKS)
 }
