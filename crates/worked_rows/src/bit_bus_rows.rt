@@ -13,7 +13,7 @@ fn plan_of(alloc: Global, bits: usize, holds: &[u16]) -> Result<Option<Plan>, Al
 }
 
 /// Numbers of bits, holds, and whether they are a plan.
-const LIMITS: [(usize, &[u16], bool); 5] = [
+static LIMITS: [(usize, &[u16], bool); 5] = [
     (4095, &[], true),
     (4096, &[], false),
     (1, &[6999, 6999], true),
@@ -78,14 +78,14 @@ fn behind_idle(rt: &impl Abort, alloc: Global, samples: &Runs) -> Result<Runs, A
 /// The hold of a STOP, the number of samples, and the slot that is cut.
 type Held = (u16, u64, Option<usize>);
 
-const HOLDS: [Held; 4] = [
+static HOLDS: [Held; 4] = [
     (0, 4, None),
     (4999, 5003, None),
     (5000, 5004, Some(0)),
     (6999, 7003, Some(0)),
 ];
 
-const BARE: [Event; 3] = [Event::Start, Event::Rise(false), Event::Stop];
+static BARE: [Event; 3] = [Event::Start, Event::Rise(false), Event::Stop];
 
 fn none_alerts(rt: &impl Abort, samples: &Runs) {
     for run in samples.runs() {

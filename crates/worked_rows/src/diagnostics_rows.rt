@@ -5,6 +5,7 @@ mod refusals;
 mod warnings;
 
 use crate::boards::{TWO, two_board};
+use crate::expected::{begins, same, says};
 use board::{BoardFault, read_board};
 use bundles::{BundleFault, Header};
 use diagnostics::{board_note, bundle_note, program_note};
@@ -22,20 +23,22 @@ fn note_on_program(alloc: Global, text: &str) -> Result<Option<String>, Fail> {
     }
 }
 
-/// Tries the note on each program's fault.
-fn compare_notes(rt: &impl Abort, alloc: Global, notes: &[(&str, &str)]) -> Result<(), Fail> {
+/// Tries the note on a program's fault.
+fn is_noted(rt: &impl Abort, alloc: Global, text: &str, want: Option<&str>) -> Result<(), Fail> {
+    let note = note_on_program(alloc, text)?;
+    same(rt, (text, note.as_deref()), (text, want));
+    Ok(())
+}
+
+fn all_are_noted(rt: &impl Abort, alloc: Global, notes: &[(&str, &str)]) -> Result<(), Fail> {
     for (text, want) in notes {
-        let note = note_on_program(alloc, text)?;
-        assert!(rt;
-            note.as_ref().map(|note| note.as_str()) == Some(*want),
-            "{text}"
-        );
+        is_noted(rt, alloc, text, Some(*want))?;
     }
     Ok(())
 }
 
 /// A bundle would drop the CR of these.
-const CARRIAGE_RETURNS: [(&str, &str); 2] = [
+static CARRIAGE_RETURNS: [(&str, &str); 2] = [
     (
         "end\r\n",
         "%program:1: error: unknown instruction \"end\\r\"
@@ -58,13 +61,13 @@ const TOO_LONG: &str = "%program:1025: error: a program has at most 1024 instruc
 
 #[test]
 fn programs(rt: HostRuntime) -> Result<(), Fail> {
-    compare_notes(&rt, rt.alloc(), &CARRIAGE_RETURNS)?;
+    all_are_noted(&rt, rt.alloc(), &CARRIAGE_RETURNS)?;
     let long = "end\n".repeat(rt.alloc(), 1025)?;
-    compare_notes(&rt, rt.alloc(), &[(long.as_str(), TOO_LONG)])
+    is_noted(&rt, rt.alloc(), &long, Some(TOO_LONG))
 }
 
 /// A line of each instruction.
-const LINES: [&str; 21] = [
+static LINES: [&str; 21] = [
     "quick a r else x",
     "send a CLEAR_FAULTS else x",
     "receive a r0 else x",
@@ -88,67 +91,85 @@ const LINES: [&str; 21] = [
     "fail",
 ];
 
-/// Tries that each line is read, and that none is with a word more.
-fn compare_lines(rt: &impl Abort, alloc: Global, lines: &[&str]) -> Result<(), Fail> {
+/// Tries that a line is read, and that it isn't with a word more.
+fn ends_there(rt: &impl Abort, alloc: Global, line: &str) -> Result<(), Fail> {
+    let text = format!(in alloc; "x:\n{line}\nend")?;
+    is_noted(rt, alloc, &text, None)?;
+    let text = format!(in alloc; "x:\n{line} more\nend")?;
+    let note = note_on_program(alloc, &text)?;
+    begins(
+        rt,
+        note.as_deref(),
+        "%program:2: error: too many words behind",
+    );
+    Ok(())
+}
+
+fn all_end_there(rt: &impl Abort, alloc: Global, lines: &[&str]) -> Result<(), Fail> {
     for line in lines {
-        let text = format!(in alloc; "x:\n{line}\nend")?;
-        assert!(rt; note_on_program(alloc, &text)?.is_none(), "{line}");
-        let text = format!(in alloc; "x:\n{line} more\nend")?;
-        let note = note_on_program(alloc, &text)?;
-        let told = note.is_some_and(|note| note.contains("2: error: too many words behind"));
-        assert!(rt; told, "{line}");
+        ends_there(rt, alloc, line)?;
     }
     Ok(())
 }
 
 #[test]
 fn each_instruction(rt: HostRuntime) -> Result<(), Fail> {
-    compare_lines(&rt, rt.alloc(), &LINES)
+    all_end_there(&rt, rt.alloc(), &LINES)
 }
 
-/// Faults that a text hasn't have a note all the same, but for Memory.
+/// The note on a fault that the text hasn't.
+fn other_note(alloc: Global, fault: ProgramFault) -> Result<Option<String>, Fail> {
+    let board = two_board(alloc)?;
+    Ok(program_note(alloc, &board, "end", fault)?)
+}
+
 #[test]
-fn other_faults(rt: HostRuntime) -> Result<(), Fail> {
-    let board = two_board(rt.alloc())?;
-    let none = program_note(rt.alloc(), &board, "end", ProgramFault::Memory)?;
-    assert!(rt; none.is_none());
-    let note = program_note(rt.alloc(), &board, "end", ProgramFault::BadOperand(7))?;
-    let want = "%program:7: error: a bad operand\n";
-    assert!(rt; note.as_ref().map(|note| note.as_str()) == Some(want));
-    assert!(rt; board_note(rt.alloc(), TWO, BoardFault::Memory)?.is_none());
-    let note = bundle_note(rt.alloc(), "%run\n", BundleFault::NotText)?;
-    let want = "bundle:1: error: the bundle is no text: line 2 goes on with a byte that isn't \
-                UTF-8\n    %run\n";
-    assert!(rt; note.as_str() == want);
+fn bad_operand_elsewhere_has_a_note(rt: HostRuntime) -> Result<(), Fail> {
+    let note = other_note(rt.alloc(), ProgramFault::BadOperand(7))?;
+    same(
+        &rt,
+        note.as_deref(),
+        Some("%program:7: error: a bad operand\n"),
+    );
+    Ok(())
+}
+
+#[test]
+fn refused_memory_has_no_note(rt: HostRuntime) -> Result<(), Fail> {
+    let note = other_note(rt.alloc(), ProgramFault::Memory)?;
+    same(&rt, note.as_deref(), None);
+    let note = board_note(rt.alloc(), TWO, BoardFault::Memory)?;
+    same(&rt, note.as_deref(), None);
     Ok(())
 }
 
 /// Tries the beginning of the note on a board's fault.
-fn compare_board(rt: &impl Abort, alloc: Global, text: &str, want: &str) -> Result<(), Fail> {
-    let note = match read_board(alloc, text) {
-        Ok(_) => None,
-        Err(fault) => board_note(alloc, text, fault)?,
-    };
-    assert!(rt; note.is_some_and(|note| note.starts_with(want)), "{want}");
+fn is_board_noted(rt: &impl Abort, alloc: Global, text: &str, want: &str) -> Result<(), Fail> {
+    let fault = read_board(alloc, text).err().ok_or("no fault")?;
+    let note = board_note(alloc, text, fault)?;
+    begins(rt, note.as_deref(), want);
     Ok(())
 }
 
-/// No table, and one too many.
 #[test]
-fn counts_of_tables(rt: HostRuntime) -> Result<(), Fail> {
-    compare_board(
-        &rt,
-        rt.alloc(),
-        "",
-        "%board:1: error: the board has no target\n",
-    )?;
+fn a_board_needs_a_target(rt: HostRuntime) -> Result<(), Fail> {
+    let want = "%board:1: error: the board has no target\n";
+    is_board_noted(&rt, rt.alloc(), "", want)
+}
+
+#[test]
+fn seventeen_targets_are_too_many(rt: HostRuntime) -> Result<(), Fail> {
     let targets = "[[target]]\n".repeat(rt.alloc(), 17)?;
     let want = "%board:17: error: a board has at most 16 targets, and this is one more\n";
-    compare_board(&rt, rt.alloc(), &targets, want)?;
+    is_board_noted(&rt, rt.alloc(), &targets, want)
+}
+
+#[test]
+fn sixty_five_rails_are_too_many(rt: HostRuntime) -> Result<(), Fail> {
     let rails = "[[rail]]\n".repeat(rt.alloc(), 65)?;
     let text = format!(in rt.alloc(); "{TWO}{rails}")?;
     let want = "%board:107: error: a board has at most 64 rails, and this is one more\n";
-    compare_board(&rt, rt.alloc(), &text, want)
+    is_board_noted(&rt, rt.alloc(), &text, want)
 }
 
 const BUNDLE: &str = "%run
@@ -161,19 +182,35 @@ start 00
 vale=1
 ";
 
-#[test]
-fn bundles(rt: HostRuntime) -> Result<(), Fail> {
-    let note = bundle_note(rt.alloc(), BUNDLE, BundleFault::BadAnswer(8))?;
-    let want = "%answers:2: error: unknown field \"vale=1\"\n    vale=1\nhelp: did you mean \
-                \"value=\"?\n";
-    assert!(rt; note.as_str() == want);
-    let note = bundle_note(
-        rt.alloc(),
+/// A bundle, its fault, and the note on it.
+static BUNDLES: [(&str, BundleFault, &str); 3] = [
+    (
+        "%run\n",
+        BundleFault::NotText,
+        "bundle:1: error: the bundle is no text: line 2 goes on with a byte that isn't UTF-8\n    \
+         %run\n",
+    ),
+    (
+        BUNDLE,
+        BundleFault::BadAnswer(8),
+        "%answers:2: error: unknown field \"vale=1\"\n    vale=1\nhelp: did you mean \
+         \"value=\"?\n",
+    ),
+    (
         BUNDLE,
         BundleFault::MissingSection(Header::Table),
-    )?;
-    let want = "bundle:1: error: the section %table is missing\n    %run\nhelp: the sections here \
-                are %board, %program, %answers, in this order\n";
-    assert!(rt; note.as_str() == want);
-    Ok(())
+        "bundle:1: error: the section %table is missing\n    %run\nhelp: the sections here are \
+         %board, %program, %answers, in this order\n",
+    ),
+];
+
+fn all_bundles_are_noted(rt: &impl Abort, alloc: Global, rows: &[(&str, BundleFault, &str)]) {
+    for (text, fault, want) in rows {
+        says(rt, bundle_note(alloc, text, *fault), want);
+    }
+}
+
+#[test]
+fn bundles(rt: HostRuntime) {
+    all_bundles_are_noted(&rt, rt.alloc(), &BUNDLES);
 }

@@ -23,3 +23,9 @@ pub(crate) fn holds<T: Debug + Drop + PartialEq>(
 pub(crate) fn says(rt: &impl Abort, seen: Result<String, AllocError>, want: &str) {
     same(rt, seen.as_deref().ok(), Some(want));
 }
+
+/// Tries that there is a note, and how it begins.
+pub(crate) fn begins(rt: &impl Abort, note: Option<&str>, want: &str) {
+    let begun = note.is_some_and(|note| note.starts_with(want));
+    assert!(rt; begun, "{want} {note:?}");
+}

@@ -13,7 +13,7 @@ use std::test::Fail;
 type Known = (u8, &'static str, Option<Form>, Option<Form>, bool);
 
 /// The named commands as this profile has them.
-const KNOWN: [Known; 25] = [
+static KNOWN: [Known; 25] = [
     (
         0x00,
         "PAGE",
@@ -172,7 +172,7 @@ fn manufacturer_names_are_codes(rt: HostRuntime) -> Result<(), Fail> {
 }
 
 /// Names of no command.
-const UNKNOWN: [&str; 8] = ["CF", "FE", "21", "df", "D", "", "page", "PAGE "];
+static UNKNOWN: [&str; 8] = ["CF", "FE", "21", "df", "D", "", "page", "PAGE "];
 
 fn none_is_known(rt: &impl Abort, names: &[&str]) {
     for name in names {
@@ -195,7 +195,7 @@ fn unknown_codes(rt: HostRuntime) {
 /// The name of a command, a form, whether the command takes it, and whether that is a write.
 type Taken = (&'static str, Form, bool, bool);
 
-const FORMS: [Taken; 17] = [
+static FORMS: [Taken; 17] = [
     ("PAGE", Form::WriteByte, true, true),
     ("PAGE", Form::ReadByte, true, false),
     ("PAGE", Form::SendByte, false, false),
@@ -238,7 +238,7 @@ fn forms(rt: HostRuntime) -> Result<(), Fail> {
 /// The protection, the code of a command, and whether it may be written, if both are known.
 type Protected = (u8, u8, Option<bool>);
 
-const PROTECTIONS: [Protected; 13] = [
+static PROTECTIONS: [Protected; 13] = [
     (0x80, code::WRITE_PROTECT, Some(true)),
     (0x80, code::PAGE, Some(false)),
     (0x40, code::OPERATION, Some(true)),
@@ -282,7 +282,7 @@ fn voltage_commands(rt: HostRuntime) {
 }
 
 /// Status words, and whether they report a good voltage.
-const STATUSES: [(u16, bool); 5] = [
+static STATUSES: [(u16, bool); 5] = [
     (0x0840, false),
     (0x0800, false),
     (0x0040, false),
@@ -316,7 +316,7 @@ fn status_bits(rt: HostRuntime) {
 /// The mantissa and the exponent of a voltage, a limit, and whether the voltage is within it.
 type Voltage = (u16, i8, u32, bool);
 
-const VOLTAGES: [Voltage; 9] = [
+static VOLTAGES: [Voltage; 9] = [
     (4294, 0, 4_294_967_295, true),
     (4295, 0, 4_294_967_295, false),
     (65535, -16, 999_985, true),

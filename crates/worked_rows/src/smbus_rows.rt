@@ -148,7 +148,7 @@ fn shows_done(
 }
 
 /// What is asked, the number that is read, and the text and the number of samples of the frame.
-const PLAIN: [(Asked, u16, &str, u64); 8] = [
+static PLAIN: [(Asked, u16, &str, u64); 8] = [
     ((Form::Quick(false), 0, &[]), 0, "S 80A P", 22),
     ((Form::SendByte, 0x03, &[]), 0, "S 80A 03A P", 40),
     ((Form::ReceiveByte, 0, &[]), 0x5A, "S 81A 5AN P", 40),
@@ -215,7 +215,7 @@ const WRITE_PAGE: Asked = (Form::WriteByte, 0, &[1]);
 
 const READ_STATUS: Asked = (Form::ReadWord, 0x79, &[]);
 
-const BROKEN: [BrokenFrame; 7] = [
+static BROKEN: [BrokenFrame; 7] = [
     (WRITE_PAGE, 0, (Some(1), 0, 0), ("S 80A 00N P", 40, None)),
     (
         WRITE_PAGE,
@@ -311,7 +311,7 @@ const EMPTY: Asked = (Form::BlockWrite, 0xD0, &[]);
 const SHORT: Asked = (Form::WriteWord, 0x21, &[0x99]);
 
 /// What is asked, the byte that is refused, and why it has no frame.
-const UNFRAMED: [(Asked, Option<u16>, SmbusFault); 3] = [
+static UNFRAMED: [(Asked, Option<u16>, SmbusFault); 3] = [
     (EMPTY, None, SmbusFault::BadBlock),
     (SHORT, None, SmbusFault::BadData),
     (EMPTY, Some(3), SmbusFault::BadData),
@@ -339,7 +339,7 @@ const HIGH: Event = Event::Rise(true);
 const LOW: Event = Event::Rise(false);
 
 /// Events, and why they have no frames.
-const STRAYS: [(&[Event], Option<ObserveFault>); 6] = [
+static STRAYS: [(&[Event], Option<ObserveFault>); 6] = [
     (&[Event::Stop], Some(ObserveFault::NotFrames(0))),
     (&[Event::Start], Some(ObserveFault::NotFrames(1))),
     (
@@ -379,7 +379,7 @@ fn stray_events_are_named(rt: HostRuntime) {
 }
 
 /// A frame of two segments with no byte.
-const BARE: [Event; 5] = [Event::Start, HIGH, Event::Start, LOW, Event::Stop];
+static BARE: [Event; 5] = [Event::Start, HIGH, Event::Start, LOW, Event::Stop];
 
 /// The address and the direction of the first segment.
 fn first_address(alloc: Global) -> Result<Option<(Option<u8>, Option<bool>)>, ObserveFault> {

@@ -73,10 +73,10 @@ const LOW: Sample = Sample {
 };
 
 /// SCL low for ten ticks between idle ones.
-const HELD_LOW: [Ticks; 5] = [(IDLE, 3), (LOW, 10), (IDLE, 0), (IDLE, 1), (IDLE, 2)];
+static HELD_LOW: [Ticks; 5] = [(IDLE, 3), (LOW, 10), (IDLE, 0), (IDLE, 1), (IDLE, 2)];
 
 /// Places, and the samples that are held low there.
-const HELD_SAMPLES: [(u64, Option<Sample>); 7] = [
+static HELD_SAMPLES: [(u64, Option<Sample>); 7] = [
     (0, Some(IDLE)),
     (2, Some(IDLE)),
     (3, Some(LOW)),

@@ -99,7 +99,7 @@ fn cut_in_two(rt: HostRuntime) -> Result<(), Fail> {
 /// A fault before all events.
 const AT_ONCE: ObserveFault = ObserveFault::NotFrames(0);
 
-const STRAY_STOP: [Fed<'static>; 2] = [
+static STRAY_STOP: [Fed<'static>; 2] = [
     (&[Event::Stop], Err(AT_ONCE), (0, Err(AT_ONCE))),
     (&[], Err(AT_ONCE), (0, Err(AT_ONCE))),
 ];
@@ -113,7 +113,7 @@ fn stray_stop(rt: HostRuntime) {
 /// it is taken.
 const BEHIND: ObserveFault = ObserveFault::NotFrames(4);
 
-const OPEN_FRAME: [Fed<'static>; 4] = [
+static OPEN_FRAME: [Fed<'static>; 4] = [
     (
         &[Event::Start],
         Ok(""),

@@ -54,7 +54,7 @@ fn wave_of(
 }
 
 /// A START, SCL low, and an alert meanwhile.
-const START: [Ticks; 3] = [
+static START: [Ticks; 3] = [
     (IDLE, 1),
     (
         Sample {
@@ -83,7 +83,7 @@ fn changes_and_stamps(rt: HostRuntime) -> Result<(), Fail> {
 }
 
 /// SCL alone low.
-const CLOCK_LOW: [Ticks; 1] = [(
+static CLOCK_LOW: [Ticks; 1] = [(
     Sample {
         scl: false,
         sda: true,
