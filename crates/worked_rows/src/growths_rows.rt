@@ -6,11 +6,12 @@ ghost use Rattle.std.specs.Prelude.{length, All, IfOk};
 ghost use Rattle.seq_program.specs.Valid.{IsOnBoard};
 
 use crate::boards::{alert_board, two_board};
+use crate::runs::{ASKED, ASKING, answers_of, trace_of};
 use board::{Board, BoardFault};
 use fact_search::{FindFault, find};
 use seq_program::{Program, ProgramFault, read_program};
-use simulator::{RunFault, Trace, run, start};
-use smbus::{Answer, Frame, ObserveFault, Observer, frame_text};
+use simulator::{RunFault, Trace};
+use smbus::{Frame, ObserveFault, Observer, frame_text};
 use std::alloc::{AllocError, Global};
 use std::process::Abort;
 use std::test::Fail;
@@ -79,7 +80,7 @@ fn a_table_is_found_again(rt: HostRuntime) -> Result<(), Fail> {
 const SPIN: &str = "count c0 3\nspin:\nwait 10\nagain c0 spin\nend\n";
 
 /// What each row of SPIN's table has between its counter c0 and its ticks, and before that.
-const COMMON: [&str; 2] = [
+static COMMON: [&str; 2] = [
     "page a 00\npage b 00\nprotect a 00\nprotect b 00\ngood\nreg r0 0 0 none\nreg r1 0 0 none\n\
      reg r2 0 0 none\nreg r3 0 0 none\nreg r4 0 0 none\nreg r5 0 0 none\nreg r6 0 0 none\n\
      reg r7 0 0 none\n",
@@ -87,7 +88,7 @@ const COMMON: [&str; 2] = [
 ];
 
 /// The most of c0 and the ticks of each of its rows.
-const ROWS: [(u16, &str); 4] = [
+static ROWS: [(u16, &str); 4] = [
     (0, "50 0 0 0 0"),
     (3, "13 12 0 0 0"),
     (3, "2 12 0 0 0"),
@@ -124,45 +125,6 @@ fn a_table_is_checked_again(rt: HostRuntime) -> Result<(), Fail> {
     Ok(())
 }
 
-const ASKING: &str = "wait 1\nalert r0 else no\nalert r1 else no\nalert r2 else no\nend\nno:\nfail";
-
-/// An answer that returns a value, refuses a byte or begins alerts.
-fn answer_of(alloc: Global, value: u16, refuse: Option<u16>, alerts: u16) -> Answer {
-    Answer {
-        holds: Vec::new(alloc),
-        refuse,
-        value,
-        bytes: Vec::new(alloc),
-        took: false,
-        alerts,
-    }
-}
-
-/// Both targets begin to alert, and then each answers as it must.
-fn answers_of(alloc: Global) -> [Answer; 5] {
-    [
-        answer_of(alloc, 0, None, 3),
-        answer_of(alloc, 0x42, None, 0),
-        answer_of(alloc, 0x80, None, 0),
-        answer_of(alloc, 0, Some(0), 0),
-        answer_of(alloc, 0, None, 0),
-    ]
-}
-
-/// The run of a program of the board.
-fn trace_of(
-    alloc: Global,
-    board: &Board,
-    program: &Program,
-    answers: &[Answer],
-) -> Result<Trace, RunFault>
-    requires { All (λ i. IsOnBoard (length board.now.targets) i) program.now }
-{
-    let _places = program.places();
-    let machine = start(alloc, board, &[0, 0], &[0, 0])?;
-    run(alloc, board, program, &machine, answers)
-}
-
 /// All ticks of a trace.
 fn ticks_of(trace: &Trace) -> u64 {
     let mut ticks = 0u64;
@@ -179,9 +141,12 @@ fn a_program_is_run_again(rt: HostRuntime) -> Result<(), Fail> {
         read => read?,
     };
     let program = program_again(rt.alloc(), &board, ASKING)?;
-    let answers = answers_of(rt.alloc());
-    let trace = match trace_of(rt.alloc(), &board, &program, &answers) {
-        Err(RunFault::Memory) => trace_of(rt.alloc(), &board, &program, &answers)?,
+    let answers = match answers_of(rt.alloc(), &ASKED) {
+        Err(AllocError) => answers_of(rt.alloc(), &ASKED)?,
+        Ok(answers) => answers,
+    };
+    let trace = match trace_of(rt.alloc(), &board, &program, 0, &answers) {
+        Err(RunFault::Memory) => trace_of(rt.alloc(), &board, &program, 0, &answers)?,
         trace => trace?,
     };
     assert!(rt; (trace.entries.len(), ticks_of(&trace)) == (5, 108));
@@ -243,7 +208,7 @@ fn feed_again(
 }
 
 /// The bits of a byte, the highest first.
-const BITS: [u8; 8] = [0x80, 0x40, 0x20, 0x10, 0x08, 0x04, 0x02, 0x01];
+static BITS: [u8; 8] = [0x80, 0x40, 0x20, 0x10, 0x08, 0x04, 0x02, 0x01];
 
 /// Adds the clocks of a byte and of its acknowledge.
 fn push_byte(events: &mut Vec<Event>, byte: u8, is_acknowledged: bool) -> Result<(), AllocError> {
