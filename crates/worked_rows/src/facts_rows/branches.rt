@@ -1,38 +1,48 @@
-use super::edges::{UNCOUNTED, leads};
+use super::edges::{Reached, UNCOUNTED, leads};
 use super::known::{Counted, Known, NOTHING, rule_board};
-use board::Board;
+use crate::expected::same;
+use board::{Board, BoardFault};
 use facts::Source;
-use std::alloc::Global;
+use std::alloc::{AllocError, Global};
 use std::process::Abort;
-use std::test::Fail;
+use std::test::*;
+
+/// What is known and counted.
+type Way = (Known, Counted);
 
 /// What is known before an instruction, where its jump leads, and where its next place does.
-type Ways = (Known, Option<Known>, Option<Known>);
+type Ways = (Option<Way>, Option<Way>, Option<Way>);
+
+/// Places 2 and 1, where there is such a way, and what is known there.
+fn reached(
+    alloc: Global,
+    jump: Option<Way>,
+    next: Option<Way>,
+) -> Result<Vec<Reached>, AllocError> {
+    let mut after = Vec::new(alloc);
+    if let Some((known, counted)) = jump {
+        after.push((2, known, counted))?;
+    }
+    if let Some((known, counted)) = next {
+        after.push((1, known, counted))?;
+    }
+    Ok(after)
+}
 
 /// Tries that an instruction jumps to place 2 and goes on at place 1 like this.
-fn branches(
-    rt: &impl Abort,
-    alloc: Global,
-    board: &Board,
-    line: &str,
-    ways: Ways,
-) -> Result<(), Fail> {
+fn branches(rt: &impl Abort, alloc: Global, board: &Board, line: &str, ways: Ways) {
     let (before, jump, next) = ways;
-    let mut after = Vec::new(alloc);
-    if let Some(known) = jump {
-        after.push((2, known, UNCOUNTED))?;
+    match (before, reached(alloc, jump, next)) {
+        (Some(before), Ok(after)) => leads(rt, alloc, board, line, before, &after),
+        _ => panic!(rt; "no memory, or nothing is known before {line}"),
     }
-    if let Some(known) = next {
-        after.push((1, known, UNCOUNTED))?;
-    }
-    leads(rt, alloc, board, line, (before, UNCOUNTED), &after)
 }
 
 /// The least and the greatest value of r0.
 type Ends = (u16, u16);
 
-/// The values of r0 before an instruction, where it jumps, and where it goes on. The way isn't there
-/// where none is left.
+/// The values of r0 before an instruction, where it jumps, and where it goes on. The way isn't
+/// there where none is left.
 type Spans = (&'static str, Ends, Option<Ends>, Option<Ends>);
 
 /// No test of what r0 equals, so that it still does after it.
@@ -86,8 +96,8 @@ static COMPUTED: [Spans; 5] = [
 ];
 
 /// What b stores in PAGE, which r0 may equal.
-fn spanned(source: Source, ends: Option<Ends>) -> Option<Known> {
-    Some((&[0], &[0], &[1], ends?, source))
+fn spanned(source: Source, ends: Option<Ends>) -> Option<Way> {
+    Some(((&[0], &[0], &[1], ends?, source), UNCOUNTED))
 }
 
 /// Tries rows in which r0 equals the first source before the instruction, and the second after it.
@@ -96,23 +106,36 @@ fn all_span(
     alloc: Global,
     sources: (Source, Source),
     rows: &[Spans],
-) -> Result<(), Fail> {
+) -> Result<(), BoardFault> {
     let board = rule_board(alloc)?;
+    let (source, later) = sources;
     for (line, before, jump, next) in rows {
-        let before = spanned(sources.0, Some(*before)).ok_or("no values")?;
-        let ways = (before, spanned(sources.1, *jump), spanned(sources.1, *next));
-        branches(rt, alloc, &board, line, ways)?;
+        let before = spanned(source, Some(*before));
+        let ways = (before, spanned(later, *jump), spanned(later, *next));
+        branches(rt, alloc, &board, line, ways);
     }
     Ok(())
 }
 
 #[test]
-fn branches_on_spans(rt: HostRuntime) -> Result<(), Fail> {
+fn branches_on_spans(rt: HostRuntime) {
     let none = Source::None;
     let stored = Source::Page(1);
-    all_span(&rt, rt.alloc(), (stored, stored), &UNTESTED)?;
-    all_span(&rt, rt.alloc(), (none, none), &TESTED)?;
-    all_span(&rt, rt.alloc(), (stored, none), &COMPUTED)
+    same(
+        &rt,
+        all_span(&rt, rt.alloc(), (stored, stored), &UNTESTED),
+        Ok(()),
+    );
+    same(
+        &rt,
+        all_span(&rt, rt.alloc(), (none, none), &TESTED),
+        Ok(()),
+    );
+    same(
+        &rt,
+        all_span(&rt, rt.alloc(), (stored, none), &COMPUTED),
+        Ok(()),
+    );
 }
 
 /// A test of r0, the values of what it equals, and those that are left where it jumps and where it
@@ -141,30 +164,35 @@ static PROTECTIONS: [Sets; 4] = [
 ];
 
 /// What a may store, in PAGE or in WRITE_PROTECT, which r0 equals; `None` for nothing.
-fn stored(is_page: bool, set: &'static [u8]) -> Option<Known> {
+fn stored(is_page: bool, set: &'static [u8]) -> Option<Way> {
     if set.is_empty() {
         None
     } else if is_page {
-        Some((set, &[0], &[], (0, 255), Source::Page(0)))
+        Some(((set, &[0], &[], (0, 255), Source::Page(0)), UNCOUNTED))
     } else {
-        Some((&[0], set, &[], (0, 255), Source::Protect(0)))
+        Some(((&[0], set, &[], (0, 255), Source::Protect(0)), UNCOUNTED))
     }
 }
 
-fn all_part(rt: &impl Abort, alloc: Global, is_page: bool, rows: &[Sets]) -> Result<(), Fail> {
+fn all_part(
+    rt: &impl Abort,
+    alloc: Global,
+    is_page: bool,
+    rows: &[Sets],
+) -> Result<(), BoardFault> {
     let board = rule_board(alloc)?;
     for (line, before, jump, next) in rows {
-        let before = stored(is_page, before).ok_or("nothing stored")?;
+        let before = stored(is_page, before);
         let ways = (before, stored(is_page, jump), stored(is_page, next));
-        branches(rt, alloc, &board, line, ways)?;
+        branches(rt, alloc, &board, line, ways);
     }
     Ok(())
 }
 
 #[test]
-fn branches_on_sets(rt: HostRuntime) -> Result<(), Fail> {
-    all_part(&rt, rt.alloc(), true, &PAGES)?;
-    all_part(&rt, rt.alloc(), false, &PROTECTIONS)
+fn branches_on_sets(rt: HostRuntime) {
+    same(&rt, all_part(&rt, rt.alloc(), true, &PAGES), Ok(()));
+    same(&rt, all_part(&rt, rt.alloc(), false, &PROTECTIONS), Ok(()));
 }
 
 /// A test of a status word that r0 equals, the word's values where it jumps, and the rails that are
@@ -182,23 +210,28 @@ static STATUS: [Reported; 8] = [
     ("if r0 0x0040 0 x", (0, 65535), &[1]),
 ];
 
-fn reported(good: &'static [u8], ends: Ends) -> Known {
-    (&[0], &[0], good, ends, Source::Status(0))
+fn reported(good: &'static [u8], ends: Ends) -> Option<Way> {
+    Some(((&[0], &[0], good, ends, Source::Status(0)), UNCOUNTED))
 }
 
-fn all_report(rt: &impl Abort, alloc: Global, rows: &[Reported]) -> Result<(), Fail> {
+fn all_report(rt: &impl Abort, alloc: Global, rows: &[Reported]) -> Result<(), BoardFault> {
     let board = rule_board(alloc)?;
     let before = reported(&[1], (0, 65535));
     for (line, jump, good) in rows {
-        let ways = (before, Some(reported(good, *jump)), Some(before));
-        branches(rt, alloc, &board, line, ways)?;
+        branches(
+            rt,
+            alloc,
+            &board,
+            line,
+            (before, reported(good, *jump), before),
+        );
     }
     Ok(())
 }
 
 #[test]
-fn branches_on_status(rt: HostRuntime) -> Result<(), Fail> {
-    all_report(&rt, rt.alloc(), &STATUS)
+fn branches_on_status(rt: HostRuntime) {
+    same(&rt, all_report(&rt, rt.alloc(), &STATUS), Ok(()));
 }
 
 /// What is counted before an instruction, where it jumps, and where it goes on.
@@ -230,27 +263,20 @@ static COUNTS: [Counts; 8] = [
     ("wait 3", ((1, 2), 2, 12), None, Some(((1, 2), 2, 12))),
 ];
 
-fn pays(rt: &impl Abort, alloc: Global, board: &Board, counts: Counts) -> Result<(), Fail> {
-    let (line, before, jump, next) = counts;
-    let mut after = Vec::new(alloc);
-    if let Some(counted) = jump {
-        after.push((2, NOTHING, counted))?;
-    }
-    if let Some(counted) = next {
-        after.push((1, NOTHING, counted))?;
-    }
-    leads(rt, alloc, board, line, (NOTHING, before), &after)
+fn counting(counted: Option<Counted>) -> Option<Way> {
+    Some((NOTHING, counted?))
 }
 
-fn all_pay(rt: &impl Abort, alloc: Global, rows: &[Counts]) -> Result<(), Fail> {
+fn all_pay(rt: &impl Abort, alloc: Global, rows: &[Counts]) -> Result<(), BoardFault> {
     let board = rule_board(alloc)?;
-    for counts in rows {
-        pays(rt, alloc, &board, *counts)?;
+    for (line, before, jump, next) in rows {
+        let ways = (counting(Some(*before)), counting(*jump), counting(*next));
+        branches(rt, alloc, &board, line, ways);
     }
     Ok(())
 }
 
 #[test]
-fn counters_pay(rt: HostRuntime) -> Result<(), Fail> {
-    all_pay(&rt, rt.alloc(), &COUNTS)
+fn counters_pay(rt: HostRuntime) {
+    same(&rt, all_pay(&rt, rt.alloc(), &COUNTS), Ok(()));
 }

@@ -1,28 +1,29 @@
 use super::known::{row_of, rule_board};
 use crate::expected::same;
-use board::Board;
+use board::{Board, BoardFault};
 use facts::Rule::{self, K1, K2, K3, K4, K5};
 use facts::{Source, duty};
 use seq_program::read_program;
 use std::alloc::Global;
 use std::process::Abort;
-use std::test::Fail;
+use std::test::*;
 
 /// What a may store in PAGE and in WRITE_PROTECT, the rails that reported good, and the values of
 /// r0.
 type Before = (&'static [u8], &'static [u8], &'static [u8], (u16, u16));
 
-fn duty_of(alloc: Global, board: &Board, line: &str, before: Before) -> Result<Option<Rule>, Fail> {
+/// The duty that isn't met, if the line and what is known are good.
+fn duty_of(alloc: Global, board: &Board, line: &str, before: Before) -> Option<Option<Rule>> {
     let (pages, protects, good, span) = before;
-    let text = format!(in alloc; "{line} else x\nx:\nend")?;
-    let program = read_program(alloc, board, &text)?;
+    let text = format!(in alloc; "{line} else x\nx:\nend").ok()?;
+    let program = read_program(alloc, board, &text).ok()?;
     let row = row_of(
         alloc,
         (pages, protects, good, span, Source::None),
         ((0, 0), 0, 0),
     )?;
-    let instr = program.at(0).ok_or("no such place")?;
-    Ok(duty(board, instr, &row))
+    let instr = program.at(0)?;
+    Some(duty(board, instr, &row))
 }
 
 /// Tries which duty a message doesn't meet.
@@ -33,10 +34,9 @@ fn owes(
     line: &str,
     before: Before,
     want: Option<Rule>,
-) -> Result<(), Fail> {
-    let found = duty_of(alloc, board, line, before)?;
-    same(rt, (line, before, found), (line, before, want));
-    Ok(())
+) {
+    let found = duty_of(alloc, board, line, before);
+    same(rt, (line, before, found), (line, before, Some(want)));
 }
 
 /// A message, and the duty that it doesn't meet where a stores zeros, all rails are good, and r0
@@ -89,7 +89,7 @@ static ALLOWED: [Message; 42] = [
     ("blockcall a D2 010203 r0", (0, 0), Some(K1)),
 ];
 
-fn all_owe(rt: &impl Abort, alloc: Global, rows: &[Message]) -> Result<(), Fail> {
+fn all_owe(rt: &impl Abort, alloc: Global, rows: &[Message]) -> Result<(), BoardFault> {
     let board = rule_board(alloc)?;
     for (line, span, want) in rows {
         owes(
@@ -99,14 +99,14 @@ fn all_owe(rt: &impl Abort, alloc: Global, rows: &[Message]) -> Result<(), Fail>
             line,
             (&[0], &[0], &[0, 1, 2], *span),
             *want,
-        )?;
+        );
     }
     Ok(())
 }
 
 #[test]
-fn what_is_allowed(rt: HostRuntime) -> Result<(), Fail> {
-    all_owe(&rt, rt.alloc(), &ALLOWED)
+fn what_is_allowed(rt: HostRuntime) {
+    same(&rt, all_owe(&rt, rt.alloc(), &ALLOWED), Ok(()));
 }
 
 /// A message, what a may store, and the duty that isn't met where nothing is known to be good.
@@ -150,15 +150,15 @@ static PROTECTIONS: [Stored; 21] = [
     ("alert r0", &[0x80], None),
 ];
 
-fn pages_owe(rt: &impl Abort, alloc: Global, rows: &[Stored]) -> Result<(), Fail> {
+fn pages_owe(rt: &impl Abort, alloc: Global, rows: &[Stored]) -> Result<(), BoardFault> {
     let board = rule_board(alloc)?;
     for (line, pages, want) in rows {
-        owes(rt, alloc, &board, line, (pages, &[0], &[], (0, 0)), *want)?;
+        owes(rt, alloc, &board, line, (pages, &[0], &[], (0, 0)), *want);
     }
     Ok(())
 }
 
-fn protections_owe(rt: &impl Abort, alloc: Global, rows: &[Stored]) -> Result<(), Fail> {
+fn protections_owe(rt: &impl Abort, alloc: Global, rows: &[Stored]) -> Result<(), BoardFault> {
     let board = rule_board(alloc)?;
     for (line, protects, want) in rows {
         owes(
@@ -168,15 +168,15 @@ fn protections_owe(rt: &impl Abort, alloc: Global, rows: &[Stored]) -> Result<()
             line,
             (&[0], protects, &[], (0, 0)),
             *want,
-        )?;
+        );
     }
     Ok(())
 }
 
 #[test]
-fn what_may_be_stored(rt: HostRuntime) -> Result<(), Fail> {
-    pages_owe(&rt, rt.alloc(), &PAGES)?;
-    protections_owe(&rt, rt.alloc(), &PROTECTIONS)
+fn what_may_be_stored(rt: HostRuntime) {
+    same(&rt, pages_owe(&rt, rt.alloc(), &PAGES), Ok(()));
+    same(&rt, protections_owe(&rt, rt.alloc(), &PROTECTIONS), Ok(()));
 }
 
 /// What is written to VOUT_COMMAND, the pages that a may store, and whether the greatest voltage is
@@ -224,7 +224,7 @@ fn unless(holds: bool, rule: Rule) -> Option<Rule> {
     if holds { None } else { Some(rule) }
 }
 
-fn voltages_owe(rt: &impl Abort, alloc: Global, rows: &[Voltage]) -> Result<(), Fail> {
+fn voltages_owe(rt: &impl Abort, alloc: Global, rows: &[Voltage]) -> Result<(), BoardFault> {
     let board = rule_board(alloc)?;
     for (span, pages, holds) in rows {
         let before = (*pages, [0].as_slice(), [].as_slice(), *span);
@@ -235,12 +235,12 @@ fn voltages_owe(rt: &impl Abort, alloc: Global, rows: &[Voltage]) -> Result<(), 
             "write a VOUT_COMMAND r0",
             before,
             unless(*holds, K4),
-        )?;
+        );
     }
     Ok(())
 }
 
-fn needs_owe(rt: &impl Abort, alloc: Global, rows: &[Need]) -> Result<(), Fail> {
+fn needs_owe(rt: &impl Abort, alloc: Global, rows: &[Need]) -> Result<(), BoardFault> {
     let board = rule_board(alloc)?;
     for (pages, good, holds) in rows {
         let before = (*pages, [0].as_slice(), *good, (0, 0));
@@ -251,14 +251,14 @@ fn needs_owe(rt: &impl Abort, alloc: Global, rows: &[Need]) -> Result<(), Fail> 
             "write a OPERATION 0x80",
             before,
             unless(*holds, K5),
-        )?;
-        owes(rt, alloc, &board, "write a OPERATION 0x40", before, None)?;
+        );
+        owes(rt, alloc, &board, "write a OPERATION 0x40", before, None);
     }
     Ok(())
 }
 
 #[test]
-fn what_is_touched(rt: HostRuntime) -> Result<(), Fail> {
-    voltages_owe(&rt, rt.alloc(), &VOLTAGES)?;
-    needs_owe(&rt, rt.alloc(), &NEEDS)
+fn what_is_touched(rt: HostRuntime) {
+    same(&rt, voltages_owe(&rt, rt.alloc(), &VOLTAGES), Ok(()));
+    same(&rt, needs_owe(&rt, rt.alloc(), &NEEDS), Ok(()));
 }

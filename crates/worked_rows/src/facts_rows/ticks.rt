@@ -1,11 +1,11 @@
 use super::known::{rule_board, slow_board};
 use crate::expected::same;
-use board::Board;
+use board::{Board, BoardFault};
 use facts::worst_ticks;
 use seq_program::read_program;
 use std::alloc::Global;
 use std::process::Abort;
-use std::test::Fail;
+use std::test::*;
 
 /// An instruction, and its ticks at most where no target stretches the clock, and where one does by
 /// up to 100.
@@ -46,26 +46,32 @@ static TICKS: [Ticks; 29] = [
     ("fail", 1, 1),
 ];
 
-/// Tries the ticks of a line.
-fn takes(rt: &impl Abort, alloc: Global, board: &Board, line: &str, want: u64) -> Result<(), Fail> {
-    let text = format!(in alloc; "{line}\nx:\nend")?;
-    let program = read_program(alloc, board, &text)?;
-    let instr = program.at(0).ok_or("no such place")?;
-    same(rt, (line, worst_ticks(board, instr)), (line, want));
-    Ok(())
+fn ticks_of(alloc: Global, board: &Board, line: &str) -> Option<u64> {
+    let text = format!(in alloc; "{line}\nx:\nend").ok()?;
+    let program = read_program(alloc, board, &text).ok()?;
+    let instr = program.at(0)?;
+    Some(worst_ticks(board, instr))
 }
 
-fn all_take(rt: &impl Abort, alloc: Global, rows: &[Ticks]) -> Result<(), Fail> {
+fn all_take(rt: &impl Abort, alloc: Global, rows: &[Ticks]) -> Result<(), BoardFault> {
     let quick = rule_board(alloc)?;
     let slow = slow_board(alloc)?;
     for (line, least, most) in rows {
-        takes(rt, alloc, &quick, line, *least)?;
-        takes(rt, alloc, &slow, line, *most)?;
+        same(
+            rt,
+            (*line, ticks_of(alloc, &quick, line)),
+            (*line, Some(*least)),
+        );
+        same(
+            rt,
+            (*line, ticks_of(alloc, &slow, line)),
+            (*line, Some(*most)),
+        );
     }
     Ok(())
 }
 
 #[test]
-fn worst_ticks_of_forms(rt: HostRuntime) -> Result<(), Fail> {
-    all_take(&rt, rt.alloc(), &TICKS)
+fn worst_ticks_of_forms(rt: HostRuntime) {
+    same(&rt, all_take(&rt, rt.alloc(), &TICKS), Ok(()));
 }
