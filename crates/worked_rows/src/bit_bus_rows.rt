@@ -62,9 +62,9 @@ const HIGH: Sample = Sample {
 };
 
 /// A frame without bytes whose STOP is held so long.
-fn stop_held(alloc: Global, hold: u16) -> Result<Driven, Fail> {
-    let plan = plan_of(alloc, 0, &[hold])?.ok_or("no plan")?;
-    Ok(drive(alloc, &plan, false)?)
+fn stop_held(alloc: Global, hold: u16) -> Option<Driven> {
+    let plan = plan_of(alloc, 0, &[hold]).ok()??;
+    drive(alloc, &plan, false).ok()
 }
 
 /// The samples of a short frame, after an idle one.
@@ -113,14 +113,14 @@ fn ends_high(
     Ok(())
 }
 
-fn all_end_high(rt: &impl Abort, alloc: Global, rows: &[Held]) -> Result<(), Fail> {
+fn all_end_high(rt: &impl Abort, alloc: Global, rows: &[Held]) -> Option<()> {
     for held in rows {
-        ends_high(rt, alloc, &stop_held(alloc, held.0)?, *held)?;
+        ends_high(rt, alloc, &stop_held(alloc, held.0)?, *held).ok()?;
     }
-    Ok(())
+    Some(())
 }
 
 #[test]
-fn at_the_timeout(rt: HostRuntime) -> Result<(), Fail> {
-    all_end_high(&rt, rt.alloc(), &HOLDS)
+fn at_the_timeout(rt: HostRuntime) {
+    same(&rt, all_end_high(&rt, rt.alloc(), &HOLDS), Some(()));
 }

@@ -44,7 +44,7 @@ static LINES: [AnswerRow; 16] = [
     ),
 ];
 
-fn says(rt: &impl Abort, alloc: Global, row: AnswerRow) -> Result<(), Fail> {
+fn says(rt: &impl Abort, alloc: Global, row: AnswerRow) -> Result<(), ReadError<BundleFault>> {
     let (line, holds, want) = row;
     let answer = answer_line_of(alloc, 7, line)?;
     same(rt, (line, answer.holds.as_slice()), (line, holds));
@@ -60,7 +60,11 @@ fn says(rt: &impl Abort, alloc: Global, row: AnswerRow) -> Result<(), Fail> {
     Ok(())
 }
 
-fn all_say(rt: &impl Abort, alloc: Global, rows: &[AnswerRow]) -> Result<(), Fail> {
+fn all_say(
+    rt: &impl Abort,
+    alloc: Global,
+    rows: &[AnswerRow],
+) -> Result<(), ReadError<BundleFault>> {
     for row in rows {
         says(rt, alloc, *row)?;
     }
@@ -68,16 +72,20 @@ fn all_say(rt: &impl Abort, alloc: Global, rows: &[AnswerRow]) -> Result<(), Fai
 }
 
 #[test]
-fn answer_lines(rt: HostRuntime) -> Result<(), Fail> {
-    all_say(&rt, rt.alloc(), &LINES)
+fn answer_lines(rt: HostRuntime) {
+    same(&rt, all_say(&rt, rt.alloc(), &LINES), Ok(()));
+}
+
+/// How many slots a line tells of, and what is held in the last.
+fn last_slot(alloc: Global, line: &str) -> Option<(usize, Option<u16>)> {
+    let answer = answer_line_of(alloc, 7, line).ok()?;
+    Some((answer.holds.len(), answer.holds.last().copied()))
 }
 
 #[test]
-fn the_last_slot(rt: HostRuntime) -> Result<(), Fail> {
-    let answer = answer_line_of(rt.alloc(), 7, "holds=4095:1")?;
-    let slots = &answer.holds;
-    same(&rt, (slots.len(), slots.last()), (4096, Some(&1)));
-    Ok(())
+fn the_last_slot(rt: HostRuntime) {
+    let seen = last_slot(rt.alloc(), "holds=4095:1");
+    same(&rt, seen, Some((4096, Some(1))));
 }
 
 static BAD_LINES: [&str; 41] = [
@@ -190,7 +198,11 @@ start 00,FF 00,80
     ),
 ];
 
-fn is_started(rt: &impl Abort, alloc: Global, started: Started) -> Result<(), Fail> {
+fn is_started(
+    rt: &impl Abort,
+    alloc: Global,
+    started: Started,
+) -> Result<(), ReadError<BundleFault>> {
     let (text, pages, protects, said) = started;
     let run = answers_of(alloc, text)?;
     same(
@@ -202,7 +214,11 @@ fn is_started(rt: &impl Abort, alloc: Global, started: Started) -> Result<(), Fa
     Ok(())
 }
 
-fn all_are_started(rt: &impl Abort, alloc: Global, rows: &[Started]) -> Result<(), Fail> {
+fn all_are_started(
+    rt: &impl Abort,
+    alloc: Global,
+    rows: &[Started],
+) -> Result<(), ReadError<BundleFault>> {
     for started in rows {
         is_started(rt, alloc, *started)?;
     }
@@ -210,8 +226,8 @@ fn all_are_started(rt: &impl Abort, alloc: Global, rows: &[Started]) -> Result<(
 }
 
 #[test]
-fn sections(rt: HostRuntime) -> Result<(), Fail> {
-    all_are_started(&rt, rt.alloc(), &STARTED)
+fn sections(rt: HostRuntime) {
+    same(&rt, all_are_started(&rt, rt.alloc(), &STARTED), Ok(()));
 }
 
 /// What stands below `%answers` on the fourth line, and the line of its fault.
@@ -235,18 +251,19 @@ static BAD_SECTIONS: [(&str, usize); 17] = [
     ("\nstart 0G 00\nvalue=4G\n", 5),
 ];
 
-fn has_fault(rt: &impl Abort, alloc: Global, below: &str, line: usize) -> Result<(), Fail> {
+fn has_fault(rt: &impl Abort, alloc: Global, below: &str, line: usize) -> Result<(), AllocError> {
     let text = format!(in alloc; "%run\n%board\n%program\n%answers{below}")?;
     let fault = answers_of(alloc, &text).err();
-    same(
-        rt,
-        (below, fault),
-        (below, Some(BundleFault::BadAnswer(line).error())),
-    );
+    let want = Some(BundleFault::BadAnswer(line).error());
+    same(rt, (below, fault), (below, want));
     Ok(())
 }
 
-fn all_have_faults(rt: &impl Abort, alloc: Global, rows: &[(&str, usize)]) -> Result<(), Fail> {
+fn all_have_faults(
+    rt: &impl Abort,
+    alloc: Global,
+    rows: &[(&str, usize)],
+) -> Result<(), AllocError> {
     for (below, line) in rows {
         has_fault(rt, alloc, below, *line)?;
     }
@@ -254,6 +271,6 @@ fn all_have_faults(rt: &impl Abort, alloc: Global, rows: &[(&str, usize)]) -> Re
 }
 
 #[test]
-fn bad_sections(rt: HostRuntime) -> Result<(), Fail> {
-    all_have_faults(&rt, rt.alloc(), &BAD_SECTIONS)
+fn bad_sections(rt: HostRuntime) {
+    same(&rt, all_have_faults(&rt, rt.alloc(), &BAD_SECTIONS), Ok(()));
 }
