@@ -5,36 +5,31 @@ mod refusals;
 mod warnings;
 
 use crate::boards::{TWO, two_board};
-use crate::expected::{begins, same, says};
+use crate::expected::{Noted, begins, notes, says};
 use board::{BoardFault, read_board};
 use bundles::{BundleFault, Header};
 use diagnostics::{board_note, bundle_note, program_note};
 use seq_program::{ProgramFault, read_program};
-use std::alloc::Global;
+use std::alloc::{AllocError, Global};
 use std::process::Abort;
 use std::test::*;
 
 /// The note on a program's fault; `None` where it has none.
-fn note_on_program(alloc: Global, text: &str) -> Result<Option<String>, Fail> {
-    let board = two_board(alloc)?;
+fn note_on_program(alloc: Global, text: &str) -> Noted {
+    let Ok(board) = two_board(alloc) else {
+        return Err(AllocError);
+    };
     match read_program(alloc, &board, text) {
         Ok(_) => Ok(None),
-        Err(fault) => Ok(program_note(alloc, &board, text, fault)?),
+        Err(fault) => program_note(alloc, &board, text, fault),
     }
 }
 
-/// Tries the note on a program's fault.
-fn is_noted(rt: &impl Abort, alloc: Global, text: &str, want: Option<&str>) -> Result<(), Fail> {
-    let note = note_on_program(alloc, text)?;
-    same(rt, (text, note.as_deref()), (text, want));
-    Ok(())
-}
-
-fn all_are_noted(rt: &impl Abort, alloc: Global, notes: &[(&str, &str)]) -> Result<(), Fail> {
-    for (text, want) in notes {
-        is_noted(rt, alloc, text, Some(*want))?;
+/// Tries the note on each program's fault.
+fn all_are_noted(rt: &impl Abort, alloc: Global, rows: &[(&str, &str)]) {
+    for (text, want) in rows {
+        notes(rt, note_on_program(alloc, text), Some(*want));
     }
-    Ok(())
 }
 
 /// A bundle would drop the CR of these.
@@ -59,11 +54,14 @@ const TOO_LONG: &str = "%program:1025: error: a program has at most 1024 instruc
     end
 ";
 
+fn note_on_a_long_program(alloc: Global) -> Noted {
+    note_on_program(alloc, &"end\n".repeat(alloc, 1025)?)
+}
+
 #[test]
-fn programs(rt: HostRuntime) -> Result<(), Fail> {
-    all_are_noted(&rt, rt.alloc(), &CARRIAGE_RETURNS)?;
-    let long = "end\n".repeat(rt.alloc(), 1025)?;
-    is_noted(&rt, rt.alloc(), &long, Some(TOO_LONG))
+fn programs(rt: HostRuntime) {
+    all_are_noted(&rt, rt.alloc(), &CARRIAGE_RETURNS);
+    notes(&rt, note_on_a_long_program(rt.alloc()), Some(TOO_LONG));
 }
 
 /// A line of each instruction.
@@ -91,85 +89,60 @@ static LINES: [&str; 21] = [
     "fail",
 ];
 
-/// Tries that a line is read, and that it isn't with a word more.
-fn ends_there(rt: &impl Abort, alloc: Global, line: &str) -> Result<(), Fail> {
-    let text = format!(in alloc; "x:\n{line}\nend")?;
-    is_noted(rt, alloc, &text, None)?;
-    let text = format!(in alloc; "x:\n{line} more\nend")?;
-    let note = note_on_program(alloc, &text)?;
-    begins(
-        rt,
-        note.as_deref(),
-        "%program:2: error: too many words behind",
-    );
-    Ok(())
+fn note_on_line(alloc: Global, line: &str, more: &str) -> Noted {
+    note_on_program(alloc, &format!(in alloc; "x:\n{line}{more}\nend")?)
 }
 
-fn all_end_there(rt: &impl Abort, alloc: Global, lines: &[&str]) -> Result<(), Fail> {
+/// Tries that each line is read, and that none is with a word more.
+fn all_end_there(rt: &impl Abort, alloc: Global, lines: &[&str]) {
     for line in lines {
-        ends_there(rt, alloc, line)?;
+        notes(rt, note_on_line(alloc, line, ""), None);
+        let note = note_on_line(alloc, line, " more");
+        begins(rt, note, "%program:2: error: too many words behind");
     }
-    Ok(())
 }
 
 #[test]
-fn each_instruction(rt: HostRuntime) -> Result<(), Fail> {
-    all_end_there(&rt, rt.alloc(), &LINES)
+fn each_instruction(rt: HostRuntime) {
+    all_end_there(&rt, rt.alloc(), &LINES);
 }
 
 /// The note on a fault that the text hasn't.
-fn other_note(alloc: Global, fault: ProgramFault) -> Result<Option<String>, Fail> {
-    let board = two_board(alloc)?;
-    Ok(program_note(alloc, &board, "end", fault)?)
+fn other_note(alloc: Global, fault: ProgramFault) -> Noted {
+    match two_board(alloc) {
+        Ok(board) => program_note(alloc, &board, "end", fault),
+        Err(_) => Err(AllocError),
+    }
 }
 
+/// Faults that a text hasn't have a note all the same, but for Memory.
 #[test]
-fn bad_operand_elsewhere_has_a_note(rt: HostRuntime) -> Result<(), Fail> {
-    let note = other_note(rt.alloc(), ProgramFault::BadOperand(7))?;
-    same(
-        &rt,
-        note.as_deref(),
-        Some("%program:7: error: a bad operand\n"),
-    );
-    Ok(())
+fn other_faults(rt: HostRuntime) {
+    let note = other_note(rt.alloc(), ProgramFault::BadOperand(7));
+    notes(&rt, note, Some("%program:7: error: a bad operand\n"));
+    notes(&rt, other_note(rt.alloc(), ProgramFault::Memory), None);
+    notes(&rt, board_note(rt.alloc(), TWO, BoardFault::Memory), None);
 }
 
+/// The note on a board's fault, where this comes so often behind the board that is there.
+fn note_on_board(alloc: Global, board: &str, table: &str, count: usize) -> Noted {
+    let tables = table.repeat(alloc, count)?;
+    let text = format!(in alloc; "{board}{tables}")?;
+    match read_board(alloc, &text) {
+        Ok(_) => Ok(None),
+        Err(fault) => board_note(alloc, &text, fault),
+    }
+}
+
+/// No table, and one too many.
 #[test]
-fn refused_memory_has_no_note(rt: HostRuntime) -> Result<(), Fail> {
-    let note = other_note(rt.alloc(), ProgramFault::Memory)?;
-    same(&rt, note.as_deref(), None);
-    let note = board_note(rt.alloc(), TWO, BoardFault::Memory)?;
-    same(&rt, note.as_deref(), None);
-    Ok(())
-}
-
-/// Tries the beginning of the note on a board's fault.
-fn is_board_noted(rt: &impl Abort, alloc: Global, text: &str, want: &str) -> Result<(), Fail> {
-    let fault = read_board(alloc, text).err().ok_or("no fault")?;
-    let note = board_note(alloc, text, fault)?;
-    begins(rt, note.as_deref(), want);
-    Ok(())
-}
-
-#[test]
-fn a_board_needs_a_target(rt: HostRuntime) -> Result<(), Fail> {
+fn counts_of_tables(rt: HostRuntime) {
     let want = "%board:1: error: the board has no target\n";
-    is_board_noted(&rt, rt.alloc(), "", want)
-}
-
-#[test]
-fn seventeen_targets_are_too_many(rt: HostRuntime) -> Result<(), Fail> {
-    let targets = "[[target]]\n".repeat(rt.alloc(), 17)?;
+    begins(&rt, note_on_board(rt.alloc(), "", "", 0), want);
     let want = "%board:17: error: a board has at most 16 targets, and this is one more\n";
-    is_board_noted(&rt, rt.alloc(), &targets, want)
-}
-
-#[test]
-fn sixty_five_rails_are_too_many(rt: HostRuntime) -> Result<(), Fail> {
-    let rails = "[[rail]]\n".repeat(rt.alloc(), 65)?;
-    let text = format!(in rt.alloc(); "{TWO}{rails}")?;
+    begins(&rt, note_on_board(rt.alloc(), "", "[[target]]\n", 17), want);
     let want = "%board:107: error: a board has at most 64 rails, and this is one more\n";
-    is_board_noted(&rt, rt.alloc(), &text, want)
+    begins(&rt, note_on_board(rt.alloc(), TWO, "[[rail]]\n", 65), want);
 }
 
 const BUNDLE: &str = "%run

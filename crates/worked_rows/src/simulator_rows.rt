@@ -1,10 +1,10 @@
-//! Runs by their calls. What is printed of whole runs is tried with the bundles of `examples/rows`.
+//! Runs by their calls. What is printed of whole runs is tried with the bundles of
+//! `examples/rows`.
 
 use crate::boards::alert_board;
 use crate::devices::SlowWriter;
 use crate::expected::same;
 use crate::runs::{ASKED, ASKING, NOTHING, answer_of, answers_of, trace_of};
-use board::Board;
 use seq_program::read_program;
 use simulator::{Entry, RunFault, Trace, WriteFault, start, step, write_trace};
 use smbus::Answer;
@@ -12,32 +12,57 @@ use std::alloc::{AllocError, Global};
 use std::process::Abort;
 use std::test::*;
 
-fn long_wait_on(alloc: Global, board: &Board) -> Result<Entry, Fail> {
-    let program = read_program(alloc, board, "wait 10000000\nend\n")?;
-    let _places = program.places();
-    let machine = start(alloc, board, &[0, 0], &[0, 0])?;
-    let (_, entry) = step(alloc, board, &program, &machine, &answer_of(alloc, NOTHING))?;
-    Ok(entry)
+/// The step of the longest wait: its ticks, its runs of samples, and the levels of SCL and SDA in
+/// its last sample and behind that.
+type Waited = (u64, usize, Option<(bool, bool)>, Option<(bool, bool)>);
+
+fn levels_at(entry: &Entry, place: u64) -> Option<(bool, bool)> {
+    let sample = entry.samples.sample_at(place)?;
+    Some((sample.scl, sample.sda))
 }
 
-/// The step of the longest wait.
-fn long_wait(alloc: Global) -> Result<Entry, Fail> {
-    let board = alert_board(alloc)?;
-    long_wait_on(alloc, &board)
+fn long_wait(alloc: Global) -> Option<Waited> {
+    let board = alert_board(alloc).ok()?;
+    let program = read_program(alloc, &board, "wait 10000000\nend\n").ok()?;
+    let _places = program.places();
+    let machine = start(alloc, &board, &[0, 0], &[0, 0]).ok()?;
+    let answer = answer_of(alloc, NOTHING);
+    let (_, entry) = step(alloc, &board, &program, &machine, &answer).ok()?;
+    let last = levels_at(&entry, 10_000_000);
+    let behind = levels_at(&entry, 10_000_001);
+    Some((entry.ticks, entry.samples.runs().len(), last, behind))
 }
 
 #[test]
-fn a_wait_is_one_run(rt: HostRuntime) -> Result<(), Fail> {
-    let entry = long_wait(rt.alloc())?;
-    same(
-        &rt,
-        (entry.ticks, entry.samples.runs().len()),
-        (10_000_001, 1),
-    );
-    let last = entry.samples.sample_at(10_000_000).ok_or("no sample")?;
-    same(&rt, (last.scl, last.sda), (true, true));
-    same(&rt, entry.samples.sample_at(10_000_001), None);
-    Ok(())
+fn a_wait_is_one_run(rt: HostRuntime) {
+    let want = (10_000_001, 1, Some((true, true)), None);
+    same(&rt, long_wait(rt.alloc()), Some(want));
+}
+
+fn trace_text(alloc: Global, trace: &Trace) -> Option<String> {
+    let mut bytes = Vec::new(alloc);
+    write_trace(alloc, trace, &mut bytes).ok()?;
+    String::from_utf8(bytes).ok()
+}
+
+fn asked_text(alloc: Global) -> Option<String> {
+    let board = alert_board(alloc).ok()?;
+    let program = read_program(alloc, &board, ASKING).ok()?;
+    let answers = answers_of(alloc, &ASKED).ok()?;
+    let trace = trace_of(alloc, &board, &program, 0, &answers).ok()?;
+    trace_text(alloc, &trace)
+}
+
+#[test]
+fn lowest_address_answers_first(rt: HostRuntime) {
+    let want = "0 2 - -
+1 41 S 19A 42N P done 0042
+2 41 S 19A 80N P done 0080
+3 23 S 19N P nak
+5 1 - -
+fail ticks 108
+";
+    same(&rt, asked_text(rt.alloc()).as_deref(), Some(want));
 }
 
 /// So many answers in which nothing is said.
@@ -49,48 +74,26 @@ fn silences(alloc: Global, count: usize) -> Result<Vec<Answer>, AllocError> {
     Ok(answers)
 }
 
-fn trace_text(alloc: Global, trace: &Trace) -> Result<String, Fail> {
-    let mut bytes = Vec::new(alloc);
-    write_trace(alloc, trace, &mut bytes)?;
-    Ok(String::from_utf8(bytes)?)
-}
-
-fn asked_text(alloc: Global) -> Result<String, Fail> {
-    let board = alert_board(alloc)?;
-    let program = read_program(alloc, &board, ASKING)?;
-    let answers = answers_of(alloc, &ASKED)?;
-    let trace = trace_of(alloc, &board, &program, 0, &answers)?;
-    trace_text(alloc, &trace)
+/// Whether the text of a run that waits again and again, with so many answers, ends like this.
+fn spin(alloc: Global, answers: usize, end: &str) -> Option<Result<bool, RunFault>> {
+    let board = alert_board(alloc).ok()?;
+    let program = read_program(alloc, &board, "spin:\nwait 10000000\ngoto spin\nend\n").ok()?;
+    let answers = silences(alloc, answers).ok()?;
+    Some(match trace_of(alloc, &board, &program, 0, &answers) {
+        Ok(trace) => Ok(trace_text(alloc, &trace)?.ends_with(end)),
+        Err(fault) => Err(fault),
+    })
 }
 
 #[test]
-fn lowest_address_answers_first(rt: HostRuntime) -> Result<(), Fail> {
-    let want = "0 2 - -
-1 41 S 19A 42N P done 0042
-2 41 S 19A 80N P done 0080
-3 23 S 19N P nak
-5 1 - -
-fail ticks 108
-";
-    same(&rt, asked_text(rt.alloc())?.as_str(), want);
-    Ok(())
-}
-
-/// The run of a program that waits again and again, with so many answers.
-fn spin(alloc: Global, board: &Board, answers: usize) -> Result<Result<Trace, RunFault>, Fail> {
-    let program = read_program(alloc, board, "spin:\nwait 10000000\ngoto spin\nend\n")?;
-    let answers = silences(alloc, answers)?;
-    Ok(trace_of(alloc, board, &program, 0, &answers))
-}
-
-#[test]
-fn runs_take_two_to_the_fortieth_ticks_at_most(rt: HostRuntime) -> Result<(), Fail> {
-    let board = alert_board(rt.alloc())?;
-    let text = trace_text(rt.alloc(), &spin(rt.alloc(), &board, 219_902)??)?;
-    assert!(rt; text.ends_with("\n1 1 - -\nrunning ticks 1099510219902\n"));
-    let fault = spin(rt.alloc(), &board, 219_903)?.err();
-    same(&rt, fault, Some(RunFault::TooLong));
-    Ok(())
+fn runs_take_two_to_the_fortieth_ticks_at_most(rt: HostRuntime) {
+    let end = "\n1 1 - -\nrunning ticks 1099510219902\n";
+    same(&rt, spin(rt.alloc(), 219_902, end), Some(Ok(true)));
+    same(
+        &rt,
+        spin(rt.alloc(), 219_903, ""),
+        Some(Err(RunFault::TooLong)),
+    );
 }
 
 #[test]
@@ -104,10 +107,10 @@ fn faults_of_runs(rt: HostRuntime) {
 }
 
 /// The run of no step.
-fn empty_trace(alloc: Global) -> Result<Trace, Fail> {
-    let board = alert_board(alloc)?;
-    let program = read_program(alloc, &board, "end\n")?;
-    Ok(trace_of(alloc, &board, &program, 0, &[])?)
+fn empty_trace(alloc: Global) -> Option<Trace> {
+    let board = alert_board(alloc).ok()?;
+    let program = read_program(alloc, &board, "end\n").ok()?;
+    trace_of(alloc, &board, &program, 0, &[]).ok()
 }
 
 /// How many bytes a writer takes, and whether it fails then.
@@ -131,14 +134,15 @@ fn is_written(rt: &impl Abort, alloc: Global, trace: &Trace, calls_left: usize, 
     same(rt, Some(output.taken.as_slice()), text.get(..calls_left));
 }
 
-fn all_are_written(rt: &impl Abort, alloc: Global, trace: &Trace, rows: &[(usize, bool)]) {
+fn all_are_written(rt: &impl Abort, alloc: Global, rows: &[(usize, bool)]) -> Option<()> {
+    let trace = empty_trace(alloc)?;
     for (calls_left, fails) in rows {
-        is_written(rt, alloc, trace, *calls_left, *fails);
+        is_written(rt, alloc, &trace, *calls_left, *fails);
     }
+    Some(())
 }
 
 #[test]
-fn writer_fails_on_the_way(rt: HostRuntime) -> Result<(), Fail> {
-    all_are_written(&rt, rt.alloc(), &empty_trace(rt.alloc())?, &WRITERS);
-    Ok(())
+fn writer_fails_on_the_way(rt: HostRuntime) {
+    same(&rt, all_are_written(&rt, rt.alloc(), &WRITERS), Some(()));
 }

@@ -1,7 +1,7 @@
 //! Notes on programs that are refused, and on whole inputs.
 
 use crate::boards::TWO;
-use crate::expected::{begins, same};
+use crate::expected::{Noted, begins, notes, same};
 use diagnostics::{Keeping, Refusal, note_on, refusal_note};
 use facts::Rule;
 use std::alloc::Global;
@@ -45,29 +45,21 @@ static REFUSALS: [(Refusal, usize, &str); 4] = [
     ),
 ];
 
-fn all_are_refused(
-    rt: &impl Abort,
-    alloc: Global,
-    refusals: &[(Refusal, usize, &str)],
-) -> Result<(), Fail> {
-    for (refusal, place, want) in refusals {
-        let note = refusal_note(alloc, PROGRAM, *place, *refusal)?;
-        begins(rt, note.as_deref(), want);
+fn all_are_refused(rt: &impl Abort, alloc: Global, rows: &[(Refusal, usize, &str)]) {
+    for (refusal, place, want) in rows {
+        begins(rt, refusal_note(alloc, PROGRAM, *place, *refusal), want);
     }
-    Ok(())
 }
 
-/// The place counts instructions, and its note has the line.
+/// The place counts instructions, and its note has the line. There is none past the end.
 #[test]
-fn refusals(rt: HostRuntime) -> Result<(), Fail> {
-    all_are_refused(&rt, rt.alloc(), &REFUSALS)
-}
-
-#[test]
-fn no_refusal_is_past_the_end(rt: HostRuntime) -> Result<(), Fail> {
-    let note = refusal_note(rt.alloc(), PROGRAM, 3, Refusal::GaveUp)?;
-    same(&rt, note.as_deref(), None);
-    Ok(())
+fn refusals(rt: HostRuntime) {
+    all_are_refused(&rt, rt.alloc(), &REFUSALS);
+    notes(
+        &rt,
+        refusal_note(rt.alloc(), PROGRAM, 3, Refusal::GaveUp),
+        None,
+    );
 }
 
 /// A program, and the beginning of the note where it is to be verified.
@@ -91,32 +83,25 @@ static INPUTS: [(&str, &str); 4] = [
 ];
 
 /// The note on a program that is to be verified.
-fn verified_note(alloc: Global, program: &str) -> Result<Option<String>, Fail> {
-    let text = format!(in alloc; "%verify\n%board\n{TWO}%program\n{program}")?;
-    Ok(note_on(alloc, &text)?)
+fn verified_note(alloc: Global, program: &str) -> Noted {
+    note_on(
+        alloc,
+        &format!(in alloc; "%verify\n%board\n{TWO}%program\n{program}")?,
+    )
 }
 
-fn all_begin(rt: &impl Abort, alloc: Global, inputs: &[(&str, &str)]) -> Result<(), Fail> {
+fn all_begin(rt: &impl Abort, alloc: Global, inputs: &[(&str, &str)]) {
     for (program, want) in inputs {
-        let note = verified_note(alloc, program)?;
-        begins(rt, note.as_deref(), want);
+        begins(rt, verified_note(alloc, program), want);
     }
-    Ok(())
 }
 
 #[test]
-fn inputs(rt: HostRuntime) -> Result<(), Fail> {
-    all_begin(&rt, rt.alloc(), &INPUTS)?;
-    let accepted = verified_note(rt.alloc(), "end\n")?;
-    same(&rt, accepted.as_deref(), None);
-    Ok(())
-}
-
-#[test]
-fn a_bare_command_has_no_board(rt: HostRuntime) -> Result<(), Fail> {
-    let bare = note_on(rt.alloc(), "%verify\n")?;
-    begins(&rt, bare.as_deref(), "bundle:1: error: the section %board");
-    Ok(())
+fn inputs(rt: HostRuntime) {
+    all_begin(&rt, rt.alloc(), &INPUTS);
+    notes(&rt, verified_note(rt.alloc(), "end\n"), None);
+    let bare = note_on(rt.alloc(), "%verify\n");
+    begins(&rt, bare, "bundle:1: error: the section %board");
 }
 
 /// How many bytes are read, and whether they are kept: those that aren't over 1 MiB.
@@ -127,23 +112,25 @@ static KEPT: [(usize, bool); 4] = [
     ((1 << 20) + 1, false),
 ];
 
-fn is_kept(rt: &impl Abort, alloc: Global, count: usize, is_kept: bool) -> Result<(), Fail> {
-    let bytes = "x".repeat(alloc, count)?;
+/// Whether so many bytes are kept as they were, or none.
+fn is_kept(alloc: Global, count: usize) -> Option<bool> {
+    let bytes = "x".repeat(alloc, count).ok()?;
     let mut reader = Keeping::new(alloc, bytes.as_bytes());
     let mut text = String::new(alloc);
-    reader.read_to_string(&mut text)?;
-    same(rt, reader.kept(), is_kept.then_some(bytes.as_bytes()));
-    Ok(())
+    reader.read_to_string(&mut text).ok()?;
+    match reader.kept() {
+        Some(kept) => (kept == bytes.as_bytes()).then_some(true),
+        None => Some(false),
+    }
 }
 
-fn all_are_kept(rt: &impl Abort, alloc: Global, rows: &[(usize, bool)]) -> Result<(), Fail> {
+fn all_are_kept(rt: &impl Abort, alloc: Global, rows: &[(usize, bool)]) {
     for (count, want) in rows {
-        is_kept(rt, alloc, *count, *want)?;
+        same(rt, (*count, is_kept(alloc, *count)), (*count, Some(*want)));
     }
-    Ok(())
 }
 
 #[test]
-fn kept_input(rt: HostRuntime) -> Result<(), Fail> {
-    all_are_kept(&rt, rt.alloc(), &KEPT)
+fn kept_input(rt: HostRuntime) {
+    all_are_kept(&rt, rt.alloc(), &KEPT);
 }

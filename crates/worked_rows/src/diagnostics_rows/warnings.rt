@@ -1,9 +1,9 @@
 //! Warnings of runs and of boards.
 
 use crate::boards::TWO;
-use crate::expected::{begins, same};
+use crate::expected::{Noted, begins, notes, same};
 use diagnostics::warnings_on;
-use std::alloc::Global;
+use std::alloc::{AllocError, Global};
 use std::process::Abort;
 use std::test::*;
 
@@ -49,58 +49,53 @@ static SPARED: [(&str, &str); 3] = [
 ];
 
 /// The warning of a run.
-fn warning_of(alloc: Global, program: &str, answers: &str) -> Result<Option<String>, Fail> {
+fn warning_of(alloc: Global, program: &str, answers: &str) -> Noted {
     let run = format!(in alloc; "%program\n{program}%answers\nstart 00,00 00,00\n{answers}")?;
     let text = format!(in alloc; "%run\n%board\n{TWO}{run}")?;
     Ok(warnings_on(alloc, &text)?.of_run)
 }
 
-fn all_are_warned_of(
-    rt: &impl Abort,
-    alloc: Global,
-    warned: &[(&str, &str, &str)],
-) -> Result<(), Fail> {
-    for (program, answers, want) in warned {
-        let warning = warning_of(alloc, program, answers)?;
-        begins(rt, warning.as_deref(), want);
+fn all_are_warned_of(rt: &impl Abort, alloc: Global, rows: &[(&str, &str, &str)]) {
+    for (program, answers, want) in rows {
+        begins(rt, warning_of(alloc, program, answers), want);
     }
-    Ok(())
 }
 
-fn all_are_spared(rt: &impl Abort, alloc: Global, spared: &[(&str, &str)]) -> Result<(), Fail> {
-    for (program, answers) in spared {
-        let warning = warning_of(alloc, program, answers)?;
-        same(rt, warning.as_deref(), None);
+fn all_are_spared(rt: &impl Abort, alloc: Global, rows: &[(&str, &str)]) {
+    for (program, answers) in rows {
+        notes(rt, warning_of(alloc, program, answers), None);
     }
-    Ok(())
 }
 
 #[test]
-fn runs_are_warned_of(rt: HostRuntime) -> Result<(), Fail> {
-    all_are_warned_of(&rt, rt.alloc(), &WARNED)?;
-    all_are_spared(&rt, rt.alloc(), &SPARED)
+fn runs_are_warned_of(rt: HostRuntime) {
+    all_are_warned_of(&rt, rt.alloc(), &WARNED);
+    all_are_spared(&rt, rt.alloc(), &SPARED);
 }
 
 /// How many warnings of a board there are, and whether one of them contains a text.
-fn board_warnings(alloc: Global, text: &str, part: &str) -> Result<(usize, bool), Fail> {
+fn board_warnings(alloc: Global, text: &str, part: &str) -> Result<(usize, bool), AllocError> {
     let warnings = warnings_on(alloc, text)?.of_board;
     let is_told = warnings.iter().any(|warning| warning.contains(part));
     Ok((warnings.len(), is_told))
 }
 
-/// Rails that need each other have a warning at the first one's needs.
-#[test]
-fn boards_are_warned_of(rt: HostRuntime) -> Result<(), Fail> {
-    let board = TWO.replace(rt.alloc(), "1100000", "1100000\nneeds = [\"vb\"]")?;
-    let text = format!(in rt.alloc(); "%verify\n%board\n{board}%program\nend\n")?;
-    let want =
-        "warning: needs in a circle: \"va\" needs \"vb\" needs \"va\"\n    needs = [\"vb\"]\n";
-    same(&rt, board_warnings(rt.alloc(), &text, want)?, (1, true));
-    Ok(())
+/// The warnings where the rails of TWO need each other.
+fn circle_warnings(alloc: Global, part: &str) -> Result<(usize, bool), AllocError> {
+    let board = TWO.replace(alloc, "1100000", "1100000\nneeds = [\"vb\"]")?;
+    let text = format!(in alloc; "%verify\n%board\n{board}%program\nend\n")?;
+    board_warnings(alloc, &text, part)
 }
 
+/// Rails that need each other have a warning at the first one's needs, an input with a fault none.
 #[test]
-fn inputs_with_a_fault_have_no_warning(rt: HostRuntime) -> Result<(), Fail> {
-    same(&rt, board_warnings(rt.alloc(), "%verify\n", "")?.0, 0);
-    Ok(())
+fn boards_are_warned_of(rt: HostRuntime) {
+    let want =
+        "warning: needs in a circle: \"va\" needs \"vb\" needs \"va\"\n    needs = [\"vb\"]\n";
+    same(&rt, circle_warnings(rt.alloc(), want), Ok((1, true)));
+    same(
+        &rt,
+        board_warnings(rt.alloc(), "%verify\n", ""),
+        Ok((0, false)),
+    );
 }
