@@ -1,18 +1,24 @@
 use crate::boards::{TWO, alert_board, two_board};
+use crate::expected::{same, says};
 use board::{Board, BoardFault, Range, read_board};
 use pmbus_table::{Command, by_name};
 use smbus::Form;
 use std::alloc::Global;
 use std::process::Abort;
-use std::test::Fail;
+use std::test::*;
 
 fn compare_targets(rt: &impl Abort, board: &Board) {
-    assert!(rt; board.targets().len() == 2);
-    assert!(rt; board.target_name(1) == Some("b"));
-    assert!(rt; board.target_named("b") == Some(1));
-    assert!(rt; board.target_named("va") == None);
-    assert!(rt; board.target_at(0x41) == Some(1));
-    assert!(rt; board.largest_stretch() == 0);
+    same(rt, (board.targets().len(), board.largest_stretch()), (2, 0));
+    same(
+        rt,
+        (board.target_name(1), board.target_at(0x41)),
+        (Some("b"), Some(1)),
+    );
+    same(
+        rt,
+        (board.target_named("b"), board.target_named("va")),
+        (Some(1), None),
+    );
 }
 
 /// The address, the pages, the exponent, the stretch, and whether it alerts.
@@ -35,11 +41,14 @@ fn starts_of(board: &Board, index: usize) -> Option<(&[u8], &[u8], usize)> {
 }
 
 fn compare_target(rt: &impl Abort, board: &Board) {
-    assert!(rt; numbers_of(board, 1) == Some((0x41, 1, -12, 0, false)));
+    same(rt, numbers_of(board, 1), Some((0x41, 1, -12, 0, false)));
     let starts = Some(([0].as_slice(), [0].as_slice(), 6));
-    assert!(rt; starts_of(board, 0) == starts);
-    assert!(rt; starts_of(board, 1) == starts);
-    assert!(rt; board.target(2).is_none());
+    same(
+        rt,
+        (starts_of(board, 0), starts_of(board, 1)),
+        (starts, starts),
+    );
+    same(rt, numbers_of(board, 2), None);
 }
 
 type EntryFacts = (Form, Option<Command>, Range, Range);
@@ -60,8 +69,8 @@ fn compare_entries(rt: &impl Abort, board: &Board) {
     };
     let length = Range { low: 1, high: 255 };
     let want = Some((Form::ReadWord, command, values, length));
-    assert!(rt; entry_of(board, 0, Form::ReadWord, 0x79) == want);
-    assert!(rt; entry_of(board, 0, Form::WriteWord, 0x79) == None);
+    same(rt, entry_of(board, 0, Form::ReadWord, 0x79), want);
+    same(rt, entry_of(board, 0, Form::WriteWord, 0x79), None);
 }
 
 /// The target, the page, the limit and the needs of a rail.
@@ -73,21 +82,31 @@ fn rail_facts(board: &Board, index: usize) -> Option<RailFacts<'_>> {
 }
 
 fn compare_rails(rt: &impl Abort, board: &Board) {
-    assert!(rt; board.rails().len() == 2);
-    assert!(rt; board.rail_name(0) == Some("va"));
-    assert!(rt; board.rail_named("vb") == Some(1));
+    same(
+        rt,
+        (board.rails().len(), board.rail_name(0)),
+        (2, Some("va")),
+    );
     let want = Some((1, 0, 3_300_000, [0].as_slice()));
-    assert!(rt; rail_facts(board, 1) == want);
+    same(
+        rt,
+        (board.rail_named("vb"), rail_facts(board, 1)),
+        (Some(1), want),
+    );
+}
+
+fn compare_two(rt: &impl Abort, alloc: Global) -> Result<(), BoardFault> {
+    let board = two_board(alloc)?;
+    compare_targets(rt, &board);
+    compare_target(rt, &board);
+    compare_entries(rt, &board);
+    compare_rails(rt, &board);
+    Ok(())
 }
 
 #[test]
-fn two_targets_and_two_rails(rt: HostRuntime) -> Result<(), Fail> {
-    let board = two_board(rt.alloc())?;
-    compare_targets(&rt, &board);
-    compare_target(&rt, &board);
-    compare_entries(&rt, &board);
-    compare_rails(&rt, &board);
-    Ok(())
+fn two_targets_and_two_rails(rt: HostRuntime) {
+    same(&rt, compare_two(&rt, rt.alloc()), Ok(()));
 }
 
 const LATER_NEED: &str = "1100000\nneeds = [\"vb\"]";
@@ -102,33 +121,36 @@ fn pages_board(alloc: Global) -> Result<Board, BoardFault> {
     read_board(alloc, &text)
 }
 
-fn compare_pages(rt: &impl Abort, board: &Board) {
-    assert!(rt; board.rails().len() == 3);
+fn compare_pages(rt: &impl Abort, alloc: Global) -> Result<(), BoardFault> {
+    let board = pages_board(alloc)?;
+    same(rt, board.rails().len(), 3);
     let first = Some((0, 0, 1_100_000, [1].as_slice()));
-    assert!(rt; rail_facts(board, 0) == first);
     let third = Some((0, 1, 1_100_000, [].as_slice()));
-    assert!(rt; rail_facts(board, 2) == third);
+    same(
+        rt,
+        (rail_facts(&board, 0), rail_facts(&board, 2)),
+        (first, third),
+    );
+    Ok(())
 }
 
 /// A rail may need a later one.
 #[test]
-fn pages(rt: HostRuntime) -> Result<(), Fail> {
-    let board = pages_board(rt.alloc())?;
-    compare_pages(&rt, &board);
-    Ok(())
+fn pages(rt: HostRuntime) {
+    same(&rt, compare_pages(&rt, rt.alloc()), Ok(()));
 }
 
-fn compare_alerts(rt: &impl Abort, board: &Board) {
-    assert!(rt; board.target_at(0x21) == Some(1));
-    assert!(rt; numbers_of(board, 0) == Some((0x40, 1, -12, 0, true)));
-    assert!(rt; numbers_of(board, 1) == Some((0x21, 1, -12, 0, true)));
+fn compare_alerts(rt: &impl Abort, alloc: Global) -> Result<(), BoardFault> {
+    let board = alert_board(alloc)?;
+    same(rt, board.target_at(0x21), Some(1));
+    same(rt, numbers_of(&board, 0), Some((0x40, 1, -12, 0, true)));
+    same(rt, numbers_of(&board, 1), Some((0x21, 1, -12, 0, true)));
+    Ok(())
 }
 
 #[test]
-fn alerts(rt: HostRuntime) -> Result<(), Fail> {
-    let board = alert_board(rt.alloc())?;
-    compare_alerts(&rt, &board);
-    Ok(())
+fn alerts(rt: HostRuntime) {
+    same(&rt, compare_alerts(&rt, rt.alloc()), Ok(()));
 }
 
 /// The example of docs/BOARD.md.
@@ -175,35 +197,43 @@ limit_uv = 3300000
 needs = ["va"]
 "#;
 
-fn compare_whole(rt: &impl Abort, board: &Board) {
-    assert!(rt; board.largest_stretch() == 200);
+fn compare_whole(rt: &impl Abort, alloc: Global) -> Result<(), BoardFault> {
+    let board = read_board(alloc, WHOLE)?;
+    same(rt, board.largest_stretch(), 200);
     let first = Some(([0, 255].as_slice(), [0].as_slice(), 7));
-    assert!(rt; starts_of(board, 0) == first);
     let second = Some(([0].as_slice(), [0, 0x80].as_slice(), 0));
-    assert!(rt; starts_of(board, 1) == second);
+    same(
+        rt,
+        (starts_of(&board, 0), starts_of(&board, 1)),
+        (first, second),
+    );
     let command = by_name("MFR_ID");
     let values = Range { low: 0, high: 255 };
     let length = Range { low: 1, high: 16 };
     let want = Some((Form::BlockRead, command, values, length));
-    assert!(rt; entry_of(board, 0, Form::BlockRead, 0x99) == want);
-}
-
-#[test]
-fn a_whole_board(rt: HostRuntime) -> Result<(), Fail> {
-    let board = read_board(rt.alloc(), WHOLE)?;
-    compare_whole(&rt, &board);
+    same(rt, entry_of(&board, 0, Form::BlockRead, 0x99), want);
     Ok(())
 }
 
 #[test]
-fn numbers_and_names_of_faults(rt: HostRuntime) -> Result<(), Fail> {
-    assert!(rt; BoardFault::Memory.number() == 1);
-    assert!(rt; BoardFault::UnknownCommand.number() == 10);
-    assert!(rt; BoardFault::BadKey.number() == 16);
-    assert!(rt; BoardFault::SelfNeed.name() == "SelfNeed");
-    let text = format!(in rt.alloc(); "{}", BoardFault::Toml)?;
-    assert!(rt; text.as_str() == "no TOML document");
-    let fault = read_board(rt.alloc(), "[[target").err();
-    assert!(rt; fault == Some(BoardFault::Toml));
-    Ok(())
+fn a_whole_board(rt: HostRuntime) {
+    same(&rt, compare_whole(&rt, rt.alloc()), Ok(()));
+}
+
+#[test]
+fn numbers_and_names_of_faults(rt: HostRuntime) {
+    same(&rt, BoardFault::Memory.number(), 1);
+    same(&rt, BoardFault::UnknownCommand.number(), 10);
+    same(&rt, BoardFault::BadKey.number(), 16);
+    same(&rt, BoardFault::SelfNeed.name(), "SelfNeed");
+    says(
+        &rt,
+        format!(in rt.alloc(); "{}", BoardFault::Toml),
+        "no TOML document",
+    );
+    same(
+        &rt,
+        read_board(rt.alloc(), "[[target").err(),
+        Some(BoardFault::Toml),
+    );
 }

@@ -1,8 +1,8 @@
 //! Answer lines, and the sections of a bundle.
 
-use crate::expected::same;
+use crate::expected::{holds, same};
 use bundles::{Answers, BundleFault, answer_line_of, answers_in, read_bundle};
-use std::alloc::Global;
+use std::alloc::{AllocError, Global};
 use std::process::Abort;
 use std::test::*;
 use texts::ReadError;
@@ -13,7 +13,7 @@ type Answered = (Option<u16>, u16, &'static [u8], bool, u16);
 /// A line, the slots that it holds, and what else it answers.
 type AnswerRow = (&'static str, &'static [u16], Answered);
 
-const LINES: [AnswerRow; 16] = [
+static LINES: [AnswerRow; 16] = [
     ("-", &[], (None, 0, &[], false, 0)),
     ("holds=0:0", &[0], (None, 0, &[], false, 0)),
     (
@@ -44,7 +44,7 @@ const LINES: [AnswerRow; 16] = [
     ),
 ];
 
-fn says(rt: &impl Abort, alloc: Global, row: AnswerRow) -> Result<(), Fail> {
+fn says(rt: &impl Abort, alloc: Global, row: AnswerRow) -> Result<(), ReadError<BundleFault>> {
     let (line, holds, want) = row;
     let answer = answer_line_of(alloc, 7, line)?;
     same(rt, (line, answer.holds.as_slice()), (line, holds));
@@ -60,7 +60,11 @@ fn says(rt: &impl Abort, alloc: Global, row: AnswerRow) -> Result<(), Fail> {
     Ok(())
 }
 
-fn all_say(rt: &impl Abort, alloc: Global, rows: &[AnswerRow]) -> Result<(), Fail> {
+fn all_say(
+    rt: &impl Abort,
+    alloc: Global,
+    rows: &[AnswerRow],
+) -> Result<(), ReadError<BundleFault>> {
     for row in rows {
         says(rt, alloc, *row)?;
     }
@@ -68,19 +72,23 @@ fn all_say(rt: &impl Abort, alloc: Global, rows: &[AnswerRow]) -> Result<(), Fai
 }
 
 #[test]
-fn answer_lines(rt: HostRuntime) -> Result<(), Fail> {
-    all_say(&rt, rt.alloc(), &LINES)
+fn answer_lines(rt: HostRuntime) {
+    same(&rt, all_say(&rt, rt.alloc(), &LINES), Ok(()));
+}
+
+/// How many slots a line tells of, and what is held in the last.
+fn last_slot(alloc: Global, line: &str) -> Option<(usize, Option<u16>)> {
+    let answer = answer_line_of(alloc, 7, line).ok()?;
+    Some((answer.holds.len(), answer.holds.last().copied()))
 }
 
 #[test]
-fn the_last_slot(rt: HostRuntime) -> Result<(), Fail> {
-    let answer = answer_line_of(rt.alloc(), 7, "holds=4095:1")?;
-    let slots = &answer.holds;
-    same(&rt, (slots.len(), slots.last()), (4096, Some(&1)));
-    Ok(())
+fn the_last_slot(rt: HostRuntime) {
+    let seen = last_slot(rt.alloc(), "holds=4095:1");
+    same(&rt, seen, Some((4096, Some(1))));
 }
 
-const BAD_LINES: [&str; 41] = [
+static BAD_LINES: [&str; 41] = [
     "refuse=1 holds=0:1",
     "value=1 refuse=1",
     "bytes=01 value=1",
@@ -127,7 +135,11 @@ const BAD_LINES: [&str; 41] = [
 fn all_are_bad(rt: &impl Abort, alloc: Global, lines: &[&str]) {
     for line in lines {
         let fault = answer_line_of(alloc, 7, line).err();
-        assert!(rt; fault == Some(BundleFault::BadAnswer(7).error()), "{line}");
+        same(
+            rt,
+            (*line, fault),
+            (*line, Some(BundleFault::BadAnswer(7).error())),
+        );
     }
 }
 
@@ -145,41 +157,81 @@ fn answers_of(alloc: Global, text: &str) -> Result<Answers<'_>, ReadError<Bundle
     }
 }
 
-#[test]
-fn sections(rt: HostRuntime) -> Result<(), Fail> {
-    let text = "%run\r\n \n%board\n[x]\n%program\nend\n%answers
-# start FF FF
-
-start 00,FF 00,80
--\n  \n#-\ntook=1\nvalue=2";
-    let run = answers_of(rt.alloc(), text)?;
-    assert!(rt; run.pages.as_slice() == [0x00, 0xFF].as_slice());
-    assert!(rt; run.protects.as_slice() == [0x00, 0x80].as_slice());
-    let mut said = Vec::new(rt.alloc());
+/// Whether a write took, and the value, of each of four answers at most.
+fn said_in(alloc: Global, run: &Answers<'_>) -> Result<Vec<(bool, u16)>, AllocError> {
+    let mut said = Vec::new(alloc);
     let mut answers = run.answers();
     for _ in 0..4 {
-        let Some(answer) = answers.next(rt.alloc())? else {
+        let Some(answer) = answers.next(alloc)? else {
             break;
         };
         said.push((answer.took, answer.value))?;
     }
-    assert!(rt; said.as_slice() == [(false, 0), (true, 0), (false, 2)].as_slice());
+    Ok(said)
+}
+
+/// The text of a bundle, with what pages and protections its run starts, and what is answered.
+type Started = (
+    &'static str,
+    &'static [u8],
+    &'static [u8],
+    &'static [(bool, u16)],
+);
+
+static STARTED: [Started; 2] = [
+    (
+        "%run\r\n \n%board\n[x]\n%program\nend\n%answers
+# start FF FF
+
+start 00,FF 00,80
+-\n  \n#-\ntook=1\nvalue=2",
+        &[0x00, 0xFF],
+        &[0x00, 0x80],
+        &[(false, 0), (true, 0), (false, 2)],
+    ),
+    // no answers, and other numbers of values than targets
+    (
+        "%run\n%board\n%program\n%answers\nstart  00,00,00 00 ",
+        &[0, 0, 0],
+        &[0],
+        &[],
+    ),
+];
+
+fn is_started(
+    rt: &impl Abort,
+    alloc: Global,
+    started: Started,
+) -> Result<(), ReadError<BundleFault>> {
+    let (text, pages, protects, said) = started;
+    let run = answers_of(alloc, text)?;
+    same(
+        rt,
+        (run.pages.as_slice(), run.protects.as_slice()),
+        (pages, protects),
+    );
+    holds(rt, said_in(alloc, &run), said);
     Ok(())
 }
 
-/// No answers, and other numbers of values than targets.
-#[test]
-fn starts(rt: HostRuntime) -> Result<(), Fail> {
-    let text = "%run\n%board\n%program\n%answers\nstart  00,00,00 00 ";
-    let run = answers_of(rt.alloc(), text)?;
-    assert!(rt; run.pages.as_slice() == [0, 0, 0].as_slice());
-    assert!(rt; run.protects.as_slice() == [0].as_slice());
-    assert!(rt; run.answers().next(rt.alloc())?.is_none());
+fn all_are_started(
+    rt: &impl Abort,
+    alloc: Global,
+    rows: &[Started],
+) -> Result<(), ReadError<BundleFault>> {
+    for started in rows {
+        is_started(rt, alloc, *started)?;
+    }
     Ok(())
+}
+
+#[test]
+fn sections(rt: HostRuntime) {
+    same(&rt, all_are_started(&rt, rt.alloc(), &STARTED), Ok(()));
 }
 
 /// What stands below `%answers` on the fourth line, and the line of its fault.
-const BAD_SECTIONS: [(&str, usize); 17] = [
+static BAD_SECTIONS: [(&str, usize); 17] = [
     ("", 5),
     ("\n\n# start 00 00\n", 7),
     ("\n-\n", 5),
@@ -199,17 +251,19 @@ const BAD_SECTIONS: [(&str, usize); 17] = [
     ("\nstart 0G 00\nvalue=4G\n", 5),
 ];
 
-fn has_fault(rt: &impl Abort, alloc: Global, below: &str, line: usize) -> Result<(), Fail> {
+fn has_fault(rt: &impl Abort, alloc: Global, below: &str, line: usize) -> Result<(), AllocError> {
     let text = format!(in alloc; "%run\n%board\n%program\n%answers{below}")?;
     let fault = answers_of(alloc, &text).err();
-    assert!(rt;
-        fault == Some(BundleFault::BadAnswer(line).error()),
-        "{below}"
-    );
+    let want = Some(BundleFault::BadAnswer(line).error());
+    same(rt, (below, fault), (below, want));
     Ok(())
 }
 
-fn all_have_faults(rt: &impl Abort, alloc: Global, rows: &[(&str, usize)]) -> Result<(), Fail> {
+fn all_have_faults(
+    rt: &impl Abort,
+    alloc: Global,
+    rows: &[(&str, usize)],
+) -> Result<(), AllocError> {
     for (below, line) in rows {
         has_fault(rt, alloc, below, *line)?;
     }
@@ -217,6 +271,6 @@ fn all_have_faults(rt: &impl Abort, alloc: Global, rows: &[(&str, usize)]) -> Re
 }
 
 #[test]
-fn bad_sections(rt: HostRuntime) -> Result<(), Fail> {
-    all_have_faults(&rt, rt.alloc(), &BAD_SECTIONS)
+fn bad_sections(rt: HostRuntime) {
+    same(&rt, all_have_faults(&rt, rt.alloc(), &BAD_SECTIONS), Ok(()));
 }

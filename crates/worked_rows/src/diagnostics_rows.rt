@@ -5,37 +5,35 @@ mod refusals;
 mod warnings;
 
 use crate::boards::{TWO, two_board};
+use crate::expected::{Noted, begins, notes, says};
 use board::{BoardFault, read_board};
 use bundles::{BundleFault, Header};
 use diagnostics::{board_note, bundle_note, program_note};
 use seq_program::{ProgramFault, read_program};
-use std::alloc::Global;
+use std::alloc::{AllocError, Global};
 use std::process::Abort;
 use std::test::*;
 
 /// The note on a program's fault; `None` where it has none.
-fn note_on_program(alloc: Global, text: &str) -> Result<Option<String>, Fail> {
-    let board = two_board(alloc)?;
+fn note_on_program(alloc: Global, text: &str) -> Noted {
+    let Ok(board) = two_board(alloc) else {
+        return Err(AllocError);
+    };
     match read_program(alloc, &board, text) {
         Ok(_) => Ok(None),
-        Err(fault) => Ok(program_note(alloc, &board, text, fault)?),
+        Err(fault) => program_note(alloc, &board, text, fault),
     }
 }
 
 /// Tries the note on each program's fault.
-fn compare_notes(rt: &impl Abort, alloc: Global, notes: &[(&str, &str)]) -> Result<(), Fail> {
-    for (text, want) in notes {
-        let note = note_on_program(alloc, text)?;
-        assert!(rt;
-            note.as_ref().map(|note| note.as_str()) == Some(*want),
-            "{text}"
-        );
+fn all_are_noted(rt: &impl Abort, alloc: Global, rows: &[(&str, &str)]) {
+    for (text, want) in rows {
+        notes(rt, note_on_program(alloc, text), Some(*want));
     }
-    Ok(())
 }
 
 /// A bundle would drop the CR of these.
-const CARRIAGE_RETURNS: [(&str, &str); 2] = [
+static CARRIAGE_RETURNS: [(&str, &str); 2] = [
     (
         "end\r\n",
         "%program:1: error: unknown instruction \"end\\r\"
@@ -56,15 +54,18 @@ const TOO_LONG: &str = "%program:1025: error: a program has at most 1024 instruc
     end
 ";
 
+fn note_on_a_long_program(alloc: Global) -> Noted {
+    note_on_program(alloc, &"end\n".repeat(alloc, 1025)?)
+}
+
 #[test]
-fn programs(rt: HostRuntime) -> Result<(), Fail> {
-    compare_notes(&rt, rt.alloc(), &CARRIAGE_RETURNS)?;
-    let long = "end\n".repeat(rt.alloc(), 1025)?;
-    compare_notes(&rt, rt.alloc(), &[(long.as_str(), TOO_LONG)])
+fn programs(rt: HostRuntime) {
+    all_are_noted(&rt, rt.alloc(), &CARRIAGE_RETURNS);
+    notes(&rt, note_on_a_long_program(rt.alloc()), Some(TOO_LONG));
 }
 
 /// A line of each instruction.
-const LINES: [&str; 21] = [
+static LINES: [&str; 21] = [
     "quick a r else x",
     "send a CLEAR_FAULTS else x",
     "receive a r0 else x",
@@ -88,67 +89,60 @@ const LINES: [&str; 21] = [
     "fail",
 ];
 
+fn note_on_line(alloc: Global, line: &str, more: &str) -> Noted {
+    note_on_program(alloc, &format!(in alloc; "x:\n{line}{more}\nend")?)
+}
+
 /// Tries that each line is read, and that none is with a word more.
-fn compare_lines(rt: &impl Abort, alloc: Global, lines: &[&str]) -> Result<(), Fail> {
+fn all_end_there(rt: &impl Abort, alloc: Global, lines: &[&str]) {
     for line in lines {
-        let text = format!(in alloc; "x:\n{line}\nend")?;
-        assert!(rt; note_on_program(alloc, &text)?.is_none(), "{line}");
-        let text = format!(in alloc; "x:\n{line} more\nend")?;
-        let note = note_on_program(alloc, &text)?;
-        let told = note.is_some_and(|note| note.contains("2: error: too many words behind"));
-        assert!(rt; told, "{line}");
+        notes(rt, note_on_line(alloc, line, ""), None);
+        let note = note_on_line(alloc, line, " more");
+        begins(rt, note, "%program:2: error: too many words behind");
     }
-    Ok(())
 }
 
 #[test]
-fn each_instruction(rt: HostRuntime) -> Result<(), Fail> {
-    compare_lines(&rt, rt.alloc(), &LINES)
+fn each_instruction(rt: HostRuntime) {
+    all_end_there(&rt, rt.alloc(), &LINES);
+}
+
+/// The note on a fault that the text hasn't.
+fn other_note(alloc: Global, fault: ProgramFault) -> Noted {
+    match two_board(alloc) {
+        Ok(board) => program_note(alloc, &board, "end", fault),
+        Err(_) => Err(AllocError),
+    }
 }
 
 /// Faults that a text hasn't have a note all the same, but for Memory.
 #[test]
-fn other_faults(rt: HostRuntime) -> Result<(), Fail> {
-    let board = two_board(rt.alloc())?;
-    let none = program_note(rt.alloc(), &board, "end", ProgramFault::Memory)?;
-    assert!(rt; none.is_none());
-    let note = program_note(rt.alloc(), &board, "end", ProgramFault::BadOperand(7))?;
-    let want = "%program:7: error: a bad operand\n";
-    assert!(rt; note.as_ref().map(|note| note.as_str()) == Some(want));
-    assert!(rt; board_note(rt.alloc(), TWO, BoardFault::Memory)?.is_none());
-    let note = bundle_note(rt.alloc(), "%run\n", BundleFault::NotText)?;
-    let want = "bundle:1: error: the bundle is no text: line 2 goes on with a byte that isn't \
-                UTF-8\n    %run\n";
-    assert!(rt; note.as_str() == want);
-    Ok(())
+fn other_faults(rt: HostRuntime) {
+    let note = other_note(rt.alloc(), ProgramFault::BadOperand(7));
+    notes(&rt, note, Some("%program:7: error: a bad operand\n"));
+    notes(&rt, other_note(rt.alloc(), ProgramFault::Memory), None);
+    notes(&rt, board_note(rt.alloc(), TWO, BoardFault::Memory), None);
 }
 
-/// Tries the beginning of the note on a board's fault.
-fn compare_board(rt: &impl Abort, alloc: Global, text: &str, want: &str) -> Result<(), Fail> {
-    let note = match read_board(alloc, text) {
-        Ok(_) => None,
-        Err(fault) => board_note(alloc, text, fault)?,
-    };
-    assert!(rt; note.is_some_and(|note| note.starts_with(want)), "{want}");
-    Ok(())
+/// The note on a board's fault, where this comes so often behind the board that is there.
+fn note_on_board(alloc: Global, board: &str, table: &str, count: usize) -> Noted {
+    let tables = table.repeat(alloc, count)?;
+    let text = format!(in alloc; "{board}{tables}")?;
+    match read_board(alloc, &text) {
+        Ok(_) => Ok(None),
+        Err(fault) => board_note(alloc, &text, fault),
+    }
 }
 
 /// No table, and one too many.
 #[test]
-fn counts_of_tables(rt: HostRuntime) -> Result<(), Fail> {
-    compare_board(
-        &rt,
-        rt.alloc(),
-        "",
-        "%board:1: error: the board has no target\n",
-    )?;
-    let targets = "[[target]]\n".repeat(rt.alloc(), 17)?;
+fn counts_of_tables(rt: HostRuntime) {
+    let want = "%board:1: error: the board has no target\n";
+    begins(&rt, note_on_board(rt.alloc(), "", "", 0), want);
     let want = "%board:17: error: a board has at most 16 targets, and this is one more\n";
-    compare_board(&rt, rt.alloc(), &targets, want)?;
-    let rails = "[[rail]]\n".repeat(rt.alloc(), 65)?;
-    let text = format!(in rt.alloc(); "{TWO}{rails}")?;
+    begins(&rt, note_on_board(rt.alloc(), "", "[[target]]\n", 17), want);
     let want = "%board:107: error: a board has at most 64 rails, and this is one more\n";
-    compare_board(&rt, rt.alloc(), &text, want)
+    begins(&rt, note_on_board(rt.alloc(), TWO, "[[rail]]\n", 65), want);
 }
 
 const BUNDLE: &str = "%run
@@ -161,19 +155,35 @@ start 00
 vale=1
 ";
 
-#[test]
-fn bundles(rt: HostRuntime) -> Result<(), Fail> {
-    let note = bundle_note(rt.alloc(), BUNDLE, BundleFault::BadAnswer(8))?;
-    let want = "%answers:2: error: unknown field \"vale=1\"\n    vale=1\nhelp: did you mean \
-                \"value=\"?\n";
-    assert!(rt; note.as_str() == want);
-    let note = bundle_note(
-        rt.alloc(),
+/// A bundle, its fault, and the note on it.
+static BUNDLES: [(&str, BundleFault, &str); 3] = [
+    (
+        "%run\n",
+        BundleFault::NotText,
+        "bundle:1: error: the bundle is no text: line 2 goes on with a byte that isn't UTF-8\n    \
+         %run\n",
+    ),
+    (
+        BUNDLE,
+        BundleFault::BadAnswer(8),
+        "%answers:2: error: unknown field \"vale=1\"\n    vale=1\nhelp: did you mean \
+         \"value=\"?\n",
+    ),
+    (
         BUNDLE,
         BundleFault::MissingSection(Header::Table),
-    )?;
-    let want = "bundle:1: error: the section %table is missing\n    %run\nhelp: the sections here \
-                are %board, %program, %answers, in this order\n";
-    assert!(rt; note.as_str() == want);
-    Ok(())
+        "bundle:1: error: the section %table is missing\n    %run\nhelp: the sections here are \
+         %board, %program, %answers, in this order\n",
+    ),
+];
+
+fn all_bundles_are_noted(rt: &impl Abort, alloc: Global, rows: &[(&str, BundleFault, &str)]) {
+    for (text, fault, want) in rows {
+        says(rt, bundle_note(alloc, text, *fault), want);
+    }
+}
+
+#[test]
+fn bundles(rt: HostRuntime) {
+    all_bundles_are_noted(&rt, rt.alloc(), &BUNDLES);
 }

@@ -23,3 +23,22 @@ pub(crate) fn holds<T: Debug + Drop + PartialEq>(
 pub(crate) fn says(rt: &impl Abort, seen: Result<String, AllocError>, want: &str) {
     same(rt, seen.as_deref().ok(), Some(want));
 }
+
+/// A note, if there is one and it could be made.
+pub(crate) type Noted = Result<Option<String>, AllocError>;
+
+/// Tries that a note could be made, and what it says, or that there is none.
+pub(crate) fn notes(rt: &impl Abort, seen: Noted, want: Option<&str>) {
+    match seen {
+        Ok(note) => same(rt, note.as_deref(), want),
+        Err(_) => panic!(rt; "no memory"),
+    }
+}
+
+/// Tries that a note could be made, and how it begins.
+pub(crate) fn begins(rt: &impl Abort, seen: Noted, want: &str) {
+    match seen {
+        Ok(Some(note)) => assert!(rt; note.starts_with(want), "{note}"),
+        _ => panic!(rt; "no note {want}"),
+    }
+}

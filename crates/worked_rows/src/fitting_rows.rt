@@ -1,10 +1,12 @@
 use crate::boards::range_board;
-use crate::targets_rows::{Asked, answer_of, message_of, state_of};
+use crate::expected::same;
+use crate::runs::answer_of;
+use crate::targets_rows::{Asked, message_of, state_of};
 use board::{Board, BoardFault};
 use smbus::Form;
 use std::alloc::Global;
 use std::process::Abort;
-use std::test::Fail;
+use std::test::*;
 use targets::fits;
 
 /// The holds, the refused byte, the value, the block, whether a write takes effect, and who begins
@@ -14,7 +16,7 @@ type Silent = (&'static [u16], Option<u16>, u16, &'static [u8], bool, u16);
 fn silence_fits(alloc: Global, board: &Board, silent: Silent) -> Result<bool, BoardFault> {
     let (holds, refuse, value, bytes, took, alerts) = silent;
     let state = state_of(alloc, &[1, 0], &[0, 0], 0)?;
-    let mut answer = answer_of(alloc, refuse, value);
+    let mut answer = answer_of(alloc, (value, refuse, 0));
     answer.holds.extend_from_slice(holds)?;
     answer.bytes.extend_from_slice(bytes)?;
     answer.took = took;
@@ -23,7 +25,7 @@ fn silence_fits(alloc: Global, board: &Board, silent: Silent) -> Result<bool, Bo
 }
 
 /// What is answered to a step that sends nothing, and whether it may be. Target a may alert.
-const SILENCES: [(Silent, bool); 9] = [
+static SILENCES: [(Silent, bool); 9] = [
     ((&[], None, 0, &[], false, 0), true),
     ((&[], None, 0, &[], false, 1), true),
     ((&[1], None, 0, &[], false, 0), false),
@@ -35,18 +37,22 @@ const SILENCES: [(Silent, bool); 9] = [
     ((&[], None, 0, &[], false, 4), false),
 ];
 
-fn compare_silences(rt: &impl Abort, alloc: Global, board: &Board, rows: &[(Silent, bool)]) {
+fn all_are_silent(
+    rt: &impl Abort,
+    alloc: Global,
+    rows: &[(Silent, bool)],
+) -> Result<(), BoardFault> {
+    let board = range_board(alloc)?;
     for (silent, want) in rows {
-        let is_fitting = silence_fits(alloc, board, *silent);
-        assert!(rt; is_fitting == Ok(*want), "{silent:?}");
+        let is_fitting = silence_fits(alloc, &board, *silent);
+        same(rt, (*silent, is_fitting), (*silent, Ok(*want)));
     }
+    Ok(())
 }
 
 #[test]
-fn targets_alert_where_nothing_is_sent(rt: HostRuntime) -> Result<(), Fail> {
-    let board = range_board(rt.alloc())?;
-    compare_silences(&rt, rt.alloc(), &board, &SILENCES);
-    Ok(())
+fn targets_alert_where_nothing_is_sent(rt: HostRuntime) {
+    same(&rt, all_are_silent(&rt, rt.alloc(), &SILENCES), Ok(()));
 }
 
 fn may_return(
@@ -58,7 +64,7 @@ fn may_return(
 ) -> Result<bool, BoardFault> {
     let state = state_of(alloc, &[1, 0], &[0x20, 0x40], 0)?;
     let message = message_of(alloc, asked)?;
-    let mut answer = answer_of(alloc, None, value);
+    let mut answer = answer_of(alloc, (value, None, 0));
     answer.bytes.extend_from_slice(bytes)?;
     Ok(fits(board, &state, Some(&message), &answer))
 }
@@ -66,15 +72,26 @@ fn may_return(
 /// What is asked, the number and the block that are returned, and whether they may be.
 type Returned = (Asked, u16, &'static [u8], bool);
 
-fn compare_returned(rt: &impl Abort, alloc: Global, board: &Board, rows: &[Returned]) {
-    for (asked, value, bytes, want) in rows {
-        let is_allowed = may_return(alloc, board, *asked, *value, bytes);
-        assert!(rt; is_allowed == Ok(*want), "{asked:?} {value} {bytes:?}");
+fn returns(rt: &impl Abort, alloc: Global, board: &Board, row: Returned) {
+    let (asked, value, bytes, want) = row;
+    let seen = may_return(alloc, board, asked, value, bytes);
+    same(
+        rt,
+        (asked, value, bytes, seen),
+        (asked, value, bytes, Ok(want)),
+    );
+}
+
+fn all_return(rt: &impl Abort, alloc: Global, rows: &[Returned]) -> Result<(), BoardFault> {
+    let board = range_board(alloc)?;
+    for row in rows {
+        returns(rt, alloc, &board, *row);
     }
+    Ok(())
 }
 
 /// Messages that read nothing.
-const WRITES: [Asked; 6] = [
+static WRITES: [Asked; 6] = [
     (0, Form::Quick(false), 0, &[]),
     (0, Form::Quick(true), 0, &[]),
     (0, Form::SendByte, 0x03, &[]),
@@ -83,22 +100,19 @@ const WRITES: [Asked; 6] = [
     (0, Form::BlockWrite, 0xD0, &[1, 2]),
 ];
 
-fn compare_writes(rt: &impl Abort, alloc: Global, board: &Board, messages: &[Asked]) {
+fn none_returns(rt: &impl Abort, alloc: Global, messages: &[Asked]) -> Result<(), BoardFault> {
+    let board = range_board(alloc)?;
     for asked in messages {
-        let rows = [
-            (*asked, 0, b"".as_slice(), true),
-            (*asked, 1, b"", false),
-            (*asked, 0, b"a", false),
-        ];
-        compare_returned(rt, alloc, board, &rows);
+        returns(rt, alloc, &board, (*asked, 0, b"", true));
+        returns(rt, alloc, &board, (*asked, 1, b"", false));
+        returns(rt, alloc, &board, (*asked, 0, b"a", false));
     }
+    Ok(())
 }
 
 #[test]
-fn writes_return_nothing(rt: HostRuntime) -> Result<(), Fail> {
-    let board = range_board(rt.alloc())?;
-    compare_writes(&rt, rt.alloc(), &board, &WRITES);
-    Ok(())
+fn writes_return_nothing(rt: HostRuntime) {
+    same(&rt, none_returns(&rt, rt.alloc(), &WRITES), Ok(()));
 }
 
 const PAGE: Asked = (0, Form::ReadByte, 0x00, &[]);
@@ -106,7 +120,7 @@ const PAGE: Asked = (0, Form::ReadByte, 0x00, &[]);
 const PROTECT: Asked = (0, Form::ReadByte, 0x10, &[]);
 
 /// Of PAGE and WRITE_PROTECT what is stored is read.
-const STORED: [Returned; 6] = [
+static STORED: [Returned; 6] = [
     (PAGE, 1, &[], true),
     (PAGE, 0, &[], false),
     (PROTECT, 0x20, &[], true),
@@ -127,7 +141,7 @@ const CALL: Asked = (0, Form::ProcessCall, 0xD0, &[1, 2]);
 /// No entry allows it.
 const OTHER_CALL: Asked = (0, Form::ProcessCall, 0xD1, &[1, 2]);
 
-const NUMBERS: [Returned; 18] = [
+static NUMBERS: [Returned; 18] = [
     (STATUS, 4096, &[], true),
     (STATUS, 4097, &[], false),
     (STATUS, 1, &[], true),
@@ -155,7 +169,7 @@ const MAKER: Asked = (0, Form::BlockRead, 0x99, &[]);
 /// No entry allows it.
 const OTHER_READ: Asked = (0, Form::BlockRead, 0xD2, &[]);
 
-const BLOCKS: [Returned; 13] = [
+static BLOCKS: [Returned; 13] = [
     (QUERY, 0, &[0xB0, 0], true),
     (QUERY, 0, &[0xB0], false),
     (QUERY, 1, &[0xB0, 0], false),
@@ -178,17 +192,17 @@ fn may_return_bytes(alloc: Global, board: &Board, count: usize) -> Result<bool, 
     may_return(alloc, board, OTHER_READ, 0, &bytes)
 }
 
-fn compare_counts(rt: &impl Abort, alloc: Global, board: &Board) {
-    assert!(rt; may_return_bytes(alloc, board, 255) == Ok(true));
-    assert!(rt; may_return_bytes(alloc, board, 256) == Ok(false));
+fn compare_counts(rt: &impl Abort, alloc: Global) -> Result<(), BoardFault> {
+    let board = range_board(alloc)?;
+    same(rt, may_return_bytes(alloc, &board, 255), Ok(true));
+    same(rt, may_return_bytes(alloc, &board, 256), Ok(false));
+    Ok(())
 }
 
 #[test]
-fn reads_lie_in_their_ranges(rt: HostRuntime) -> Result<(), Fail> {
-    let board = range_board(rt.alloc())?;
-    compare_returned(&rt, rt.alloc(), &board, &STORED);
-    compare_returned(&rt, rt.alloc(), &board, &NUMBERS);
-    compare_returned(&rt, rt.alloc(), &board, &BLOCKS);
-    compare_counts(&rt, rt.alloc(), &board);
-    Ok(())
+fn reads_lie_in_their_ranges(rt: HostRuntime) {
+    same(&rt, all_return(&rt, rt.alloc(), &STORED), Ok(()));
+    same(&rt, all_return(&rt, rt.alloc(), &NUMBERS), Ok(()));
+    same(&rt, all_return(&rt, rt.alloc(), &BLOCKS), Ok(()));
+    same(&rt, compare_counts(&rt, rt.alloc()), Ok(()));
 }

@@ -6,14 +6,16 @@ ghost use Rattle.std.specs.Prelude.{length, All, IfOk};
 ghost use Rattle.seq_program.specs.Valid.{IsOnBoard};
 
 use crate::boards::{alert_board, two_board};
+use crate::expected::same;
+use crate::runs::{ASKED, ASKING, answers_of, trace_of};
 use board::{Board, BoardFault};
 use fact_search::{FindFault, find};
 use seq_program::{Program, ProgramFault, read_program};
-use simulator::{RunFault, Trace, run, start};
+use simulator::{RunFault, Trace};
 use smbus::{Answer, Frame, ObserveFault, Observer, frame_text};
 use std::alloc::{AllocError, Global};
 use std::process::Abort;
-use std::test::Fail;
+use std::test::*;
 use table_check::{Table, TableFault, Verdict, check, read_table};
 use wires::{Event, Runs, Sample};
 
@@ -33,11 +35,15 @@ fn program_again(alloc: Global, board: &Board, text: &str) -> Result<Program, Pr
     }
 }
 
+/// How many targets and rails the board has.
+fn counts_again(alloc: Global) -> Option<(usize, usize)> {
+    let board = board_again(alloc).ok()?;
+    Some((board.targets().len(), board.rails().len()))
+}
+
 #[test]
-fn a_board_is_read_again(rt: HostRuntime) -> Result<(), Fail> {
-    let board = board_again(rt.alloc())?;
-    assert!(rt; (board.targets().len(), board.rails().len()) == (2, 2));
-    Ok(())
+fn a_board_is_read_again(rt: HostRuntime) {
+    same(&rt, counts_again(rt.alloc()), Some((2, 2)));
 }
 
 fn table_again(alloc: Global, board: &Board, program: &Program) -> Result<Table, FindFault> {
@@ -59,27 +65,37 @@ fn verdict_again(
     }
 }
 
+/// Whether a verdict accepts with such a bound.
+fn is_bounded(verdict: Option<Verdict>, least: u64, most: u64) -> bool {
+    match verdict {
+        Some(Verdict::Accepted { bound }) => least <= bound && bound <= most,
+        _ => false,
+    }
+}
+
 /// Asks at most eleven times whether a rail is good.
 const POLL: &str = "write a OPERATION 0x80 else bad\ncount c0 10\npoll:\n\
     read a STATUS_WORD r0 else next\nif r0 0x0840 0x0000 good\nnext:\nwait 1000\nagain c0 poll\n\
     fail\ngood:\nwrite b OPERATION 0x80 else bad\nend\nbad:\nfail";
 
+/// The verdict on the table that is found for POLL.
+fn found_again(alloc: Global) -> Option<Verdict> {
+    let board = board_again(alloc).ok()?;
+    let program = program_again(alloc, &board, POLL).ok()?;
+    let table = table_again(alloc, &board, &program).ok()?;
+    verdict_again(alloc, &board, &program, &table).ok()
+}
+
 #[test]
-fn a_table_is_found_again(rt: HostRuntime) -> Result<(), Fail> {
-    let board = board_again(rt.alloc())?;
-    let program = program_again(rt.alloc(), &board, POLL)?;
-    let table = table_again(rt.alloc(), &board, &program)?;
-    match verdict_again(rt.alloc(), &board, &program, &table)? {
-        Verdict::Accepted { bound } => assert!(rt; 12_694 <= bound && bound <= 20_000),
-        Verdict::Refused { .. } => assert!(rt; false),
-    }
-    Ok(())
+fn a_table_is_found_again(rt: HostRuntime) {
+    let verdict = found_again(rt.alloc());
+    same(&rt, is_bounded(verdict, 12_694, 20_000), true);
 }
 
 const SPIN: &str = "count c0 3\nspin:\nwait 10\nagain c0 spin\nend\n";
 
 /// What each row of SPIN's table has between its counter c0 and its ticks, and before that.
-const COMMON: [&str; 2] = [
+static COMMON: [&str; 2] = [
     "page a 00\npage b 00\nprotect a 00\nprotect b 00\ngood\nreg r0 0 0 none\nreg r1 0 0 none\n\
      reg r2 0 0 none\nreg r3 0 0 none\nreg r4 0 0 none\nreg r5 0 0 none\nreg r6 0 0 none\n\
      reg r7 0 0 none\n",
@@ -87,7 +103,7 @@ const COMMON: [&str; 2] = [
 ];
 
 /// The most of c0 and the ticks of each of its rows.
-const ROWS: [(u16, &str); 4] = [
+static ROWS: [(u16, &str); 4] = [
     (0, "50 0 0 0 0"),
     (3, "13 12 0 0 0"),
     (3, "2 12 0 0 0"),
@@ -111,56 +127,25 @@ fn spin_table(alloc: Global, board: &Board) -> Result<Table, TableFault> {
     read_table(alloc, board, &text)
 }
 
-#[test]
-fn a_table_is_checked_again(rt: HostRuntime) -> Result<(), Fail> {
-    let board = board_again(rt.alloc())?;
-    let program = program_again(rt.alloc(), &board, SPIN)?;
-    let table = match spin_table(rt.alloc(), &board) {
-        Err(TableFault::Memory) => spin_table(rt.alloc(), &board)?,
-        table => table?,
-    };
-    let verdict = verdict_again(rt.alloc(), &board, &program, &table)?;
-    assert!(rt; verdict == Verdict::Accepted { bound: 50 });
-    Ok(())
-}
-
-const ASKING: &str = "wait 1\nalert r0 else no\nalert r1 else no\nalert r2 else no\nend\nno:\nfail";
-
-/// An answer that returns a value, refuses a byte or begins alerts.
-fn answer_of(alloc: Global, value: u16, refuse: Option<u16>, alerts: u16) -> Answer {
-    Answer {
-        holds: Vec::new(alloc),
-        refuse,
-        value,
-        bytes: Vec::new(alloc),
-        took: false,
-        alerts,
+fn spin_table_again(alloc: Global, board: &Board) -> Result<Table, TableFault> {
+    match spin_table(alloc, board) {
+        Err(TableFault::Memory) => spin_table(alloc, board),
+        table => table,
     }
 }
 
-/// Both targets begin to alert, and then each answers as it must.
-fn answers_of(alloc: Global) -> [Answer; 5] {
-    [
-        answer_of(alloc, 0, None, 3),
-        answer_of(alloc, 0x42, None, 0),
-        answer_of(alloc, 0x80, None, 0),
-        answer_of(alloc, 0, Some(0), 0),
-        answer_of(alloc, 0, None, 0),
-    ]
+/// The verdict on SPIN and its table.
+fn checked_again(alloc: Global) -> Option<Verdict> {
+    let board = board_again(alloc).ok()?;
+    let program = program_again(alloc, &board, SPIN).ok()?;
+    let table = spin_table_again(alloc, &board).ok()?;
+    verdict_again(alloc, &board, &program, &table).ok()
 }
 
-/// The run of a program of the board.
-fn trace_of(
-    alloc: Global,
-    board: &Board,
-    program: &Program,
-    answers: &[Answer],
-) -> Result<Trace, RunFault>
-    requires { All (λ i. IsOnBoard (length board.now.targets) i) program.now }
-{
-    let _places = program.places();
-    let machine = start(alloc, board, &[0, 0], &[0, 0])?;
-    run(alloc, board, program, &machine, answers)
+#[test]
+fn a_table_is_checked_again(rt: HostRuntime) {
+    let accepted = Verdict::Accepted { bound: 50 };
+    same(&rt, checked_again(rt.alloc()), Some(accepted));
 }
 
 /// All ticks of a trace.
@@ -172,20 +157,35 @@ fn ticks_of(trace: &Trace) -> u64 {
     ticks
 }
 
+fn alert_board_again(alloc: Global) -> Result<Board, BoardFault> {
+    match alert_board(alloc) {
+        Err(BoardFault::Memory) => alert_board(alloc),
+        read => read,
+    }
+}
+
+fn answers_again(alloc: Global) -> Result<Vec<Answer>, AllocError> {
+    match answers_of(alloc, &ASKED) {
+        Err(AllocError) => answers_of(alloc, &ASKED),
+        answers => answers,
+    }
+}
+
+/// How many steps the run of ASKING takes, and how many ticks.
+fn run_again(alloc: Global) -> Option<(usize, u64)> {
+    let board = alert_board_again(alloc).ok()?;
+    let program = program_again(alloc, &board, ASKING).ok()?;
+    let answers = answers_again(alloc).ok()?;
+    let trace = match trace_of(alloc, &board, &program, 0, &answers) {
+        Err(RunFault::Memory) => trace_of(alloc, &board, &program, 0, &answers).ok()?,
+        trace => trace.ok()?,
+    };
+    Some((trace.entries.len(), ticks_of(&trace)))
+}
+
 #[test]
-fn a_program_is_run_again(rt: HostRuntime) -> Result<(), Fail> {
-    let board = match alert_board(rt.alloc()) {
-        Err(BoardFault::Memory) => alert_board(rt.alloc())?,
-        read => read?,
-    };
-    let program = program_again(rt.alloc(), &board, ASKING)?;
-    let answers = answers_of(rt.alloc());
-    let trace = match trace_of(rt.alloc(), &board, &program, &answers) {
-        Err(RunFault::Memory) => trace_of(rt.alloc(), &board, &program, &answers)?,
-        trace => trace?,
-    };
-    assert!(rt; (trace.entries.len(), ticks_of(&trace)) == (5, 108));
-    Ok(())
+fn a_program_is_run_again(rt: HostRuntime) {
+    same(&rt, run_again(rt.alloc()), Some((5, 108)));
 }
 
 /// Pushes samples, again where that was refused, which changes nothing.
@@ -213,16 +213,20 @@ fn lines(scl: bool, sda: bool) -> Sample {
     }
 }
 
-#[test]
-fn samples_are_pushed_again(rt: HostRuntime) -> Result<(), Fail> {
-    let mut samples = Runs::new(rt.alloc());
-    push_again(&rt, &mut samples, lines(true, true), 2)?;
+/// How many samples and runs there are after some pushes.
+fn pushed_again(rt: &impl Abort, alloc: Global) -> Result<(u64, usize), AllocError> {
+    let mut samples = Runs::new(alloc);
+    push_again(rt, &mut samples, lines(true, true), 2)?;
     for _ in 0..4 {
-        push_again(&rt, &mut samples, lines(false, true), 3)?;
-        push_again(&rt, &mut samples, lines(false, false), 4)?;
+        push_again(rt, &mut samples, lines(false, true), 3)?;
+        push_again(rt, &mut samples, lines(false, false), 4)?;
     }
-    assert!(rt; (samples.total(), samples.runs().len()) == (30, 9));
-    Ok(())
+    Ok((samples.total(), samples.runs().len()))
+}
+
+#[test]
+fn samples_are_pushed_again(rt: HostRuntime) {
+    same(&rt, pushed_again(&rt, rt.alloc()), Ok((30, 9)));
 }
 
 /// Feeds a piece, again where that was refused, which changes nothing.
@@ -243,7 +247,7 @@ fn feed_again(
 }
 
 /// The bits of a byte, the highest first.
-const BITS: [u8; 8] = [0x80, 0x40, 0x20, 0x10, 0x08, 0x04, 0x02, 0x01];
+static BITS: [u8; 8] = [0x80, 0x40, 0x20, 0x10, 0x08, 0x04, 0x02, 0x01];
 
 /// Adds the clocks of a byte and of its acknowledge.
 fn push_byte(events: &mut Vec<Event>, byte: u8, is_acknowledged: bool) -> Result<(), AllocError> {
@@ -254,18 +258,23 @@ fn push_byte(events: &mut Vec<Event>, byte: u8, is_acknowledged: bool) -> Result
     Ok(())
 }
 
-/// The events of a Read Word of STATUS_WORD that returns 0840h.
+/// A Read Word of STATUS_WORD that returns 0840h: what comes before each byte, the byte, and
+/// whether it is acknowledged.
+static WORD: [(&[Event], u8, bool); 5] = [
+    (&[Event::Start], 0x80, true),
+    (&[], 0x79, true),
+    (&[Event::Rise(true), Event::Start], 0x81, true),
+    (&[], 0x40, true),
+    (&[], 0x08, false),
+];
+
 fn word_events(alloc: Global) -> Result<Vec<Event>, AllocError> {
-    let mut events = vec![in alloc; Event::Start]?;
-    push_byte(&mut events, 0x80, true)?;
-    push_byte(&mut events, 0x79, true)?;
-    events.push(Event::Rise(true))?;
-    events.push(Event::Start)?;
-    push_byte(&mut events, 0x81, true)?;
-    push_byte(&mut events, 0x40, true)?;
-    push_byte(&mut events, 0x08, false)?;
-    events.push(Event::Rise(false))?;
-    events.push(Event::Stop)?;
+    let mut events = Vec::new(alloc);
+    for (before, byte, is_acknowledged) in &WORD {
+        events.extend_from_slice(before)?;
+        push_byte(&mut events, *byte, *is_acknowledged)?;
+    }
+    events.extend_from_slice(&[Event::Rise(false), Event::Stop])?;
     Ok(events)
 }
 
@@ -278,7 +287,7 @@ fn frames_again(
     let (first, later) = events.split_at(events.len() / 2);
     let mut observer = Observer::new(alloc);
     let frames = feed_again(rt, &mut observer, first)?;
-    assert!(rt; frames.is_empty());
+    same(rt, frames.len(), 0);
     feed_again(rt, &mut observer, later)
 }
 
@@ -289,15 +298,22 @@ fn text_again(alloc: Global, frame: &Frame) -> Result<String, AllocError> {
     }
 }
 
+fn word_events_again(alloc: Global) -> Result<Vec<Event>, AllocError> {
+    match word_events(alloc) {
+        Err(AllocError) => word_events(alloc),
+        events => events,
+    }
+}
+
+/// The text of the frame that is fed.
+fn fed_again(rt: &impl Abort, alloc: Global) -> Option<String> {
+    let events = word_events_again(alloc).ok()?;
+    let frames = frames_again(rt, alloc, &events).ok()?;
+    text_again(alloc, frames.first()?).ok()
+}
+
 #[test]
-fn events_are_fed_again(rt: HostRuntime) -> Result<(), Fail> {
-    let events = match word_events(rt.alloc()) {
-        Err(AllocError) => word_events(rt.alloc())?,
-        Ok(events) => events,
-    };
-    let frames = frames_again(&rt, rt.alloc(), &events)?;
-    let frame = frames.first().ok_or("no frame")?;
-    let text = text_again(rt.alloc(), frame)?;
-    assert!(rt; text.as_str() == "S 80A 79A Sr 81A 40A 08N P");
-    Ok(())
+fn events_are_fed_again(rt: HostRuntime) {
+    let text = fed_again(&rt, rt.alloc());
+    same(&rt, text.as_deref(), Some("S 80A 79A Sr 81A 40A 08N P"));
 }

@@ -10,6 +10,8 @@ mod boards;
 #[cfg(test)]
 mod bundles_rows;
 #[cfg(test)]
+mod devices;
+#[cfg(test)]
 mod diagnostics_rows;
 #[cfg(test)]
 mod expected;
@@ -23,6 +25,8 @@ mod growths_rows;
 mod outcome_rows;
 #[cfg(test)]
 mod pmbus_table_rows;
+#[cfg(test)]
+mod runs;
 #[cfg(test)]
 mod search_rows;
 #[cfg(test)]

@@ -1,5 +1,7 @@
 use crate::boards::range_board;
-use crate::targets_rows::{Asked, DONE, Said, answer_of, message_of, said_answer, state_of};
+use crate::expected::same;
+use crate::runs::{NOTHING, answer_of};
+use crate::targets_rows::{Asked, DONE, Said, message_of, said_answer, state_of};
 use board::{Board, BoardFault};
 use smbus::{Form, Message};
 use std::alloc::Global;
@@ -34,7 +36,7 @@ const REFUSES_ADDRESS: Said = (Some(0), None, false);
 /// What is asked, what the answer says, the number and the block that it returns, and how it ends.
 type End = (Asked, Said, u16, &'static [u8], Outcome);
 
-const ENDS: [End; 18] = [
+static ENDS: [End; 18] = [
     (
         (0, Form::Quick(true), 0, &[]),
         DONE,
@@ -151,19 +153,19 @@ const ENDS: [End; 18] = [
     ),
 ];
 
-fn compare_ends(rt: &impl Abort, alloc: Global, board: &Board, rows: &[End]) {
+fn all_end(rt: &impl Abort, alloc: Global, rows: &[End]) -> Result<(), BoardFault> {
+    let board = range_board(alloc)?;
     for (asked, said, value, bytes, want) in rows {
-        let end = ended(alloc, board, *asked, *said, *value, bytes);
-        assert!(rt; end == Ok((true, *want)), "{asked:?} {said:?}");
+        let end = ended(alloc, &board, *asked, *said, *value, bytes);
+        same(rt, (*asked, *said, end), (*asked, *said, Ok((true, *want))));
     }
+    Ok(())
 }
 
 /// Each of these answers fits.
 #[test]
-fn messages_end_as_answered(rt: HostRuntime) -> Result<(), Fail> {
-    let board = range_board(rt.alloc())?;
-    compare_ends(&rt, rt.alloc(), &board, &ENDS);
-    Ok(())
+fn messages_end_as_answered(rt: HostRuntime) {
+    same(&rt, all_end(&rt, rt.alloc(), &ENDS), Ok(()));
 }
 
 /// A Block Write of 255 bytes.
@@ -173,36 +175,51 @@ fn longest_write(alloc: Global) -> Result<Message, BoardFault> {
     Ok(message)
 }
 
-fn longest_write_ends(alloc: Global, board: &Board) -> Result<(bool, Outcome), BoardFault> {
+fn longest_write_ends(alloc: Global) -> Result<(bool, Outcome), BoardFault> {
+    let board = range_board(alloc)?;
     let state = state_of(alloc, &[0, 0], &[0, 0], 0)?;
     let message = longest_write(alloc)?;
-    let answer = answer_of(alloc, None, 0);
-    let is_fitting = fits(board, &state, Some(&message), &answer);
-    let (_, outcome) = after(alloc, board, &state, Some(&message), &answer)?;
+    let answer = answer_of(alloc, NOTHING);
+    let is_fitting = fits(&board, &state, Some(&message), &answer);
+    let (_, outcome) = after(alloc, &board, &state, Some(&message), &answer)?;
     Ok((is_fitting, outcome))
 }
 
 /// It is done.
 #[test]
-fn longest_block_write(rt: HostRuntime) -> Result<(), Fail> {
-    let board = range_board(rt.alloc())?;
-    let end = longest_write_ends(rt.alloc(), &board)?;
-    assert!(rt; end == (true, Outcome::Done(0)));
-    Ok(())
+fn longest_block_write(rt: HostRuntime) {
+    same(
+        &rt,
+        longest_write_ends(rt.alloc()),
+        Ok((true, Outcome::Done(0))),
+    );
 }
 
-/// The first slot of a Read Word that is cut: the STOP is slot 46, and there are no others.
-#[test]
-fn first_cut_slots(rt: HostRuntime) -> Result<(), Fail> {
-    let message = message_of(rt.alloc(), STATUS)?;
-    for (slot, want) in [
-        (None, None),
-        (Some(0), Some(0)),
-        (Some(46), Some(46)),
-        (Some(47), None),
-    ] {
-        let answer = said_answer(rt.alloc(), (None, slot, false))?;
-        assert!(rt; cut_of(&message, &answer) == want);
+/// The slot in which an answer to a Read Word holds the clock for too long, and the first one that
+/// is cut.
+type Cut = (Option<usize>, Option<usize>);
+
+/// The STOP is slot 46, and there are no others.
+static CUTS: [Cut; 4] = [
+    (None, None),
+    (Some(0), Some(0)),
+    (Some(46), Some(46)),
+    (Some(47), None),
+];
+
+fn word_cut(alloc: Global, slot: Option<usize>) -> Result<Option<usize>, BoardFault> {
+    let message = message_of(alloc, STATUS)?;
+    let answer = said_answer(alloc, (None, slot, false))?;
+    Ok(cut_of(&message, &answer))
+}
+
+fn all_are_cut(rt: &impl Abort, alloc: Global, rows: &[Cut]) {
+    for (slot, want) in rows {
+        same(rt, (*slot, word_cut(alloc, *slot)), (*slot, Ok(*want)));
     }
-    Ok(())
+}
+
+#[test]
+fn first_cut_slots(rt: HostRuntime) {
+    all_are_cut(&rt, rt.alloc(), &CUTS);
 }

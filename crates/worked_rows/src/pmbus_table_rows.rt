@@ -1,19 +1,19 @@
-use crate::expected::{same, says};
+use crate::expected::same;
 use bitflags::Flags;
 use pmbus_table::{
-    Command, StatusWord, by_code, by_name, carries_voltage, code, enables, name_of,
-    names_read_back, permits, reported_good, within,
+    Command, StatusWord, by_code, by_name, carries_voltage, code, enables, manufacturer_named,
+    name_of, permits, reported_good, within,
 };
 use smbus::Form;
-use std::alloc::{AllocError, Global};
+use std::alloc::Global;
 use std::process::Abort;
-use std::test::Fail;
+use std::test::*;
 
 /// Code, name, written form, read form and whether it is paged.
 type Known = (u8, &'static str, Option<Form>, Option<Form>, bool);
 
 /// The named commands as this profile has them.
-const KNOWN: [Known; 25] = [
+static KNOWN: [Known; 25] = [
     (
         0x00,
         "PAGE",
@@ -108,72 +108,101 @@ const KNOWN: [Known; 25] = [
 ];
 
 /// The command that has the name of this one.
-fn read_back(alloc: Global, command: Command) -> Result<Option<Command>, AllocError> {
-    let name = name_of(alloc, command)?;
-    Ok(by_name(&name))
+fn read_back(alloc: Global, command: Option<Command>) -> Option<Command> {
+    let name = name_of(alloc, command?).ok()?;
+    by_name(&name)
 }
 
-fn facts_of(command: Command) -> (u8, Option<Form>, Option<Form>, bool) {
-    (
-        command.code(),
-        command.form_written(),
-        command.form_read(),
-        command.paged(),
-    )
+/// The code, the written and the read form, and whether it is paged.
+type CommandFacts = (u8, Option<Form>, Option<Form>, bool);
+
+fn facts_of(command: Option<Command>) -> Option<CommandFacts> {
+    let command = command?;
+    let forms = (command.form_written(), command.form_read());
+    Some((command.code(), forms.0, forms.1, command.paged()))
 }
 
-fn compare(rt: &impl Abort, alloc: Global, command: Command, known: Known) {
-    let (code, _, written, read, is_paged) = known;
-    same(rt, facts_of(command), (code, written, read, is_paged));
-    let again = (by_code(code), read_back(alloc, command));
-    same(rt, again, (Some(command), Ok(Some(command))));
+fn is_known(rt: &impl Abort, alloc: Global, known: Known) {
+    let (code, name, written, read, is_paged) = known;
+    let want = Some((code, written, read, is_paged));
+    same(rt, (name, facts_of(by_name(name))), (name, want));
+    same(rt, by_code(code), by_name(name));
+    same(rt, read_back(alloc, by_name(name)), by_name(name));
 }
 
-fn each_is_known(rt: &impl Abort, alloc: Global, rows: &[Known]) -> Result<(), Fail> {
+fn all_are_known(rt: &impl Abort, alloc: Global, rows: &[Known]) {
     for known in rows {
-        let command = by_name(known.1).ok_or("no such name")?;
-        compare(rt, alloc, command, *known);
+        is_known(rt, alloc, *known);
     }
-    Ok(())
 }
 
 #[test]
-fn named_commands(rt: HostRuntime) -> Result<(), Fail> {
-    names_read_back();
-    each_is_known(&rt, rt.alloc(), &KNOWN)
+fn named_commands(rt: HostRuntime) {
+    all_are_known(&rt, rt.alloc(), &KNOWN);
+}
+
+/// The name of a code.
+fn named(alloc: Global, code: u8) -> Option<String> {
+    name_of(alloc, by_code(code)?).ok()
 }
 
 #[test]
-fn name_of_a_code(rt: HostRuntime) -> Result<(), Fail> {
-    let status = by_code(code::STATUS_WORD).ok_or("no such code")?;
-    says(&rt, name_of(rt.alloc(), status), "STATUS_WORD");
-    Ok(())
+fn name_of_a_code(rt: HostRuntime) {
+    let name = named(rt.alloc(), code::STATUS_WORD);
+    same(&rt, name.as_deref(), Some("STATUS_WORD"));
 }
 
-fn is_manufacturer(rt: &impl Abort, alloc: Global, code: u8, command: Command) {
-    same(rt, read_back(alloc, command), Ok(Some(command)));
-    let facts = (command.code(), command.form_written(), command.paged());
-    same(rt, facts, (code, None, false));
+/// The code, the written form, and whether it is paged.
+fn written_facts(command: Option<Command>) -> Option<(u8, Option<Form>, bool)> {
+    let command = command?;
+    Some((command.code(), command.form_written(), command.paged()))
 }
 
-#[test]
-fn manufacturer_commands(rt: HostRuntime) -> Result<(), Fail> {
-    for code in 0xD0..0xFEu8 {
-        let command = by_code(code).ok_or("no such code")?;
-        is_manufacturer(&rt, rt.alloc(), code, command);
+fn is_manufacturer(rt: &impl Abort, alloc: Global, code: u8) {
+    let facts = written_facts(by_code(code));
+    same(rt, (code, facts), (code, Some((code, None, false))));
+    same(rt, read_back(alloc, by_code(code)), by_code(code));
+}
+
+fn all_are_manufacturer(rt: &impl Abort, alloc: Global, first: u8, end: u8) {
+    for code in first..end {
+        is_manufacturer(rt, alloc, code);
     }
-    Ok(())
+}
+
+/// The code of the manufacturer command that a text names, and whether it is one by its code.
+fn manufacturer_facts(text: &str) -> Option<(u8, bool)> {
+    let command = manufacturer_named(text)?;
+    Some((command.code(), command.is_manufacturer()))
+}
+
+/// Whether a command is a manufacturer's.
+fn is_own(name: &str) -> Option<bool> {
+    Some(by_name(name)?.is_manufacturer())
 }
 
 #[test]
-fn manufacturer_names_are_codes(rt: HostRuntime) -> Result<(), Fail> {
-    let command = by_name("DF").ok_or("no such name")?;
-    same(&rt, command.code(), 0xDF);
-    Ok(())
+fn manufacturer_names(rt: HostRuntime) {
+    same(&rt, manufacturer_facts("D0"), Some((0xD0, true)));
+    same(&rt, manufacturer_facts("FD"), Some((0xFD, true)));
+    same(&rt, manufacturer_facts("FE"), None);
+    same(&rt, manufacturer_facts("d0"), None);
+    same(&rt, is_own("MFR_ID"), Some(false));
+}
+
+#[test]
+fn manufacturer_commands(rt: HostRuntime) {
+    all_are_manufacturer(&rt, rt.alloc(), 0xD0, 0xFE);
+}
+
+#[test]
+fn manufacturer_names_are_codes(rt: HostRuntime) {
+    same(&rt, by_name("DF"), by_code(0xDF));
+    same(&rt, written_facts(by_name("DF")), Some((0xDF, None, false)));
 }
 
 /// Names of no command.
-const UNKNOWN: [&str; 8] = ["CF", "FE", "21", "df", "D", "", "page", "PAGE "];
+static UNKNOWN: [&str; 8] = ["CF", "FE", "21", "df", "D", "", "page", "PAGE "];
 
 fn none_is_known(rt: &impl Abort, names: &[&str]) {
     for name in names {
@@ -186,17 +215,23 @@ fn unknown_names(rt: HostRuntime) {
     none_is_known(&rt, &UNKNOWN);
 }
 
+static UNKNOWN_CODES: [u8; 5] = [0x02, 0x7F, 0xCF, 0xFE, 0xFF];
+
+fn no_code_is_known(rt: &impl Abort, codes: &[u8]) {
+    for code in codes {
+        same(rt, (*code, by_code(*code)), (*code, None));
+    }
+}
+
 #[test]
 fn unknown_codes(rt: HostRuntime) {
-    for code in [0x02, 0x7F, 0xCF, 0xFE, 0xFF] {
-        same(&rt, (code, by_code(code)), (code, None));
-    }
+    no_code_is_known(&rt, &UNKNOWN_CODES);
 }
 
 /// The name of a command, a form, whether the command takes it, and whether that is a write.
 type Taken = (&'static str, Form, bool, bool);
 
-const FORMS: [Taken; 17] = [
+static FORMS: [Taken; 17] = [
     ("PAGE", Form::WriteByte, true, true),
     ("PAGE", Form::ReadByte, true, false),
     ("PAGE", Form::SendByte, false, false),
@@ -216,30 +251,33 @@ const FORMS: [Taken; 17] = [
     ("FD", Form::Alert, false, false),
 ];
 
-fn each_takes(rt: &impl Abort, rows: &[Taken]) -> Result<(), Fail> {
+/// Whether a command takes a form, and whether that is a write.
+fn taken(command: Option<Command>, form: Form) -> Option<(bool, bool)> {
+    let command = command?;
+    Some((command.takes(form), command.counts_as_write(form)))
+}
+
+fn each_takes(rt: &impl Abort, rows: &[Taken]) {
     for row in rows {
-        let (name, form, _, _) = *row;
-        let command = by_name(name).ok_or("no such name")?;
-        let seen = (
-            name,
-            form,
-            command.takes(form),
-            command.counts_as_write(form),
+        let (name, form, takes, is_write) = *row;
+        let seen = taken(by_name(name), form);
+        same(
+            rt,
+            (name, form, seen),
+            (name, form, Some((takes, is_write))),
         );
-        same(rt, seen, *row);
     }
-    Ok(())
 }
 
 #[test]
-fn forms(rt: HostRuntime) -> Result<(), Fail> {
-    each_takes(&rt, &FORMS)
+fn forms(rt: HostRuntime) {
+    each_takes(&rt, &FORMS);
 }
 
 /// The protection, the code of a command, and whether it may be written, if both are known.
 type Protected = (u8, u8, Option<bool>);
 
-const PROTECTIONS: [Protected; 13] = [
+static PROTECTIONS: [Protected; 13] = [
     (0x80, code::WRITE_PROTECT, Some(true)),
     (0x80, code::PAGE, Some(false)),
     (0x40, code::OPERATION, Some(true)),
@@ -266,24 +304,50 @@ fn protection(rt: HostRuntime) {
     each_permits(&rt, &PROTECTIONS);
 }
 
+/// Values of OPERATION, and whether they enable.
+static OPERATIONS: [(u8, bool); 5] = [
+    (0x80, true),
+    (0x00, false),
+    (0x40, false),
+    (0x81, false),
+    (0xFF, false),
+];
+
+fn each_enables(rt: &impl Abort, rows: &[(u8, bool)]) {
+    for row in rows {
+        same(rt, (row.0, enables(row.0)), *row);
+    }
+}
+
 #[test]
 fn operations(rt: HostRuntime) {
-    assert!(rt; enables(0x80));
-    for value in [0x00, 0x40, 0x81, 0xFF] {
-        assert!(rt; !enables(value), "{value}");
+    each_enables(&rt, &OPERATIONS);
+}
+
+/// Codes of commands, and whether they carry a voltage.
+static CARRIERS: [(u8, bool); 7] = [
+    (code::VOUT_COMMAND, true),
+    (0x00, false),
+    (0x01, false),
+    (0x20, false),
+    (0x22, false),
+    (0x8B, false),
+    (0xFF, false),
+];
+
+fn each_carries(rt: &impl Abort, rows: &[(u8, bool)]) {
+    for row in rows {
+        same(rt, (row.0, carries_voltage(row.0)), *row);
     }
 }
 
 #[test]
 fn voltage_commands(rt: HostRuntime) {
-    assert!(rt; carries_voltage(code::VOUT_COMMAND));
-    for code in [0x00, 0x01, 0x20, 0x22, 0x8B, 0xFF] {
-        assert!(rt; !carries_voltage(code), "{code}");
-    }
+    each_carries(&rt, &CARRIERS);
 }
 
 /// Status words, and whether they report a good voltage.
-const STATUSES: [(u16, bool); 5] = [
+static STATUSES: [(u16, bool); 5] = [
     (0x0840, false),
     (0x0800, false),
     (0x0040, false),
@@ -317,7 +381,7 @@ fn status_bits(rt: HostRuntime) {
 /// The mantissa and the exponent of a voltage, a limit, and whether the voltage is within it.
 type Voltage = (u16, i8, u32, bool);
 
-const VOLTAGES: [Voltage; 9] = [
+static VOLTAGES: [Voltage; 9] = [
     (4294, 0, 4_294_967_295, true),
     (4295, 0, 4_294_967_295, false),
     (65535, -16, 999_985, true),

@@ -2,33 +2,35 @@
 //! `examples/rows`.
 
 use crate::boards::two_board;
+use crate::expected::same;
 use fact_search::{FindFault, find};
 use seq_program::read_program;
-use std::process::Abort;
-use std::test::Fail;
+use std::alloc::Global;
+use std::test::*;
 use table_check::{Verdict, check, shaped, tables_are_judged_by_place};
 
-#[test]
-fn found_by_call(rt: HostRuntime) -> Result<(), Fail> {
-    tables_are_judged_by_place();
-    let board = two_board(rt.alloc())?;
-    let program = read_program(rt.alloc(), &board, "wait 1\nend\n")?;
-    let table = find(rt.alloc(), &board, &program)?;
-    assert!(rt; table.rows.len() == 2);
-    assert!(rt; shaped(&board, &table));
-    let verdict = check(rt.alloc(), &board, &program, &table)?;
-    assert!(rt; verdict == Verdict::Accepted { bound: 3 });
-    Ok(())
+/// How many rows the table of a wait has, whether it belongs to the board, and the verdict on it.
+fn found(alloc: Global) -> Option<(usize, bool, Verdict)> {
+    let board = two_board(alloc).ok()?;
+    let program = read_program(alloc, &board, "wait 1\nend\n").ok()?;
+    let table = find(alloc, &board, &program).ok()?;
+    let verdict = check(alloc, &board, &program, &table).ok()?;
+    Some((table.rows.len(), shaped(&board, &table), verdict))
 }
 
 #[test]
-fn faults_of_the_search(rt: HostRuntime) -> Result<(), Fail> {
+fn found_by_call(rt: HostRuntime) {
+    tables_are_judged_by_place();
+    let accepted = Verdict::Accepted { bound: 3 };
+    same(&rt, found(rt.alloc()), Some((2, true, accepted)));
+}
+
+#[test]
+fn faults_of_the_search(rt: HostRuntime) {
     let gave_up = FindFault::GaveUp(7);
-    assert!(rt; gave_up.number() == 2);
-    assert!(rt; gave_up.name() == "GaveUp");
-    assert!(rt; gave_up.place() == Some(7));
-    assert!(rt; FindFault::Memory.number() == 1);
-    assert!(rt; FindFault::Memory.name() == "Memory");
-    assert!(rt; FindFault::Memory.place() == None);
-    Ok(())
+    same(&rt, (gave_up.number(), gave_up.name()), (2, "GaveUp"));
+    same(&rt, gave_up.place(), Some(7));
+    let memory = FindFault::Memory;
+    same(&rt, (memory.number(), memory.name()), (1, "Memory"));
+    same(&rt, memory.place(), None);
 }

@@ -1,6 +1,7 @@
 use crate::boards::two_board;
+use crate::expected::same;
 use board::{Board, BoardFault};
-use seq_program::{Instr, Program, ProgramFault, Width, lines_read_back, message_of, read_program};
+use seq_program::{Instr, Program, ProgramFault, message_of, read_program};
 use smbus::Form;
 use std::alloc::Global;
 use std::process::Abort;
@@ -42,7 +43,7 @@ fn sends(alloc: Global, board: &Board, program: &Program, want: Sent) -> bool {
     }
 }
 
-const SENT: [Sent; 14] = [
+static SENT: [Sent; 14] = [
     (0, 0x40, Form::Quick(true), 0, b""),
     (1, 0x41, Form::Quick(false), 0, b""),
     (2, 0x40, Form::SendByte, 0x03, b""),
@@ -59,95 +60,96 @@ const SENT: [Sent; 14] = [
     (13, 0x0C, Form::Alert, 0, b""),
 ];
 
-fn compare_messages(rt: &impl Abort, alloc: Global, board: &Board, program: &Program) {
-    for want in &SENT {
-        assert!(rt; sends(alloc, board, program, *want), "{want:?}");
+fn all_send(rt: &impl Abort, alloc: Global, board: &Board, program: &Program, rows: &[Sent]) {
+    for want in rows {
+        let is_sent = sends(alloc, board, program, *want);
+        same(rt, (*want, is_sent), (*want, true));
     }
-    assert!(rt; !sends(alloc, board, program, (14, 0, Form::Alert, 0, b"")));
 }
 
-fn compare_program(rt: &impl Abort, alloc: Global, board: &Board) -> Result<(), ProgramFault> {
-    let program = read_program(alloc, board, MESSAGES)?;
-    assert!(rt; program.places() == 16);
-    compare_messages(rt, alloc, board, &program);
-    Ok(())
-}
+/// The word of an instruction, its register or counter, its value, and where it jumps.
+type Parts = (&'static str, Option<usize>, Option<u16>, Option<usize>);
 
-#[test]
-fn messages(rt: HostRuntime) -> Result<(), Fail> {
-    lines_read_back();
-    let board = two_board(rt.alloc())?;
-    Ok(compare_program(&rt, rt.alloc(), &board)?)
-}
-
-fn program_of(alloc: Global, text: &str) -> Result<Program, Fail> {
-    let board = two_board(alloc)?;
-    Ok(read_program(alloc, &board, text)?)
-}
-
-fn compare_jumps(rt: &impl Abort, program: &Program) {
-    assert!(rt; matches!(program.at(0), Some(Instr::Quick { otherwise: 15, .. })));
-    assert!(rt; matches!(program.at(5), Some(Instr::Write { otherwise: 0, .. })));
-    assert!(rt; matches!(program.at(14), Some(Instr::End)));
-    assert!(rt; matches!(program.at(15), Some(Instr::Fail)));
-    assert!(rt; program.at(16).is_none());
-}
-
-/// The index of an instruction's register.
-fn register_of(instr: Option<&Instr>) -> Option<usize> {
-    let register = match instr? {
-        Instr::Receive { register, .. }
-        | Instr::Read { register, .. }
-        | Instr::Call { register, .. }
-        | Instr::BlockRead { register, .. }
-        | Instr::BlockCall { register, .. }
-        | Instr::Alert { register, .. }
-        | Instr::Set { register, .. }
-        | Instr::Add { register, .. }
-        | Instr::If { register, .. }
-        | Instr::Above { register, .. } => register,
-        _ => return None,
+fn parts_of(instr: Option<&Instr>) -> Option<Parts> {
+    let parts = match instr? {
+        Instr::Quick { otherwise, .. } => ("quick", None, None, Some(*otherwise)),
+        Instr::Write { otherwise, .. } => ("write", None, None, Some(*otherwise)),
+        Instr::Receive { register: r, .. } => ("receive", Some(r.index()), None, None),
+        Instr::Read { register: r, .. } => ("read", Some(r.index()), None, None),
+        Instr::Call { register: r, .. } => ("call", Some(r.index()), None, None),
+        Instr::BlockRead { register: r, .. } => ("blockread", Some(r.index()), None, None),
+        Instr::BlockCall { register: r, .. } => ("blockcall", Some(r.index()), None, None),
+        Instr::Alert { register: r, .. } => ("alert", Some(r.index()), None, None),
+        Instr::IfAlert { jump } => ("ifalert", None, None, Some(*jump)),
+        Instr::Set { register: r, value } => ("set", Some(r.index()), Some(*value), None),
+        Instr::Add { register: r, value } => ("add", Some(r.index()), Some(*value), None),
+        Instr::If {
+            register: r,
+            value,
+            jump,
+            ..
+        } => { ("if", Some(r.index()), Some(*value), Some(*jump)) }
+        Instr::Above {
+            register: r,
+            value,
+            jump,
+        } => { ("above", Some(r.index()), Some(*value), Some(*jump)) }
+        Instr::Count { counter: c, value } => ("count", Some(c.index()), Some(*value), None),
+        Instr::Again { counter: c, jump } => ("again", Some(c.index()), None, Some(*jump)),
+        Instr::Goto { jump } => ("goto", None, None, Some(*jump)),
+        Instr::End => ("end", None, None, None),
+        Instr::Fail => ("fail", None, None, None),
+        _ => ("another", None, None, None),
     };
-    Some(register.index())
+    Some(parts)
 }
 
-/// Tries the registers of the instructions at some places.
-fn compare_registers(rt: &impl Abort, program: &Program, registers: &[(usize, usize)]) {
-    for (place, want) in registers {
-        assert!(rt; register_of(program.at(*place)) == Some(*want), "{place}");
+/// Tries the parts of the instructions at some places.
+fn all_have(rt: &impl Abort, program: &Program, rows: &[(usize, Option<Parts>)]) {
+    for (place, want) in rows {
+        let parts = parts_of(program.at(*place));
+        same(rt, (*place, parts), (*place, *want));
     }
 }
 
-/// The bytes of the Block Process Call.
-const BLOCK: &[u8] = b"\x21";
+/// The bytes of a Block Process Call.
+fn block_of(instr: Option<&Instr>) -> Option<&[u8]> {
+    match instr? {
+        Instr::BlockCall { bytes, .. } => Some(bytes.bytes()),
+        _ => None,
+    }
+}
 
-fn compare_reads(rt: &impl Abort, program: &Program) {
-    assert!(rt; matches!(program.at(3), Some(Instr::Receive { .. })));
-    assert!(rt;
-        matches!(
-            program.at(8),
-            Some(Instr::Read {
-                width: Width::Byte,
-                ..
-            })
-        )
-    );
-    assert!(rt; matches!(program.at(9), Some(Instr::Call { .. })));
-    assert!(rt; matches!(program.at(11), Some(Instr::BlockRead { .. })));
-    assert!(rt;
-        matches!(program.at(12), Some(Instr::BlockCall { bytes, .. }) if bytes.bytes() == BLOCK)
-    );
-    assert!(rt; matches!(program.at(13), Some(Instr::Alert { .. })));
+static PARTS: [(usize, Option<Parts>); 11] = [
+    (0, Some(("quick", None, None, Some(15)))),
+    (3, Some(("receive", Some(7), None, None))),
+    (5, Some(("write", None, None, Some(0)))),
+    (8, Some(("read", Some(1), None, None))),
+    (9, Some(("call", Some(2), None, None))),
+    (11, Some(("blockread", Some(4), None, None))),
+    (12, Some(("blockcall", Some(5), None, None))),
+    (13, Some(("alert", Some(6), None, None))),
+    (14, Some(("end", None, None, None))),
+    (15, Some(("fail", None, None, None))),
+    (16, None),
+];
+
+/// Tries the program of MESSAGES, if it can be read.
+fn compare_messages(rt: &impl Abort, alloc: Global) -> Option<()> {
+    let board = two_board(alloc).ok()?;
+    let program = read_program(alloc, &board, MESSAGES).ok()?;
+    same(rt, program.places(), 16);
+    all_send(rt, alloc, &board, &program, &SENT);
+    let sends_more = sends(alloc, &board, &program, (14, 0, Form::Alert, 0, b""));
+    same(rt, sends_more, false);
+    all_have(rt, &program, &PARTS);
+    same(rt, block_of(program.at(12)), Some(b"\x21"));
+    Some(())
 }
 
 #[test]
-fn jumps_and_registers(rt: HostRuntime) -> Result<(), Fail> {
-    let program = program_of(rt.alloc(), MESSAGES)?;
-    compare_jumps(&rt, &program);
-    compare_reads(&rt, &program);
-    let registers = [(3, 7), (8, 1), (9, 2), (11, 4), (12, 5), (13, 6)];
-    compare_registers(&rt, &program, &registers);
-    Ok(())
+fn messages(rt: HostRuntime) {
+    same(&rt, compare_messages(&rt, rt.alloc()), Some(()));
 }
 
 /// Each line that sends no message.
@@ -163,52 +165,38 @@ wait 10000000
 goto x
 fail";
 
-fn compare_numbers(rt: &impl Abort, program: &Program) {
-    assert!(rt; matches!(program.at(1), Some(Instr::Set { value: 65535, .. })));
-    assert!(rt; matches!(program.at(2), Some(Instr::Add { value: 65535, .. })));
-    assert!(rt;
-        matches!(program.at(5), Some(Instr::Count { counter, value: 1000 }) if counter.index() == 2)
-    );
-    assert!(rt; matches!(program.at(7), Some(Instr::Wait { ticks: 10_000_000 })));
-    assert!(rt; matches!(program.at(9), Some(Instr::Fail)));
+static PLAIN_PARTS: [(usize, Option<Parts>); 9] = [
+    (0, Some(("ifalert", None, None, Some(0)))),
+    (1, Some(("set", Some(0), Some(65535), None))),
+    (2, Some(("add", Some(1), Some(65535), None))),
+    (3, Some(("if", Some(2), Some(0), Some(0)))),
+    (4, Some(("above", Some(3), Some(4441), Some(0)))),
+    (5, Some(("count", Some(2), Some(1000), None))),
+    (6, Some(("again", Some(3), None, Some(0)))),
+    (8, Some(("goto", None, None, Some(0)))),
+    (9, Some(("fail", None, None, None))),
+];
+
+/// The mask of a comparison, and the ticks of a wait.
+fn mask_and_ticks(program: &Program) -> Option<(u16, u32)> {
+    match (program.at(3)?, program.at(7)?) {
+        (Instr::If { mask, .. }, Instr::Wait { ticks }) => Some((*mask, *ticks)),
+        _ => None,
+    }
 }
 
-fn compare_branches(rt: &impl Abort, program: &Program) {
-    assert!(rt; matches!(program.at(0), Some(Instr::IfAlert { jump: 0 })));
-    assert!(rt;
-        matches!(
-            program.at(3),
-            Some(Instr::If {
-                mask: 0x840,
-                value: 0,
-                jump: 0,
-                ..
-            })
-        )
-    );
-    assert!(rt;
-        matches!(
-            program.at(4),
-            Some(Instr::Above {
-                value: 4441,
-                jump: 0,
-                ..
-            })
-        )
-    );
-    assert!(rt;
-        matches!(program.at(6), Some(Instr::Again { counter, jump: 0 }) if counter.index() == 3)
-    );
-    assert!(rt; matches!(program.at(8), Some(Instr::Goto { jump: 0 })));
+/// Tries the program of PLAIN, if it can be read.
+fn compare_plain(rt: &impl Abort, alloc: Global) -> Option<()> {
+    let board = two_board(alloc).ok()?;
+    let program = read_program(alloc, &board, PLAIN).ok()?;
+    all_have(rt, &program, &PLAIN_PARTS);
+    same(rt, mask_and_ticks(&program), Some((0x840, 10_000_000)));
+    Some(())
 }
 
 #[test]
-fn plain_lines(rt: HostRuntime) -> Result<(), Fail> {
-    let program = program_of(rt.alloc(), PLAIN)?;
-    compare_numbers(&rt, &program);
-    compare_branches(&rt, &program);
-    compare_registers(&rt, &program, &[(1, 0), (2, 1), (3, 2), (4, 3)]);
-    Ok(())
+fn plain_lines(rt: HostRuntime) {
+    same(&rt, compare_plain(&rt, rt.alloc()), Some(()));
 }
 
 /// The fault of a text on TWO.
@@ -220,13 +208,24 @@ fn fault_of(alloc: Global, text: &str) -> Result<Option<ProgramFault>, BoardFaul
 /// A carriage return is a character like any other.
 #[test]
 fn faults(rt: HostRuntime) {
-    let fault = ProgramFault::UnknownWord(1);
-    assert!(rt; fault_of(rt.alloc(), "end\r\n") == Ok(Some(fault)));
+    let first = ProgramFault::UnknownWord(1);
+    same(&rt, fault_of(rt.alloc(), "end\r\n"), Ok(Some(first)));
+    let second = ProgramFault::UnknownWord(2);
+    same(
+        &rt,
+        fault_of(rt.alloc(), "end # a comment\r\nend\r"),
+        Ok(Some(second)),
+    );
+    same(
+        &rt,
+        fault_of(rt.alloc(), ""),
+        Ok(Some(ProgramFault::NoEnd(0))),
+    );
+}
+
+#[test]
+fn numbers_and_names_of_faults(rt: HostRuntime) {
     let fault = ProgramFault::UnknownWord(2);
-    assert!(rt; fault_of(rt.alloc(), "end # a comment\r\nend\r") == Ok(Some(fault)));
-    assert!(rt; fault.number() == 2);
-    assert!(rt; fault.line() == Some(2));
-    assert!(rt; fault.name() == "UnknownWord");
-    let fault = fault_of(rt.alloc(), "");
-    assert!(rt; fault == Ok(Some(ProgramFault::NoEnd(0))));
+    same(&rt, (fault.number(), fault.line()), (2, Some(2)));
+    same(&rt, fault.name(), "UnknownWord");
 }

@@ -3,8 +3,10 @@
 
 mod devices;
 
+use crate::expected::says;
+use crate::runs::answer_of;
 use session::outcome_line;
-use smbus::{Answer, Form, Message};
+use smbus::{Form, Message};
 use std::alloc::{AllocError, Global};
 use std::test::*;
 
@@ -20,28 +22,14 @@ fn word_outcome(
         code: 0x79,
         out: Vec::new(alloc),
     };
-    let answer = Answer {
-        holds: Vec::new(alloc),
-        refuse,
-        value: 0x0840,
-        bytes: Vec::new(alloc),
-        took: false,
-        alerts: 0,
-    };
-    outcome_line(alloc, &message, &answer, cut)
+    outcome_line(alloc, &message, &answer_of(alloc, (0x0840, refuse, 0)), cut)
 }
 
 #[test]
-fn outcomes(rt: HostRuntime) -> Result<(), Fail> {
-    for (refuse, cut, want) in [
-        (None, None, "done 0840"),
-        (Some(2), None, "nak"),
-        (Some(2), Some(9), "timeout"),
-    ] {
-        let line = word_outcome(rt.alloc(), refuse, cut)?;
-        assert!(rt; line.as_str() == want);
-    }
-    Ok(())
+fn outcomes(rt: HostRuntime) {
+    says(&rt, word_outcome(rt.alloc(), None, None), "done 0840");
+    says(&rt, word_outcome(rt.alloc(), Some(2), None), "nak");
+    says(&rt, word_outcome(rt.alloc(), Some(2), Some(9)), "timeout");
 }
 
 /// Two targets that may alert, at the addresses 40h and 21h, and a program that waits, asks three

@@ -8,7 +8,7 @@ use smbus::{
 };
 use std::alloc::{AllocError, Global};
 use std::process::Abort;
-use std::test::Fail;
+use std::test::*;
 use wires::{Event, Sample, events, events_of};
 
 /// The form, the code and the bytes of a message.
@@ -45,25 +45,25 @@ fn answer_of(
     })
 }
 
-fn driven(alloc: Global, asked: Asked, answer: &Answer) -> Result<Driven, Fail> {
-    let message = message_of(alloc, asked)?;
+fn driven(alloc: Global, asked: Asked, answer: &Answer) -> Option<Driven> {
+    let message = message_of(alloc, asked).ok()?;
     drive_frame(alloc, &message, answer)
 }
 
-fn drive_frame(alloc: Global, message: &Message, answer: &Answer) -> Result<Driven, Fail> {
-    let slots = frame_slots(alloc, message, answer)?;
-    let plan = Plan::new(slots, answer.holds.clone()?).ok_or("no plan")?;
-    Ok(drive(alloc, &plan, true)?)
+fn drive_frame(alloc: Global, message: &Message, answer: &Answer) -> Option<Driven> {
+    let slots = frame_slots(alloc, message, answer).ok()?;
+    let plan = Plan::new(slots, answer.holds.clone().ok()?)?;
+    drive(alloc, &plan, true).ok()
 }
 
 /// The samples of a frame, one a tick, behind an idle one.
-fn samples_of(alloc: Global, driven: &Driven) -> Result<Vec<Sample>, Fail> {
+fn samples_of(alloc: Global, driven: &Driven) -> Option<Vec<Sample>> {
     let mut samples = Vec::new(alloc);
-    samples.push(IDLE)?;
+    samples.push(IDLE).ok()?;
     for place in 0..driven.samples.total() {
-        samples.push(driven.samples.sample_at(place).ok_or("no sample")?)?;
+        samples.push(driven.samples.sample_at(place)?).ok()?;
     }
-    Ok(samples)
+    Some(samples)
 }
 
 const IDLE: Sample = Sample {
@@ -73,14 +73,14 @@ const IDLE: Sample = Sample {
 };
 
 /// The events of a frame behind an idle sample.
-fn frame_events(alloc: Global, driven: &Driven) -> Result<Vec<Event>, Fail> {
+fn frame_events(alloc: Global, driven: &Driven) -> Option<Vec<Event>> {
     let samples = samples_of(alloc, driven)?;
-    Ok(events(alloc, &samples)?)
+    events(alloc, &samples).ok()
 }
 
 /// The events of a Read Word of STATUS_WORD that returns 0840h.
-fn status_events(alloc: Global) -> Result<Vec<Event>, Fail> {
-    let answer = answer_of(alloc, None, 0x0840, b"")?;
+fn status_events(alloc: Global) -> Option<Vec<Event>> {
+    let answer = answer_of(alloc, None, 0x0840, b"").ok()?;
     frame_events(alloc, &driven(alloc, READ_STATUS, &answer)?)
 }
 
@@ -116,12 +116,12 @@ fn reads_back(rt: &impl Abort, alloc: Global, driven: &Driven, events: &[Event],
     reads(rt, observed(alloc, events), Ok(text));
 }
 
-fn compare(rt: &impl Abort, alloc: Global, driven: &Driven, want: Shown<'_>) -> Result<(), Fail> {
+fn compare(rt: &impl Abort, alloc: Global, driven: &Driven, want: Shown<'_>) -> Option<()> {
     let (text, samples, cut) = want;
     same(rt, (driven.samples.total(), driven.cut), (samples, cut));
     let events = frame_events(alloc, driven)?;
     reads_back(rt, alloc, driven, &events, text);
-    Ok(())
+    Some(())
 }
 
 /// Asks for a frame and tries what is read back.
@@ -131,7 +131,7 @@ fn shows(
     asked: Asked,
     answer: &Answer,
     want: Shown<'_>,
-) -> Result<(), Fail> {
+) -> Option<()> {
     compare(rt, alloc, &driven(alloc, asked, answer)?, want)
 }
 
@@ -142,13 +142,13 @@ fn shows_done(
     asked: Asked,
     returned: (u16, &[u8]),
     want: (&'static str, u64),
-) -> Result<(), Fail> {
-    let answer = answer_of(alloc, None, returned.0, returned.1)?;
+) -> Option<()> {
+    let answer = answer_of(alloc, None, returned.0, returned.1).ok()?;
     shows(rt, alloc, asked, &answer, (want.0, want.1, None))
 }
 
 /// What is asked, the number that is read, and the text and the number of samples of the frame.
-const PLAIN: [(Asked, u16, &str, u64); 8] = [
+static PLAIN: [(Asked, u16, &str, u64); 8] = [
     ((Form::Quick(false), 0, &[]), 0, "S 80A P", 22),
     ((Form::SendByte, 0x03, &[]), 0, "S 80A 03A P", 40),
     ((Form::ReceiveByte, 0, &[]), 0x5A, "S 81A 5AN P", 40),
@@ -178,23 +178,24 @@ fn all_show_done(
     rt: &impl Abort,
     alloc: Global,
     rows: &[(Asked, u16, &'static str, u64)],
-) -> Result<(), Fail> {
+) -> Option<()> {
     for (asked, value, text, samples) in rows {
         shows_done(rt, alloc, *asked, (*value, &[]), (text, *samples))?;
     }
-    Ok(())
+    Some(())
 }
 
 #[test]
-fn forms_without_a_block(rt: HostRuntime) -> Result<(), Fail> {
-    all_show_done(&rt, rt.alloc(), &PLAIN)
+fn forms_without_a_block(rt: HostRuntime) {
+    same(&rt, all_show_done(&rt, rt.alloc(), &PLAIN), Some(()));
 }
 
 #[test]
-fn block_process_call(rt: HostRuntime) -> Result<(), Fail> {
+fn block_process_call(rt: HostRuntime) {
     let asked = (Form::BlockProcessCall, 0x1A, [0x21].as_slice());
     let want = ("S 80A 1AA 01A 21A Sr 81A 01A B0N P", 133);
-    shows_done(&rt, rt.alloc(), asked, (0, &[0xB0]), want)
+    let shown = shows_done(&rt, rt.alloc(), asked, (0, &[0xB0]), want);
+    same(&rt, shown, Some(()));
 }
 
 /// The byte that is refused, the slot that is held and for how many ticks.
@@ -215,7 +216,7 @@ const WRITE_PAGE: Asked = (Form::WriteByte, 0, &[1]);
 
 const READ_STATUS: Asked = (Form::ReadWord, 0x79, &[]);
 
-const BROKEN: [BrokenFrame; 7] = [
+static BROKEN: [BrokenFrame; 7] = [
     (WRITE_PAGE, 0, (Some(1), 0, 0), ("S 80A 00N P", 40, None)),
     (
         WRITE_PAGE,
@@ -250,17 +251,17 @@ const BROKEN: [BrokenFrame; 7] = [
     ),
 ];
 
-fn all_show_broken(rt: &impl Abort, alloc: Global, rows: &[BrokenFrame]) -> Result<(), Fail> {
+fn all_show_broken(rt: &impl Abort, alloc: Global, rows: &[BrokenFrame]) -> Option<()> {
     for (asked, value, how, want) in rows {
-        let answer = broken(alloc, *value, *how)?;
+        let answer = broken(alloc, *value, *how).ok()?;
         shows(rt, alloc, *asked, &answer, *want)?;
     }
-    Ok(())
+    Some(())
 }
 
 #[test]
-fn refused_and_cut(rt: HostRuntime) -> Result<(), Fail> {
-    all_show_broken(&rt, rt.alloc(), &BROKEN)
+fn refused_and_cut(rt: HostRuntime) {
+    same(&rt, all_show_broken(&rt, rt.alloc(), &BROKEN), Some(()));
 }
 
 /// A Block Write of 255 bytes, each of them 0.
@@ -270,34 +271,30 @@ fn longest_block(alloc: Global) -> Result<Message, SmbusFault> {
     Ok(message)
 }
 
-#[test]
-fn longest_block_is_counted(rt: HostRuntime) -> Result<(), Fail> {
-    let message = longest_block(rt.alloc())?;
-    let answer = answer_of(rt.alloc(), None, 0, &[])?;
-    same(
-        &rt,
-        (sent_count(&message), slot_count(&message, &answer)),
-        (258, 2323),
-    );
-    same(&rt, most_slots(Form::BlockWrite, 255, 0), 2323);
-    Ok(())
-}
-
-fn longest_driven(alloc: Global) -> Result<Driven, Fail> {
+/// How many bytes the longest block sends, and how many slots it has.
+fn longest_counts(alloc: Global) -> Result<(usize, usize), SmbusFault> {
+    let message = longest_block(alloc)?;
     let answer = answer_of(alloc, None, 0, &[])?;
-    drive_frame(alloc, &longest_block(alloc)?, &answer)
-}
-
-fn longest_text(alloc: Global) -> Result<String, Fail> {
-    let zeros = "00A ".repeat(alloc, 255)?;
-    Ok(format!(in alloc; "S 80A D0A FFA {zeros}P")?)
+    Ok((sent_count(&message), slot_count(&message, &answer)))
 }
 
 #[test]
-fn longest_block_write(rt: HostRuntime) -> Result<(), Fail> {
-    let driven = longest_driven(rt.alloc())?;
-    let text = longest_text(rt.alloc())?;
-    compare(&rt, rt.alloc(), &driven, (text.as_str(), 4648, None))
+fn longest_block_is_counted(rt: HostRuntime) {
+    same(&rt, longest_counts(rt.alloc()), Ok((258, 2323)));
+    same(&rt, most_slots(Form::BlockWrite, 255, 0), 2323);
+}
+
+fn compare_longest(rt: &impl Abort, alloc: Global) -> Option<()> {
+    let answer = answer_of(alloc, None, 0, &[]).ok()?;
+    let driven = drive_frame(alloc, &longest_block(alloc).ok()?, &answer)?;
+    let zeros = "00A ".repeat(alloc, 255).ok()?;
+    let text = format!(in alloc; "S 80A D0A FFA {zeros}P").ok()?;
+    compare(rt, alloc, &driven, (text.as_str(), 4648, None))
+}
+
+#[test]
+fn longest_block_write(rt: HostRuntime) {
+    same(&rt, compare_longest(&rt, rt.alloc()), Some(()));
 }
 
 fn slots_of(alloc: Global, asked: Asked, refuse: Option<u16>) -> Result<Vec<Slot>, SmbusFault> {
@@ -311,7 +308,7 @@ const EMPTY: Asked = (Form::BlockWrite, 0xD0, &[]);
 const SHORT: Asked = (Form::WriteWord, 0x21, &[0x99]);
 
 /// What is asked, the byte that is refused, and why it has no frame.
-const UNFRAMED: [(Asked, Option<u16>, SmbusFault); 3] = [
+static UNFRAMED: [(Asked, Option<u16>, SmbusFault); 3] = [
     (EMPTY, None, SmbusFault::BadBlock),
     (SHORT, None, SmbusFault::BadData),
     (EMPTY, Some(3), SmbusFault::BadData),
@@ -339,7 +336,7 @@ const HIGH: Event = Event::Rise(true);
 const LOW: Event = Event::Rise(false);
 
 /// Events, and why they have no frames.
-const STRAYS: [(&[Event], Option<ObserveFault>); 6] = [
+static STRAYS: [(&[Event], Option<ObserveFault>); 6] = [
     (&[Event::Stop], Some(ObserveFault::NotFrames(0))),
     (&[Event::Start], Some(ObserveFault::NotFrames(1))),
     (
@@ -379,7 +376,7 @@ fn stray_events_are_named(rt: HostRuntime) {
 }
 
 /// A frame of two segments with no byte.
-const BARE: [Event; 5] = [Event::Start, HIGH, Event::Start, LOW, Event::Stop];
+static BARE: [Event; 5] = [Event::Start, HIGH, Event::Start, LOW, Event::Stop];
 
 /// The address and the direction of the first segment.
 fn first_address(alloc: Global) -> Result<Option<(Option<u8>, Option<bool>)>, ObserveFault> {
@@ -399,16 +396,16 @@ fn empty_segments(rt: HostRuntime) {
     reads(&rt, observed(rt.alloc(), &BARE), Ok("S Sr P"));
 }
 
-#[test]
-fn addresses(rt: HostRuntime) -> Result<(), Fail> {
-    let bytes = vec![in rt.alloc(); (0x81, true), (0x5A, false)]?;
+/// The address and the direction of a segment.
+fn address_of(alloc: Global) -> Option<(Option<u8>, Option<bool>)> {
+    let bytes = vec![in alloc; (0x81, true), (0x5A, false)].ok()?;
     let segment = Segment { bytes };
-    same(
-        &rt,
-        (segment.address(), segment.read()),
-        (Some(0x40), Some(true)),
-    );
-    Ok(())
+    Some((segment.address(), segment.read()))
+}
+
+#[test]
+fn addresses(rt: HostRuntime) {
+    same(&rt, address_of(rt.alloc()), Some((Some(0x40), Some(true))));
 }
 
 #[test]

@@ -1,13 +1,12 @@
 use crate::boards::{alert_board, range_board};
+use crate::expected::same;
+use crate::runs::answer_of;
 use board::{Board, BoardFault};
 use smbus::{Answer, Form, Message};
 use std::alloc::Global;
 use std::process::Abort;
-use std::test::Fail;
-use targets::{
-    BusState, Outcome, after, after_in, fits, fitting_bytes_are_on_wire, ranges_are_of_forms,
-    starts, targets_are_found,
-};
+use std::test::*;
+use targets::{BusState, Outcome, after, after_in, fits, starts};
 
 pub(crate) fn state_of(
     alloc: Global,
@@ -39,17 +38,6 @@ pub(crate) fn message_of(alloc: Global, asked: Asked) -> Result<Message, BoardFa
     })
 }
 
-pub(crate) fn answer_of(alloc: Global, refuse: Option<u16>, value: u16) -> Answer {
-    Answer {
-        holds: Vec::new(alloc),
-        refuse,
-        value,
-        bytes: Vec::new(alloc),
-        took: false,
-        alerts: 0,
-    }
-}
-
 fn may_start(
     alloc: Global,
     board: &Board,
@@ -64,7 +52,7 @@ fn may_start(
 /// The pages, the protections and who alerts, and whether a run may start so.
 type Start = (&'static [u8], &'static [u8], u16, bool);
 
-const STARTS: [Start; 5] = [
+static STARTS: [Start; 5] = [
     (&[0, 0], &[0, 0], 0, true),
     (&[1, 0], &[0, 0], 0, false),
     (&[0, 0], &[0, 0x80], 0, false),
@@ -72,21 +60,19 @@ const STARTS: [Start; 5] = [
     (&[0], &[0], 0, false),
 ];
 
-fn compare_starts(rt: &impl Abort, alloc: Global, board: &Board, rows: &[Start]) {
-    for (pages, protects, alerting, want) in rows {
-        let is_start = may_start(alloc, board, pages, protects, *alerting);
-        assert!(rt; is_start == Ok(*want), "{pages:?} {protects:?} {alerting}");
+fn all_may_start(rt: &impl Abort, alloc: Global, rows: &[Start]) -> Result<(), BoardFault> {
+    let board = range_board(alloc)?;
+    for row in rows {
+        let (pages, protects, alerting, want) = *row;
+        let is_start = may_start(alloc, &board, pages, protects, alerting);
+        same(rt, (*row, is_start), (*row, Ok(want)));
     }
+    Ok(())
 }
 
 #[test]
-fn runs_start_where_the_board_says(rt: HostRuntime) -> Result<(), Fail> {
-    targets_are_found();
-    ranges_are_of_forms();
-    fitting_bytes_are_on_wire();
-    let board = range_board(rt.alloc())?;
-    compare_starts(&rt, rt.alloc(), &board, &STARTS);
-    Ok(())
+fn runs_start_where_the_board_says(rt: HostRuntime) {
+    same(&rt, all_may_start(&rt, rt.alloc(), &STARTS), Ok(()));
 }
 
 /// Whether an answer to an alert response fits, who alerts after it, and how it ends.
@@ -101,7 +87,7 @@ fn respond(
 ) -> Result<Responded, BoardFault> {
     let state = state_of(alloc, &[0, 0], &[0, 0], alerting)?;
     let message = message_of(alloc, (0, Form::Alert, 0, &[]))?;
-    let answer = answer_of(alloc, refuse, value);
+    let answer = answer_of(alloc, (value, refuse, 0));
     let is_fitting = fits(board, &state, Some(&message), &answer);
     let (new, outcome) = after(alloc, board, &state, Some(&message), &answer)?;
     Ok((is_fitting, new.alerting, outcome))
@@ -110,7 +96,7 @@ fn respond(
 /// Who alerts, the refused byte and the value of an answer, and what becomes of it.
 type Response = (u16, Option<u16>, u16, Responded);
 
-const RESPONSES: [Response; 5] = [
+static RESPONSES: [Response; 5] = [
     (3, None, 0x42, (true, 1, Outcome::Done(0x42))),
     (3, None, 0x80, (false, 1, Outcome::Done(0x80))),
     (1, None, 0x80, (true, 0, Outcome::Done(0x80))),
@@ -118,18 +104,19 @@ const RESPONSES: [Response; 5] = [
     (3, Some(0), 0, (false, 3, Outcome::NotAcknowledged)),
 ];
 
-fn compare_responses(rt: &impl Abort, alloc: Global, board: &Board, rows: &[Response]) {
-    for (alerting, refuse, value, want) in rows {
-        let responded = respond(alloc, board, *alerting, *refuse, *value);
-        assert!(rt; responded == Ok(*want), "{alerting} {refuse:?} {value}");
+fn all_respond(rt: &impl Abort, alloc: Global, rows: &[Response]) -> Result<(), BoardFault> {
+    let board = alert_board(alloc)?;
+    for row in rows {
+        let (alerting, refuse, value, want) = *row;
+        let responded = respond(alloc, &board, alerting, refuse, value);
+        same(rt, (*row, responded), (*row, Ok(want)));
     }
+    Ok(())
 }
 
 #[test]
-fn lowest_address_answers_the_alert(rt: HostRuntime) -> Result<(), Fail> {
-    let board = alert_board(rt.alloc())?;
-    compare_responses(&rt, rt.alloc(), &board, &RESPONSES);
-    Ok(())
+fn lowest_address_answers_the_alert(rt: HostRuntime) {
+    same(&rt, all_respond(&rt, rt.alloc(), &RESPONSES), Ok(()));
 }
 
 fn alerting_after_silence(
@@ -139,8 +126,7 @@ fn alerting_after_silence(
     alerts: u16,
 ) -> Result<Option<u16>, BoardFault> {
     let state = state_of(alloc, &[0xFF, 0], &[0, 0x20], alerting)?;
-    let mut answer = answer_of(alloc, None, 0);
-    answer.alerts = alerts;
+    let answer = answer_of(alloc, (0, None, alerts));
     let spare = state_of(alloc, &[1, 2, 3], &[0x80], 3)?;
     let (new, outcome) = after_in(spare, board, &state, None, &answer)?;
     let is_kept = new.page.as_slice() == [0xFF, 0].as_slice()
@@ -150,21 +136,22 @@ fn alerting_after_silence(
 }
 
 /// Who alerts before a step that sends nothing, who begins to, and who alerts after it.
-const SILENCES: [(u16, u16, u16); 5] = [(0, 0, 0), (0, 3, 3), (1, 2, 3), (2, 0, 2), (3, 1, 3)];
+static SILENCES: [(u16, u16, u16); 5] = [(0, 0, 0), (0, 3, 3), (1, 2, 3), (2, 0, 2), (3, 1, 3)];
 
-fn compare_silences(rt: &impl Abort, alloc: Global, board: &Board, rows: &[(u16, u16, u16)]) {
-    for (alerting, alerts, want) in rows {
-        let after = alerting_after_silence(alloc, board, *alerting, *alerts);
-        assert!(rt; after == Ok(Some(*want)), "{alerting} {alerts}");
+fn all_join(rt: &impl Abort, alloc: Global, rows: &[(u16, u16, u16)]) -> Result<(), BoardFault> {
+    let board = alert_board(alloc)?;
+    for row in rows {
+        let (alerting, alerts, want) = *row;
+        let after = alerting_after_silence(alloc, &board, alerting, alerts);
+        same(rt, (*row, after), (*row, Ok(Some(want))));
     }
+    Ok(())
 }
 
 /// Such a step is done, and keeps pages and protections.
 #[test]
-fn alerts_join_where_nothing_is_sent(rt: HostRuntime) -> Result<(), Fail> {
-    let board = alert_board(rt.alloc())?;
-    compare_silences(&rt, rt.alloc(), &board, &SILENCES);
-    Ok(())
+fn alerts_join_where_nothing_is_sent(rt: HostRuntime) {
+    same(&rt, all_join(&rt, rt.alloc(), &SILENCES), Ok(()));
 }
 
 /// What an answer says: the byte of the controller that it refuses, the slot in which it holds the
@@ -176,7 +163,7 @@ pub(crate) const DONE: Said = (None, None, false);
 
 pub(crate) fn said_answer(alloc: Global, said: Said) -> Result<Answer, BoardFault> {
     let (refuse, slot, took) = said;
-    let mut answer = answer_of(alloc, refuse, 0);
+    let mut answer = answer_of(alloc, (0, refuse, 0));
     if let Some(slot) = slot {
         answer.holds.resize(slot, 0)?;
         answer.holds.push(5000)?;
@@ -208,24 +195,29 @@ fn written(alloc: Global, board: &Board, write: Write) -> Result<Written, BoardF
 type WriteRow = (Write, u8, u8);
 
 /// Every answer fits, and every write ends so.
-fn compare_writes(
+fn all_write(
     rt: &impl Abort,
     alloc: Global,
-    board: &Board,
     rows: &[WriteRow],
     outcome: Outcome,
-) {
+) -> Result<(), BoardFault> {
+    let board = range_board(alloc)?;
     for &(write, page, protect) in rows {
         let want = (true, Some(page), Some(protect), outcome);
-        assert!(rt; written(alloc, board, write) == Ok(want), "{write:?}");
+        same(
+            rt,
+            (write, written(alloc, &board, write)),
+            (write, Ok(want)),
+        );
     }
+    Ok(())
 }
 
 const PAGE: u8 = 0x00;
 
 const PROTECT: u8 = 0x10;
 
-const ACKNOWLEDGED: [WriteRow; 9] = [
+static ACKNOWLEDGED: [WriteRow; 9] = [
     ((PAGE, 0x00, 1, DONE), 1, 0x00),
     ((PAGE, 0x80, 1, DONE), 0, 0x80),
     ((PAGE, 0x40, 1, DONE), 1, 0x40),
@@ -237,15 +229,7 @@ const ACKNOWLEDGED: [WriteRow; 9] = [
     ((0x01, 0x00, 0x80, DONE), 0, 0x00),
 ];
 
-#[test]
-fn acknowledged_writes_take_effect(rt: HostRuntime) -> Result<(), Fail> {
-    let board = range_board(rt.alloc())?;
-    let outcome = Outcome::Done(0);
-    compare_writes(&rt, rt.alloc(), &board, &ACKNOWLEDGED, outcome);
-    Ok(())
-}
-
-const REFUSED: [WriteRow; 8] = [
+static REFUSED: [WriteRow; 8] = [
     ((PAGE, 0, 1, (Some(2), None, true)), 1, 0),
     ((PAGE, 0, 1, (Some(2), None, false)), 0, 0),
     ((PAGE, 0, 1, (Some(1), None, true)), 0, 0),
@@ -256,15 +240,7 @@ const REFUSED: [WriteRow; 8] = [
     ((PROTECT, 0, 0x40, (Some(1), None, false)), 0, 0),
 ];
 
-#[test]
-fn refused_values_may_be_taken(rt: HostRuntime) -> Result<(), Fail> {
-    let board = range_board(rt.alloc())?;
-    let outcome = Outcome::NotAcknowledged;
-    compare_writes(&rt, rt.alloc(), &board, &REFUSED, outcome);
-    Ok(())
-}
-
-const CUT: [WriteRow; 5] = [
+static CUT: [WriteRow; 5] = [
     ((PAGE, 0, 1, (None, Some(27), true)), 1, 0),
     ((PAGE, 0, 1, (None, Some(26), true)), 1, 0),
     ((PAGE, 0, 1, (None, Some(26), false)), 0, 0),
@@ -273,8 +249,24 @@ const CUT: [WriteRow; 5] = [
 ];
 
 #[test]
-fn cut_values_may_be_taken(rt: HostRuntime) -> Result<(), Fail> {
-    let board = range_board(rt.alloc())?;
-    compare_writes(&rt, rt.alloc(), &board, &CUT, Outcome::TimedOut);
-    Ok(())
+fn acknowledged_writes_take_effect(rt: HostRuntime) {
+    same(
+        &rt,
+        all_write(&rt, rt.alloc(), &ACKNOWLEDGED, Outcome::Done(0)),
+        Ok(()),
+    );
+}
+
+#[test]
+fn refused_and_cut_values_may_be_taken(rt: HostRuntime) {
+    same(
+        &rt,
+        all_write(&rt, rt.alloc(), &REFUSED, Outcome::NotAcknowledged),
+        Ok(()),
+    );
+    same(
+        &rt,
+        all_write(&rt, rt.alloc(), &CUT, Outcome::TimedOut),
+        Ok(()),
+    );
 }

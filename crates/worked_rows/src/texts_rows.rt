@@ -1,18 +1,16 @@
+use crate::devices::SlowWriter;
 use crate::expected::{holds, same, says};
 use std::alloc::{AllocError, Global};
-use std::io;
-use std::io::Write;
 use std::process::Abort;
 use texts::{
     CutShort, ReadError, decimal_within, first_by_feed, first_line, hex_number, is_name,
-    line_count, numbers_are_spelled, numbers_read_back, pair_of, pairs_of, push_pair, push_word,
-    send, words_of,
+    line_count, pair_of, pairs_of, push_pair, push_word, send, words_of,
 };
 
 /// A text, its first line, and what is behind that.
 type Cut = (&'static str, Option<(&'static str, &'static str)>);
 
-const CUT_AT_RETURNS: [Cut; 5] = [
+static CUT_AT_RETURNS: [Cut; 5] = [
     ("%run\r\n\nend\r", Some(("%run", "\nend\r"))),
     ("\nend\r", Some(("", "end\r"))),
     ("end\r", Some(("end\r", ""))),
@@ -58,7 +56,7 @@ fn words_between_spaces(rt: HostRuntime) {
 /// A text, the greatest number that it may spell, and the number that it spells.
 type Decimal = (&'static str, u64, Option<u64>);
 
-const DECIMALS: [Decimal; 9] = [
+static DECIMALS: [Decimal; 9] = [
     ("0", 0, Some(0)),
     ("1000", 1000, Some(1000)),
     ("1001", 1000, None),
@@ -78,15 +76,13 @@ fn each_is_within(rt: &impl Abort, rows: &[Decimal]) {
 
 #[test]
 fn decimals(rt: HostRuntime) {
-    numbers_read_back();
-    numbers_are_spelled();
     each_is_within(&rt, &DECIMALS);
 }
 
 /// A text, and what it spells as a pair of digits and as a number.
 type Digits = (&'static str, (Option<u8>, Option<u16>));
 
-const DIGITS: [Digits; 9] = [
+static DIGITS: [Digits; 9] = [
     ("7F", (Some(0x7F), Some(0x7F))),
     ("00", (Some(0), Some(0))),
     ("7f", (None, None)),
@@ -132,7 +128,7 @@ fn bytes_of_pairs(rt: HostRuntime) {
 }
 
 /// Texts that aren't pairs of digits.
-const NO_PAIRS: [&str; 4] = ["009", "0g", "a0", "00 11"];
+static NO_PAIRS: [&str; 4] = ["009", "0g", "a0", "00 11"];
 
 fn none_spells(rt: &impl Abort, alloc: Global, texts: &[&str]) {
     for text in texts {
@@ -157,9 +153,9 @@ fn printed_digits(rt: HostRuntime) {
     says(&rt, digits_of(rt.alloc(), 0x8A, 0x0840), "S 8A0840");
 }
 
-const NAMES: [&str; 4] = ["a", "va", "poll_2", "abcdefghijklmnopqrstuvwxyz_12345"];
+static NAMES: [&str; 4] = ["a", "va", "poll_2", "abcdefghijklmnopqrstuvwxyz_12345"];
 
-const NO_NAMES: [&str; 7] = [
+static NO_NAMES: [&str; 7] = [
     "",
     "9a",
     "_a",
@@ -204,30 +200,6 @@ fn faults(rt: HostRuntime) {
     same(&rt, one_byte(rt.alloc(), None), Err(ReadError::Fault(7)));
 }
 
-/// Takes one byte a call, until it takes nothing.
-#[derive(Drop)]
-struct NarrowWriter {
-    taken: Vec<u8>,
-    calls_left: usize,
-}
-
-impl Write for NarrowWriter {
-    fn write(&mut self, bytes: &[u8]) -> io::Result<usize> {
-        match bytes.first() {
-            Some(byte) if self.calls_left > 0 => {
-                self.calls_left -= 1;
-                self.taken.push(*byte)?;
-                Ok(1)
-            }
-            _ => Ok(0),
-        }
-    }
-
-    fn flush(&mut self) -> io::Result<()> {
-        Ok(())
-    }
-}
-
 /// Sends a text through a writer that takes so many bytes.
 fn is_sent(
     rt: &impl Abort,
@@ -236,9 +208,10 @@ fn is_sent(
     want: Result<(), CutShort>,
     taken: &[u8],
 ) {
-    let mut writer = NarrowWriter {
+    let mut writer = SlowWriter {
         taken: Vec::new(alloc),
         calls_left,
+        fails: false,
     };
     same(rt, send(&mut writer, b"frame"), want);
     same(rt, writer.taken.as_slice(), taken);

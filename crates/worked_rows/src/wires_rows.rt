@@ -73,10 +73,10 @@ const LOW: Sample = Sample {
 };
 
 /// SCL low for ten ticks between idle ones.
-const HELD_LOW: [Ticks; 5] = [(IDLE, 3), (LOW, 10), (IDLE, 0), (IDLE, 1), (IDLE, 2)];
+static HELD_LOW: [Ticks; 5] = [(IDLE, 3), (LOW, 10), (IDLE, 0), (IDLE, 1), (IDLE, 2)];
 
 /// Places, and the samples that are held low there.
-const HELD_SAMPLES: [(u64, Option<Sample>); 7] = [
+static HELD_SAMPLES: [(u64, Option<Sample>); 7] = [
     (0, Some(IDLE)),
     (2, Some(IDLE)),
     (3, Some(LOW)),
@@ -86,29 +86,39 @@ const HELD_SAMPLES: [(u64, Option<Sample>); 7] = [
     (16, None),
 ];
 
-fn each_is_at(rt: &impl Abort, samples: &Runs, rows: &[(u64, Option<Sample>)]) {
+fn each_is_at(rt: &impl Abort, samples: Result<Runs, AllocError>, rows: &[(u64, Option<Sample>)]) {
+    let Ok(samples) = samples else {
+        panic!(rt; "no memory");
+    };
     for row in rows {
         same(rt, (row.0, samples.sample_at(row.0)), *row);
     }
 }
 
 #[test]
-fn samples_of_runs(rt: HostRuntime) -> Result<(), Fail> {
-    each_is_at(&rt, &runs_of(&rt, rt.alloc(), &HELD_LOW)?, &HELD_SAMPLES);
-    Ok(())
+fn samples_of_runs(rt: HostRuntime) {
+    each_is_at(&rt, runs_of(&rt, rt.alloc(), &HELD_LOW), &HELD_SAMPLES);
 }
 
 /// Tries the number of samples and of runs, and the events.
-fn compare(rt: &impl Abort, alloc: Global, runs: &Runs, counts: (u64, usize), want: &[Event]) {
+fn compare(
+    rt: &impl Abort,
+    alloc: Global,
+    runs: Result<Runs, AllocError>,
+    counts: (u64, usize),
+    want: &[Event],
+) {
+    let Ok(runs) = runs else {
+        panic!(rt; "no memory");
+    };
     same(rt, (runs.total(), runs.runs().len()), counts);
-    holds(rt, events_of(alloc, runs), want);
+    holds(rt, events_of(alloc, &runs), want);
 }
 
 #[test]
-fn equal_samples_are_one_run(rt: HostRuntime) -> Result<(), Fail> {
-    let samples = runs_of(&rt, rt.alloc(), &HELD_LOW)?;
-    compare(&rt, rt.alloc(), &samples, (16, 3), &[Event::Rise(true)]);
-    Ok(())
+fn equal_samples_are_one_run(rt: HostRuntime) {
+    let samples = runs_of(&rt, rt.alloc(), &HELD_LOW);
+    compare(&rt, rt.alloc(), samples, (16, 3), &[Event::Rise(true)]);
 }
 
 #[test]
@@ -125,13 +135,13 @@ fn joined(rt: &impl Abort, alloc: Global) -> Result<Runs, AllocError> {
 }
 
 #[test]
-fn runs_are_joined(rt: HostRuntime) -> Result<(), Fail> {
-    let both = joined(&rt, rt.alloc())?;
-    compare(&rt, rt.alloc(), &both, (6, 2), &[Event::Stop]);
-    Ok(())
+fn runs_are_joined(rt: HostRuntime) {
+    let both = joined(&rt, rt.alloc());
+    compare(&rt, rt.alloc(), both, (6, 2), &[Event::Stop]);
 }
 
-fn clears(rt: &impl Abort, samples: &mut Runs) -> Result<(), AllocError> {
+fn clears(rt: &impl Abort, alloc: Global) -> Result<(), AllocError> {
+    let mut samples = runs_of(rt, alloc, &HELD_LOW)?;
     samples.clear();
     same(rt, (samples.total(), samples.runs().len()), (0, 0));
     samples.push(IDLE, 2)?;
@@ -140,9 +150,8 @@ fn clears(rt: &impl Abort, samples: &mut Runs) -> Result<(), AllocError> {
 }
 
 #[test]
-fn cleared_runs_have_no_samples(rt: HostRuntime) -> Result<(), Fail> {
-    clears(&rt, &mut runs_of(&rt, rt.alloc(), &HELD_LOW)?)?;
-    Ok(())
+fn cleared_runs_have_no_samples(rt: HostRuntime) {
+    same(&rt, clears(&rt, rt.alloc()), Ok(()));
 }
 
 /// The byte that is read, and who sent it.

@@ -1,6 +1,7 @@
 //! Notes on programs that are refused, and on whole inputs.
 
 use crate::boards::TWO;
+use crate::expected::{Noted, begins, notes, same};
 use diagnostics::{Keeping, Refusal, note_on, refusal_note};
 use facts::Rule;
 use std::alloc::Global;
@@ -17,7 +18,7 @@ end
 ";
 
 /// A refusal of that program, its place, and the first lines of the note.
-const REFUSALS: [(Refusal, usize, &str); 4] = [
+static REFUSALS: [(Refusal, usize, &str); 4] = [
     (
         Refusal::Breaks(Rule::K5),
         1,
@@ -44,29 +45,25 @@ const REFUSALS: [(Refusal, usize, &str); 4] = [
     ),
 ];
 
-fn compare_refusals(
-    rt: &impl Abort,
-    alloc: Global,
-    refusals: &[(Refusal, usize, &str)],
-) -> Result<(), Fail> {
-    for (refusal, place, want) in refusals {
-        let note = refusal_note(alloc, PROGRAM, *place, *refusal)?;
-        assert!(rt; note.is_some_and(|note| note.starts_with(*want)), "{want}");
+fn all_are_refused(rt: &impl Abort, alloc: Global, rows: &[(Refusal, usize, &str)]) {
+    for (refusal, place, want) in rows {
+        begins(rt, refusal_note(alloc, PROGRAM, *place, *refusal), want);
     }
-    Ok(())
 }
 
-/// The place counts instructions, and its note has the line.
+/// The place counts instructions, and its note has the line. There is none past the end.
 #[test]
-fn refusals(rt: HostRuntime) -> Result<(), Fail> {
-    compare_refusals(&rt, rt.alloc(), &REFUSALS)?;
-    let past = refusal_note(rt.alloc(), PROGRAM, 3, Refusal::GaveUp)?;
-    assert!(rt; past.is_none());
-    Ok(())
+fn refusals(rt: HostRuntime) {
+    all_are_refused(&rt, rt.alloc(), &REFUSALS);
+    notes(
+        &rt,
+        refusal_note(rt.alloc(), PROGRAM, 3, Refusal::GaveUp),
+        None,
+    );
 }
 
 /// A program, and the beginning of the note where it is to be verified.
-const INPUTS: [(&str, &str); 4] = [
+static INPUTS: [(&str, &str); 4] = [
     (
         "write a OPERATION 0 else go\ngo: end\n",
         "%program:2: error: unknown instruction \"go:\"",
@@ -85,44 +82,55 @@ const INPUTS: [(&str, &str); 4] = [
     ),
 ];
 
-fn compare_inputs(rt: &impl Abort, alloc: Global, inputs: &[(&str, &str)]) -> Result<(), Fail> {
+/// The note on a program that is to be verified.
+fn verified_note(alloc: Global, program: &str) -> Noted {
+    note_on(
+        alloc,
+        &format!(in alloc; "%verify\n%board\n{TWO}%program\n{program}")?,
+    )
+}
+
+fn all_begin(rt: &impl Abort, alloc: Global, inputs: &[(&str, &str)]) {
     for (program, want) in inputs {
-        let text = format!(in alloc; "%verify\n%board\n{TWO}%program\n{program}")?;
-        let note = note_on(alloc, &text)?;
-        assert!(rt; note.is_some_and(|note| note.starts_with(*want)), "{want}");
+        begins(rt, verified_note(alloc, program), want);
     }
-    Ok(())
 }
 
 #[test]
-fn inputs(rt: HostRuntime) -> Result<(), Fail> {
-    compare_inputs(&rt, rt.alloc(), &INPUTS)?;
-    let accepted = format!(in rt.alloc(); "%verify\n%board\n{TWO}%program\nend\n")?;
-    assert!(rt; note_on(rt.alloc(), &accepted)?.is_none());
-    let bare = note_on(rt.alloc(), "%verify\n")?;
-    assert!(rt; bare.is_some_and(|note| note.starts_with("bundle:1: error: the section %board")));
-    Ok(())
+fn inputs(rt: HostRuntime) {
+    all_begin(&rt, rt.alloc(), &INPUTS);
+    notes(&rt, verified_note(rt.alloc(), "end\n"), None);
+    let bare = note_on(rt.alloc(), "%verify\n");
+    begins(&rt, bare, "bundle:1: error: the section %board");
 }
 
-/// What was read is kept, where it isn't over 1 MiB.
-#[test]
-fn kept_input(rt: HostRuntime) -> Result<(), Fail> {
-    for (count, is_kept) in [
-        (0usize, true),
-        (5, true),
-        (1 << 20, true),
-        ((1 << 20) + 1, false),
-    ] {
-        let bytes = "x".repeat(rt.alloc(), count)?;
-        let mut reader = Keeping::new(rt.alloc(), bytes.as_bytes());
-        let mut text = String::new(rt.alloc());
-        reader.read_to_string(&mut text)?;
-        let want = if is_kept {
-            Some(bytes.as_bytes())
-        } else {
-            None
-        };
-        assert!(rt; reader.kept() == want, "{count}");
+/// How many bytes are read, and whether they are kept: those that aren't over 1 MiB.
+static KEPT: [(usize, bool); 4] = [
+    (0, true),
+    (5, true),
+    (1 << 20, true),
+    ((1 << 20) + 1, false),
+];
+
+/// Whether so many bytes are kept as they were, or none.
+fn is_kept(alloc: Global, count: usize) -> Option<bool> {
+    let bytes = "x".repeat(alloc, count).ok()?;
+    let mut reader = Keeping::new(alloc, bytes.as_bytes());
+    let mut text = String::new(alloc);
+    reader.read_to_string(&mut text).ok()?;
+    match reader.kept() {
+        Some(kept) => (kept == bytes.as_bytes()).then_some(true),
+        None => Some(false),
     }
-    Ok(())
+}
+
+fn all_are_kept(rt: &impl Abort, alloc: Global, rows: &[(usize, bool)]) {
+    for (count, want) in rows {
+        same(rt, (*count, is_kept(alloc, *count)), (*count, Some(*want)));
+    }
+}
+
+#[test]
+fn kept_input(rt: HostRuntime) {
+    all_are_kept(&rt, rt.alloc(), &KEPT);
 }

@@ -1,13 +1,14 @@
 //! Warnings of runs and of boards.
 
 use crate::boards::TWO;
+use crate::expected::{Noted, begins, notes, same};
 use diagnostics::warnings_on;
-use std::alloc::Global;
+use std::alloc::{AllocError, Global};
 use std::process::Abort;
 use std::test::*;
 
 /// A program, its answers, and the beginning of the warning of its run.
-const WARNED: [(&str, &str, &str); 4] = [
+static WARNED: [(&str, &str, &str); 4] = [
     (
         "send b CLEAR_FAULTS else bad\nend\nbad:\nfail\n",
         "-\n",
@@ -31,7 +32,7 @@ const WARNED: [(&str, &str, &str); 4] = [
 ];
 
 /// Runs without a warning: of what may be sent, and of what isn't reached.
-const SPARED: [(&str, &str); 3] = [
+static SPARED: [(&str, &str); 3] = [
     (
         "write a VOUT_COMMAND 4505 else bad\nend\nbad:\nfail\n",
         "-\n-\n",
@@ -47,50 +48,54 @@ const SPARED: [(&str, &str); 3] = [
     ),
 ];
 
-fn input_of(alloc: Global, program: &str, answers: &str) -> Result<String, Fail> {
-    let start = "start 00,00 00,00";
-    Ok(format!(in alloc; "%run\n%board\n{TWO}%program\n{program}%answers\n{start}\n{answers}")?)
+/// The warning of a run.
+fn warning_of(alloc: Global, program: &str, answers: &str) -> Noted {
+    let run = format!(in alloc; "%program\n{program}%answers\nstart 00,00 00,00\n{answers}")?;
+    let text = format!(in alloc; "%run\n%board\n{TWO}{run}")?;
+    Ok(warnings_on(alloc, &text)?.of_run)
 }
 
-fn compare_warned(
-    rt: &impl Abort,
-    alloc: Global,
-    warned: &[(&str, &str, &str)],
-) -> Result<(), Fail> {
-    for (program, answers, want) in warned {
-        let warning = warnings_on(alloc, &input_of(alloc, program, answers)?)?.of_run;
-        assert!(rt;
-            warning.is_some_and(|warning| warning.starts_with(*want)),
-            "{want}"
-        );
+fn all_are_warned_of(rt: &impl Abort, alloc: Global, rows: &[(&str, &str, &str)]) {
+    for (program, answers, want) in rows {
+        begins(rt, warning_of(alloc, program, answers), want);
     }
-    Ok(())
 }
 
-fn compare_spared(rt: &impl Abort, alloc: Global, spared: &[(&str, &str)]) -> Result<(), Fail> {
-    for (program, answers) in spared {
-        let warning = warnings_on(alloc, &input_of(alloc, program, answers)?)?.of_run;
-        assert!(rt; warning.is_none(), "{program}");
+fn all_are_spared(rt: &impl Abort, alloc: Global, rows: &[(&str, &str)]) {
+    for (program, answers) in rows {
+        notes(rt, warning_of(alloc, program, answers), None);
     }
-    Ok(())
 }
 
 #[test]
-fn runs_are_warned_of(rt: HostRuntime) -> Result<(), Fail> {
-    compare_warned(&rt, rt.alloc(), &WARNED)?;
-    compare_spared(&rt, rt.alloc(), &SPARED)
+fn runs_are_warned_of(rt: HostRuntime) {
+    all_are_warned_of(&rt, rt.alloc(), &WARNED);
+    all_are_spared(&rt, rt.alloc(), &SPARED);
+}
+
+/// How many warnings of a board there are, and whether one of them contains a text.
+fn board_warnings(alloc: Global, text: &str, part: &str) -> Result<(usize, bool), AllocError> {
+    let warnings = warnings_on(alloc, text)?.of_board;
+    let is_told = warnings.iter().any(|warning| warning.contains(part));
+    Ok((warnings.len(), is_told))
+}
+
+/// The warnings where the rails of TWO need each other.
+fn circle_warnings(alloc: Global, part: &str) -> Result<(usize, bool), AllocError> {
+    let board = TWO.replace(alloc, "1100000", "1100000\nneeds = [\"vb\"]")?;
+    let text = format!(in alloc; "%verify\n%board\n{board}%program\nend\n")?;
+    board_warnings(alloc, &text, part)
 }
 
 /// Rails that need each other have a warning at the first one's needs, an input with a fault none.
 #[test]
-fn boards_are_warned_of(rt: HostRuntime) -> Result<(), Fail> {
-    let board = TWO.replace(rt.alloc(), "1100000", "1100000\nneeds = [\"vb\"]")?;
-    let text = format!(in rt.alloc(); "%verify\n%board\n{board}%program\nend\n")?;
-    let warnings = warnings_on(rt.alloc(), &text)?.of_board;
-    assert!(rt; warnings.len() == 1);
+fn boards_are_warned_of(rt: HostRuntime) {
     let want =
         "warning: needs in a circle: \"va\" needs \"vb\" needs \"va\"\n    needs = [\"vb\"]\n";
-    assert!(rt; warnings.iter().any(|warning| warning.contains(want)));
-    assert!(rt; warnings_on(rt.alloc(), "%verify\n")?.of_board.is_empty());
-    Ok(())
+    same(&rt, circle_warnings(rt.alloc(), want), Ok((1, true)));
+    same(
+        &rt,
+        board_warnings(rt.alloc(), "%verify\n", ""),
+        Ok((0, false)),
+    );
 }

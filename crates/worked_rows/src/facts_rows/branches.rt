@@ -1,35 +1,52 @@
-use super::edges::{UNCOUNTED, leads};
+use super::edges::{Reached, UNCOUNTED, leads};
 use super::known::{Counted, Known, NOTHING, rule_board};
-use board::Board;
+use crate::expected::same;
+use board::{Board, BoardFault};
 use facts::Source;
-use std::alloc::Global;
+use std::alloc::{AllocError, Global};
 use std::process::Abort;
-use std::test::Fail;
+use std::test::*;
+
+/// What is known and counted.
+type Way = (Known, Counted);
 
 /// What is known before an instruction, where its jump leads, and where its next place does.
-type Ways = (Known, Option<Known>, Option<Known>);
+type Ways = (Option<Way>, Option<Way>, Option<Way>);
 
-/// Whether an instruction jumps to place 2 and goes on at place 1 like this.
-fn branches(alloc: Global, board: &Board, line: &str, ways: Ways) -> Result<bool, Fail> {
-    let (before, jump, next) = ways;
+/// Places 2 and 1, where there is such a way, and what is known there.
+fn reached(
+    alloc: Global,
+    jump: Option<Way>,
+    next: Option<Way>,
+) -> Result<Vec<Reached>, AllocError> {
     let mut after = Vec::new(alloc);
-    if let Some(known) = jump {
-        after.push((2, known, UNCOUNTED))?;
+    if let Some((known, counted)) = jump {
+        after.push((2, known, counted))?;
     }
-    if let Some(known) = next {
-        after.push((1, known, UNCOUNTED))?;
+    if let Some((known, counted)) = next {
+        after.push((1, known, counted))?;
     }
-    leads(alloc, board, line, (before, UNCOUNTED), &after)
+    Ok(after)
+}
+
+/// Tries that an instruction jumps to place 2 and goes on at place 1 like this.
+fn branches(rt: &impl Abort, alloc: Global, board: &Board, line: &str, ways: Ways) {
+    let (before, jump, next) = ways;
+    match (before, reached(alloc, jump, next)) {
+        (Some(before), Ok(after)) => leads(rt, alloc, board, line, before, &after),
+        _ => panic!(rt; "no memory, or nothing is known before {line}"),
+    }
 }
 
 /// The least and the greatest value of r0.
 type Ends = (u16, u16);
 
-/// The values of r0 before an instruction, where it jumps, and where it goes on.
+/// The values of r0 before an instruction, where it jumps, and where it goes on. The way isn't
+/// there where none is left.
 type Spans = (&'static str, Ends, Option<Ends>, Option<Ends>);
 
 /// No test of what r0 equals, so that it still does after it.
-const UNTESTED: [Spans; 12] = [
+static UNTESTED: [Spans; 12] = [
     ("ifalert x", (5, 9), Some((5, 9)), Some((5, 9))),
     ("goto x", (5, 9), Some((5, 9)), None),
     ("wait 3", (5, 9), None, Some((5, 9))),
@@ -50,7 +67,7 @@ const UNTESTED: [Spans; 12] = [
 ];
 
 /// Tests of a number that equals nothing known.
-const TESTED: [Spans; 12] = [
+static TESTED: [Spans; 12] = [
     ("if r0 255 5 x", (0, 9), Some((0, 9)), Some((0, 9))),
     ("if r0 1 0 x", (0, 9), Some((0, 9)), Some((0, 9))),
     // a bit outside the mask
@@ -69,86 +86,63 @@ const TESTED: [Spans; 12] = [
     ("if r0 0 0 x", (0, 9), Some((0, 9)), None),
 ];
 
-/// What b stores in PAGE, and r0 with it.
-fn stored(ends: Ends) -> Known {
-    (&[0], &[0], &[1], ends, Source::Page(1))
-}
-
-fn number(ends: Ends) -> Known {
-    (&[0], &[0], &[1], ends, Source::None)
-}
-
-fn compare_stored(
-    rt: &impl Abort,
-    alloc: Global,
-    board: &Board,
-    rows: &[Spans],
-) -> Result<(), Fail> {
-    for (line, before, jump, next) in rows {
-        let ways = (stored(*before), jump.map(stored), next.map(stored));
-        let is_so = branches(alloc, board, line, ways)?;
-        assert!(rt; is_so, "{line}");
-    }
-    Ok(())
-}
-
-fn compare_numbers(
-    rt: &impl Abort,
-    alloc: Global,
-    board: &Board,
-    rows: &[Spans],
-) -> Result<(), Fail> {
-    for (line, before, jump, next) in rows {
-        let ways = (number(*before), jump.map(number), next.map(number));
-        let is_so = branches(alloc, board, line, ways)?;
-        assert!(rt; is_so, "{line}");
-    }
-    Ok(())
-}
-
-#[test]
-fn branches_on_spans(rt: HostRuntime) -> Result<(), Fail> {
-    let board = rule_board(rt.alloc())?;
-    compare_stored(&rt, rt.alloc(), &board, &UNTESTED)?;
-    compare_numbers(&rt, rt.alloc(), &board, &TESTED)
-}
-
-/// A register that is computed, its values before, and after. It equals nothing then.
-type Computed = (&'static str, Ends, Ends);
-
-const COMPUTED: [Computed; 5] = [
-    ("set r0 7", (5, 9), (7, 7)),
-    ("add r0 0", (5, 9), (5, 9)),
-    ("add r0 10", (5, 9), (15, 19)),
-    ("add r0 65528", (5, 9), (65533, 65535)),
-    ("add r0 65535", (5, 9), (65535, 65535)),
+/// A register that is computed equals nothing then.
+static COMPUTED: [Spans; 5] = [
+    ("set r0 7", (5, 9), None, Some((7, 7))),
+    ("add r0 0", (5, 9), None, Some((5, 9))),
+    ("add r0 10", (5, 9), None, Some((15, 19))),
+    ("add r0 65528", (5, 9), None, Some((65533, 65535))),
+    ("add r0 65535", (5, 9), None, Some((65535, 65535))),
 ];
 
-fn compare_computed(
+/// What b stores in PAGE, which r0 may equal.
+fn spanned(source: Source, ends: Option<Ends>) -> Option<Way> {
+    Some(((&[0], &[0], &[1], ends?, source), UNCOUNTED))
+}
+
+/// Tries rows in which r0 equals the first source before the instruction, and the second after it.
+fn all_span(
     rt: &impl Abort,
     alloc: Global,
-    board: &Board,
-    rows: &[Computed],
-) -> Result<(), Fail> {
-    for (line, before, after) in rows {
-        let ways = (stored(*before), None, Some(number(*after)));
-        let is_so = branches(alloc, board, line, ways)?;
-        assert!(rt; is_so, "{line}");
+    sources: (Source, Source),
+    rows: &[Spans],
+) -> Result<(), BoardFault> {
+    let board = rule_board(alloc)?;
+    let (source, later) = sources;
+    for (line, before, jump, next) in rows {
+        let before = spanned(source, Some(*before));
+        let ways = (before, spanned(later, *jump), spanned(later, *next));
+        branches(rt, alloc, &board, line, ways);
     }
     Ok(())
 }
 
 #[test]
-fn registers_are_computed(rt: HostRuntime) -> Result<(), Fail> {
-    let board = rule_board(rt.alloc())?;
-    compare_computed(&rt, rt.alloc(), &board, &COMPUTED)
+fn branches_on_spans(rt: HostRuntime) {
+    let none = Source::None;
+    let stored = Source::Page(1);
+    same(
+        &rt,
+        all_span(&rt, rt.alloc(), (stored, stored), &UNTESTED),
+        Ok(()),
+    );
+    same(
+        &rt,
+        all_span(&rt, rt.alloc(), (none, none), &TESTED),
+        Ok(()),
+    );
+    same(
+        &rt,
+        all_span(&rt, rt.alloc(), (stored, none), &COMPUTED),
+        Ok(()),
+    );
 }
 
 /// A test of r0, the values of what it equals, and those that are left where it jumps and where it
 /// goes on. The way isn't there where none is left.
 type Sets = (&'static str, &'static [u8], &'static [u8], &'static [u8]);
 
-const PAGES: [Sets; 6] = [
+static PAGES: [Sets; 6] = [
     ("if r0 255 1 x", &[0, 1, 2], &[1], &[0, 2]),
     ("if r0 1 1 x", &[0, 1, 2, 255], &[1, 255], &[0, 2]),
     ("if r0 255 255 x", &[0, 255], &[255], &[0]),
@@ -157,7 +151,7 @@ const PAGES: [Sets; 6] = [
     ("if r0 255 0 x", &[0], &[0], &[]),
 ];
 
-const PROTECTIONS: [Sets; 4] = [
+static PROTECTIONS: [Sets; 4] = [
     ("if r0 255 0x20 x", &[0, 0x20, 0x80], &[0x20], &[0, 0x80]),
     (
         "if r0 0xE0 0 x",
@@ -169,56 +163,43 @@ const PROTECTIONS: [Sets; 4] = [
     ("if r0 0x1F 0 x", &[0, 0x20], &[0, 0x20], &[]),
 ];
 
-/// What a may store in PAGE, which r0 equals.
-fn pages(set: &'static [u8]) -> Known {
-    (set, &[0], &[], (0, 255), Source::Page(0))
-}
-
-fn protections(set: &'static [u8]) -> Known {
-    (&[0], set, &[], (0, 255), Source::Protect(0))
-}
-
-fn unless_empty(set: &[u8], known: Known) -> Option<Known> {
-    if set.is_empty() { None } else { Some(known) }
-}
-
-fn compare_pages(rt: &impl Abort, alloc: Global, board: &Board, rows: &[Sets]) -> Result<(), Fail> {
-    for (line, before, jump, next) in rows {
-        let jump = unless_empty(jump, pages(jump));
-        let next = unless_empty(next, pages(next));
-        let is_so = branches(alloc, board, line, (pages(before), jump, next))?;
-        assert!(rt; is_so, "{line}");
+/// What a may store, in PAGE or in WRITE_PROTECT, which r0 equals; `None` for nothing.
+fn stored(is_page: bool, set: &'static [u8]) -> Option<Way> {
+    if set.is_empty() {
+        None
+    } else if is_page {
+        Some(((set, &[0], &[], (0, 255), Source::Page(0)), UNCOUNTED))
+    } else {
+        Some(((&[0], set, &[], (0, 255), Source::Protect(0)), UNCOUNTED))
     }
-    Ok(())
 }
 
-fn compare_protections(
+fn all_part(
     rt: &impl Abort,
     alloc: Global,
-    board: &Board,
+    is_page: bool,
     rows: &[Sets],
-) -> Result<(), Fail> {
+) -> Result<(), BoardFault> {
+    let board = rule_board(alloc)?;
     for (line, before, jump, next) in rows {
-        let jump = unless_empty(jump, protections(jump));
-        let next = unless_empty(next, protections(next));
-        let is_so = branches(alloc, board, line, (protections(before), jump, next))?;
-        assert!(rt; is_so, "{line}");
+        let before = stored(is_page, before);
+        let ways = (before, stored(is_page, jump), stored(is_page, next));
+        branches(rt, alloc, &board, line, ways);
     }
     Ok(())
 }
 
 #[test]
-fn branches_on_sets(rt: HostRuntime) -> Result<(), Fail> {
-    let board = rule_board(rt.alloc())?;
-    compare_pages(&rt, rt.alloc(), &board, &PAGES)?;
-    compare_protections(&rt, rt.alloc(), &board, &PROTECTIONS)
+fn branches_on_sets(rt: HostRuntime) {
+    same(&rt, all_part(&rt, rt.alloc(), true, &PAGES), Ok(()));
+    same(&rt, all_part(&rt, rt.alloc(), false, &PROTECTIONS), Ok(()));
 }
 
 /// A test of a status word that r0 equals, the word's values where it jumps, and the rails that are
 /// good there, of which one was before.
 type Reported = (&'static str, Ends, &'static [u8]);
 
-const STATUS: [Reported; 8] = [
+static STATUS: [Reported; 8] = [
     ("if r0 0x0840 0 x", (0, 65535), &[0, 1]),
     ("if r0 0x0841 1 x", (0, 65535), &[0, 1]),
     ("if r0 65535 0x1000 x", (0x1000, 0x1000), &[0, 1]),
@@ -229,35 +210,34 @@ const STATUS: [Reported; 8] = [
     ("if r0 0x0040 0 x", (0, 65535), &[1]),
 ];
 
-fn reported(good: &'static [u8], ends: Ends) -> Known {
-    (&[0], &[0], good, ends, Source::Status(0))
+fn reported(good: &'static [u8], ends: Ends) -> Option<Way> {
+    Some(((&[0], &[0], good, ends, Source::Status(0)), UNCOUNTED))
 }
 
-fn compare_reported(
-    rt: &impl Abort,
-    alloc: Global,
-    board: &Board,
-    rows: &[Reported],
-) -> Result<(), Fail> {
+fn all_report(rt: &impl Abort, alloc: Global, rows: &[Reported]) -> Result<(), BoardFault> {
+    let board = rule_board(alloc)?;
+    let before = reported(&[1], (0, 65535));
     for (line, jump, good) in rows {
-        let before = reported(&[1], (0, 65535));
-        let ways = (before, Some(reported(good, *jump)), Some(before));
-        let is_so = branches(alloc, board, line, ways)?;
-        assert!(rt; is_so, "{line}");
+        branches(
+            rt,
+            alloc,
+            &board,
+            line,
+            (before, reported(good, *jump), before),
+        );
     }
     Ok(())
 }
 
 #[test]
-fn branches_on_status(rt: HostRuntime) -> Result<(), Fail> {
-    let board = rule_board(rt.alloc())?;
-    compare_reported(&rt, rt.alloc(), &board, &STATUS)
+fn branches_on_status(rt: HostRuntime) {
+    same(&rt, all_report(&rt, rt.alloc(), &STATUS), Ok(()));
 }
 
 /// What is counted before an instruction, where it jumps, and where it goes on.
 type Counts = (&'static str, Counted, Option<Counted>, Option<Counted>);
 
-const COUNTS: [Counts; 8] = [
+static COUNTS: [Counts; 8] = [
     ("count c0 9", ((3, 5), 50, 12), None, Some(((9, 9), 86, 0))),
     (
         "count c0 1000",
@@ -283,33 +263,20 @@ const COUNTS: [Counts; 8] = [
     ("wait 3", ((1, 2), 2, 12), None, Some(((1, 2), 2, 12))),
 ];
 
-fn pays(alloc: Global, board: &Board, counts: &Counts) -> Result<bool, Fail> {
-    let (line, before, jump, next) = counts;
-    let mut after = Vec::new(alloc);
-    if let Some(counted) = jump {
-        after.push((2, NOTHING, *counted))?;
-    }
-    if let Some(counted) = next {
-        after.push((1, NOTHING, *counted))?;
-    }
-    leads(alloc, board, line, (NOTHING, *before), &after)
+fn counting(counted: Option<Counted>) -> Option<Way> {
+    Some((NOTHING, counted?))
 }
 
-fn compare_counts(
-    rt: &impl Abort,
-    alloc: Global,
-    board: &Board,
-    rows: &[Counts],
-) -> Result<(), Fail> {
-    for counts in rows {
-        let is_so = pays(alloc, board, counts)?;
-        assert!(rt; is_so);
+fn all_pay(rt: &impl Abort, alloc: Global, rows: &[Counts]) -> Result<(), BoardFault> {
+    let board = rule_board(alloc)?;
+    for (line, before, jump, next) in rows {
+        let ways = (counting(Some(*before)), counting(*jump), counting(*next));
+        branches(rt, alloc, &board, line, ways);
     }
     Ok(())
 }
 
 #[test]
-fn counters_pay(rt: HostRuntime) -> Result<(), Fail> {
-    let board = rule_board(rt.alloc())?;
-    compare_counts(&rt, rt.alloc(), &board, &COUNTS)
+fn counters_pay(rt: HostRuntime) {
+    same(&rt, all_pay(&rt, rt.alloc(), &COUNTS), Ok(()));
 }

@@ -1,24 +1,42 @@
 use super::known::{row_of, rule_board};
-use board::Board;
+use crate::expected::same;
+use board::{Board, BoardFault};
 use facts::Rule::{self, K1, K2, K3, K4, K5};
 use facts::{Source, duty};
 use seq_program::read_program;
 use std::alloc::Global;
 use std::process::Abort;
-use std::test::Fail;
+use std::test::*;
 
 /// What a may store in PAGE and in WRITE_PROTECT, the rails that reported good, and the values of
 /// r0.
 type Before = (&'static [u8], &'static [u8], &'static [u8], (u16, u16));
 
-fn duty_of(alloc: Global, board: &Board, line: &str, before: Before) -> Result<Option<Rule>, Fail> {
+/// The duty that isn't met, if the line and what is known are good.
+fn duty_of(alloc: Global, board: &Board, line: &str, before: Before) -> Option<Option<Rule>> {
     let (pages, protects, good, span) = before;
-    let text = format!(in alloc; "{line} else x\nx:\nend")?;
-    let program = read_program(alloc, board, &text)?;
-    let known = (pages, protects, good, span, Source::None);
-    let row = row_of(alloc, known, ((0, 0), 0, 0))?;
-    let instr = program.at(0).ok_or("no such place")?;
-    Ok(duty(board, instr, &row))
+    let text = format!(in alloc; "{line} else x\nx:\nend").ok()?;
+    let program = read_program(alloc, board, &text).ok()?;
+    let row = row_of(
+        alloc,
+        (pages, protects, good, span, Source::None),
+        ((0, 0), 0, 0),
+    )?;
+    let instr = program.at(0)?;
+    Some(duty(board, instr, &row))
+}
+
+/// Tries which duty a message doesn't meet.
+fn owes(
+    rt: &impl Abort,
+    alloc: Global,
+    board: &Board,
+    line: &str,
+    before: Before,
+    want: Option<Rule>,
+) {
+    let found = duty_of(alloc, board, line, before);
+    same(rt, (line, before, found), (line, before, Some(want)));
 }
 
 /// A message, and the duty that it doesn't meet where a stores zeros, all rails are good, and r0
@@ -26,7 +44,7 @@ fn duty_of(alloc: Global, board: &Board, line: &str, before: Before) -> Result<O
 type Message = (&'static str, (u16, u16), Option<Rule>);
 
 /// What a target allows, with the values that are written. Its rail's limit is 4505.
-const ALLOWED: [Message; 42] = [
+static ALLOWED: [Message; 42] = [
     ("quick a r", (0, 0), None),
     ("quick a w", (0, 0), Some(K1)),
     ("quick b r", (0, 0), Some(K1)),
@@ -71,30 +89,31 @@ const ALLOWED: [Message; 42] = [
     ("blockcall a D2 010203 r0", (0, 0), Some(K1)),
 ];
 
-fn compare_messages(
-    rt: &impl Abort,
-    alloc: Global,
-    board: &Board,
-    rows: &[Message],
-) -> Result<(), Fail> {
+fn all_owe(rt: &impl Abort, alloc: Global, rows: &[Message]) -> Result<(), BoardFault> {
+    let board = rule_board(alloc)?;
     for (line, span, want) in rows {
-        let found = duty_of(alloc, board, line, (&[0], &[0], &[0, 1, 2], *span))?;
-        assert!(rt; found == *want, "{line}");
+        owes(
+            rt,
+            alloc,
+            &board,
+            line,
+            (&[0], &[0], &[0, 1, 2], *span),
+            *want,
+        );
     }
     Ok(())
 }
 
 #[test]
-fn what_is_allowed(rt: HostRuntime) -> Result<(), Fail> {
-    let board = rule_board(rt.alloc())?;
-    compare_messages(&rt, rt.alloc(), &board, &ALLOWED)
+fn what_is_allowed(rt: HostRuntime) {
+    same(&rt, all_owe(&rt, rt.alloc(), &ALLOWED), Ok(()));
 }
 
 /// A message, what a may store, and the duty that isn't met where nothing is known to be good.
 type Stored = (&'static str, &'static [u8], Option<Rule>);
 
 /// What a may store in PAGE: paged commands are read from one page.
-const PAGES: [Stored; 9] = [
+static PAGES: [Stored; 9] = [
     ("read a STATUS_WORD r0", &[1], None),
     ("read a STATUS_WORD r0", &[0, 1], None),
     ("read a STATUS_WORD r0", &[255], Some(K2)),
@@ -107,7 +126,7 @@ const PAGES: [Stored; 9] = [
 ];
 
 /// What a may store in WRITE_PROTECT: a write is permitted by all of it.
-const PROTECTIONS: [Stored; 21] = [
+static PROTECTIONS: [Stored; 21] = [
     ("write a VOUT_COMMAND 10", &[0x20], None),
     ("write a VOUT_COMMAND 10", &[0, 0x20], None),
     ("write a VOUT_COMMAND 10", &[0x40], Some(K3)),
@@ -131,44 +150,40 @@ const PROTECTIONS: [Stored; 21] = [
     ("alert r0", &[0x80], None),
 ];
 
-fn compare_pages(
-    rt: &impl Abort,
-    alloc: Global,
-    board: &Board,
-    rows: &[Stored],
-) -> Result<(), Fail> {
+fn pages_owe(rt: &impl Abort, alloc: Global, rows: &[Stored]) -> Result<(), BoardFault> {
+    let board = rule_board(alloc)?;
     for (line, pages, want) in rows {
-        let found = duty_of(alloc, board, line, (pages, &[0], &[], (0, 0)))?;
-        assert!(rt; found == *want, "{line}");
+        owes(rt, alloc, &board, line, (pages, &[0], &[], (0, 0)), *want);
     }
     Ok(())
 }
 
-fn compare_protections(
-    rt: &impl Abort,
-    alloc: Global,
-    board: &Board,
-    rows: &[Stored],
-) -> Result<(), Fail> {
+fn protections_owe(rt: &impl Abort, alloc: Global, rows: &[Stored]) -> Result<(), BoardFault> {
+    let board = rule_board(alloc)?;
     for (line, protects, want) in rows {
-        let found = duty_of(alloc, board, line, (&[0], protects, &[], (0, 0)))?;
-        assert!(rt; found == *want, "{line}");
+        owes(
+            rt,
+            alloc,
+            &board,
+            line,
+            (&[0], protects, &[], (0, 0)),
+            *want,
+        );
     }
     Ok(())
 }
 
 #[test]
-fn what_may_be_stored(rt: HostRuntime) -> Result<(), Fail> {
-    let board = rule_board(rt.alloc())?;
-    compare_pages(&rt, rt.alloc(), &board, &PAGES)?;
-    compare_protections(&rt, rt.alloc(), &board, &PROTECTIONS)
+fn what_may_be_stored(rt: HostRuntime) {
+    same(&rt, pages_owe(&rt, rt.alloc(), &PAGES), Ok(()));
+    same(&rt, protections_owe(&rt, rt.alloc(), &PROTECTIONS), Ok(()));
 }
 
 /// What is written to VOUT_COMMAND, the pages that a may store, and whether the greatest voltage is
 /// within the limits of all rails that are touched: 4505 for page 0, and 13516 for page 1.
 type Voltage = ((u16, u16), &'static [u8], bool);
 
-const VOLTAGES: [Voltage; 17] = [
+static VOLTAGES: [Voltage; 17] = [
     ((4505, 4505), &[0], true),
     ((4506, 4506), &[0], false),
     ((13516, 13516), &[1], true),
@@ -192,7 +207,7 @@ const VOLTAGES: [Voltage; 17] = [
 /// be turned on.
 type Need = (&'static [u8], &'static [u8], bool);
 
-const NEEDS: [Need; 10] = [
+static NEEDS: [Need; 10] = [
     (&[0], &[1], true),
     (&[0], &[], false),
     (&[0], &[0, 2], false),
@@ -209,43 +224,41 @@ fn unless(holds: bool, rule: Rule) -> Option<Rule> {
     if holds { None } else { Some(rule) }
 }
 
-fn compare_voltages(
-    rt: &impl Abort,
-    alloc: Global,
-    board: &Board,
-    rows: &[Voltage],
-) -> Result<(), Fail> {
-    let line = "write a VOUT_COMMAND r0";
+fn voltages_owe(rt: &impl Abort, alloc: Global, rows: &[Voltage]) -> Result<(), BoardFault> {
+    let board = rule_board(alloc)?;
     for (span, pages, holds) in rows {
-        let found = duty_of(alloc, board, line, (pages, &[0], &[], *span))?;
-        assert!(rt; found == unless(*holds, K4));
+        let before = (*pages, [0].as_slice(), [].as_slice(), *span);
+        owes(
+            rt,
+            alloc,
+            &board,
+            "write a VOUT_COMMAND r0",
+            before,
+            unless(*holds, K4),
+        );
     }
     Ok(())
 }
 
-fn compare_needs(rt: &impl Abort, alloc: Global, board: &Board, rows: &[Need]) -> Result<(), Fail> {
+fn needs_owe(rt: &impl Abort, alloc: Global, rows: &[Need]) -> Result<(), BoardFault> {
+    let board = rule_board(alloc)?;
     for (pages, good, holds) in rows {
-        let on = duty_of(
+        let before = (*pages, [0].as_slice(), *good, (0, 0));
+        owes(
+            rt,
             alloc,
-            board,
+            &board,
             "write a OPERATION 0x80",
-            (pages, &[0], good, (0, 0)),
-        )?;
-        assert!(rt; on == unless(*holds, K5));
-        let off = duty_of(
-            alloc,
-            board,
-            "write a OPERATION 0x40",
-            (pages, &[0], good, (0, 0)),
-        )?;
-        assert!(rt; off.is_none());
+            before,
+            unless(*holds, K5),
+        );
+        owes(rt, alloc, &board, "write a OPERATION 0x40", before, None);
     }
     Ok(())
 }
 
 #[test]
-fn what_is_touched(rt: HostRuntime) -> Result<(), Fail> {
-    let board = rule_board(rt.alloc())?;
-    compare_voltages(&rt, rt.alloc(), &board, &VOLTAGES)?;
-    compare_needs(&rt, rt.alloc(), &board, &NEEDS)
+fn what_is_touched(rt: HostRuntime) {
+    same(&rt, voltages_owe(&rt, rt.alloc(), &VOLTAGES), Ok(()));
+    same(&rt, needs_owe(&rt, rt.alloc(), &NEEDS), Ok(()));
 }

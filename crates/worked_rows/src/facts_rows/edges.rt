@@ -1,56 +1,76 @@
 use super::known::{Counted, Known, row_of, rule_board};
-use board::Board;
+use crate::expected::same;
+use board::{Board, BoardFault};
 use facts::Source::{self, Page, Protect, Status};
 use facts::{Part, Row, duty, edges};
 use seq_program::read_program;
 use std::alloc::Global;
 use std::process::Abort;
-use std::test::Fail;
+use std::test::*;
 
 const NO: Source = Source::None;
 
-/// The edges of a program's first instruction, with the ticks; none where one of its duties isn't
+/// The edges of a program's first instruction, with the ticks; `None` where one of its duties isn't
 /// met.
-fn edges_of(
-    alloc: Global,
-    board: &Board,
-    line: &str,
-    row: &Row,
-) -> Result<Option<Vec<(usize, Row, u64)>>, Fail> {
-    let text = format!(in alloc; "{line}\nend\nx:\nend")?;
-    let program = read_program(alloc, board, &text)?;
-    let instr = program.at(0).ok_or("no such place")?;
+fn edges_of(alloc: Global, board: &Board, line: &str, row: &Row) -> Option<Vec<(usize, Row, u64)>> {
+    let text = format!(in alloc; "{line}\nend\nx:\nend").ok()?;
+    let program = read_program(alloc, board, &text).ok()?;
+    let instr = program.at(0)?;
     if !row.is_of(board) || duty(board, instr, row).is_some() {
-        return Ok(None);
+        return None;
     }
-    Ok(Some(edges(alloc, board, &program, 0, row)?))
+    edges(alloc, board, &program, 0, row).ok()
 }
 
 fn is_same(row: &Row, other: &Row) -> bool {
     row.covers(other) && other.covers(row) && row.base == other.base && row.coeffs == other.coeffs
 }
 
+/// A place, and what is known there.
+pub(super) type Reached = (usize, Known, Counted);
+
+/// Whether an edge leads to a place where this is known.
+fn reaches(alloc: Global, edge: &(usize, Row, u64), want: Reached) -> bool {
+    let (place, known, counted) = want;
+    match row_of(alloc, known, counted) {
+        Some(row) => edge.0 == place && is_same(&edge.1, &row),
+        None => false,
+    }
+}
+
+fn all_reach(alloc: Global, edges: &[(usize, Row, u64)], wanted: &[Reached]) -> bool {
+    for (edge, want) in edges.iter().zip(wanted) {
+        if !reaches(alloc, edge, *want) {
+            return false;
+        }
+    }
+    edges.len() == wanted.len()
+}
+
 /// Whether an instruction leads from what is known to these places and what is known there.
-pub(super) fn leads(
+fn is_led(
     alloc: Global,
     board: &Board,
     line: &str,
     before: (Known, Counted),
-    after: &[(usize, Known, Counted)],
-) -> Result<bool, Fail> {
+    after: &[Reached],
+) -> Option<bool> {
     let row = row_of(alloc, before.0, before.1)?;
-    let found = edges_of(alloc, board, line, &row)?.ok_or("a duty isn't met")?;
-    if found.len() != after.len() {
-        return Ok(false);
-    }
-    for i in 0..found.len() {
-        let (place, known, counted) = after[i];
-        let wanted = row_of(alloc, known, counted)?;
-        if found[i].0 != place || !is_same(&found[i].1, &wanted) {
-            return Ok(false);
-        }
-    }
-    Ok(true)
+    let found = edges_of(alloc, board, line, &row)?;
+    Some(all_reach(alloc, &found, after))
+}
+
+/// Tries that it does.
+pub(super) fn leads(
+    rt: &impl Abort,
+    alloc: Global,
+    board: &Board,
+    line: &str,
+    before: (Known, Counted),
+    after: &[Reached],
+) {
+    let is_so = is_led(alloc, board, line, before, after);
+    same(rt, (line, is_so), (line, Some(true)));
 }
 
 /// Nothing is counted.
@@ -60,8 +80,8 @@ pub(super) const UNCOUNTED: Counted = ((0, 0), 7, 3);
 /// other one.
 type Sent = (&'static str, Known, Known, Known);
 
-/// What is written to PAGE, and to WRITE_PROTECT.
-const PAGES: [Sent; 5] = [
+static MESSAGES: [Sent; 17] = [
+    // what is written to PAGE, and to WRITE_PROTECT
     (
         "write a PAGE 1",
         (&[0], &[0], &[], (0, 0), Page(0)),
@@ -92,10 +112,7 @@ const PAGES: [Sent; 5] = [
         (&[0], &[0x80], &[], (0, 0), Page(0)),
         (&[0], &[0, 0x40, 0x80], &[], (0, 0), Page(0)),
     ),
-];
-
-/// What is written to OPERATION.
-const OPERATIONS: [Sent; 5] = [
+    // what is written to OPERATION
     (
         "write a OPERATION 0x00",
         (&[0], &[0], &[0, 1, 2], (0, 0), Status(0)),
@@ -126,10 +143,7 @@ const OPERATIONS: [Sent; 5] = [
         (&[255], &[0], &[1], (0, 0), Status(1)),
         (&[255], &[0], &[1], (0, 0), Status(1)),
     ),
-];
-
-/// Reads of STATUS_WORD.
-const REPORTS: [Sent; 4] = [
+    // reads of STATUS_WORD
     (
         "read a STATUS_WORD r0",
         (&[0], &[0], &[0, 1, 2], (5, 5), Page(0)),
@@ -154,10 +168,7 @@ const REPORTS: [Sent; 4] = [
         (&[2], &[0], &[0, 1, 2], (1, 4096), NO),
         (&[2], &[0], &[0, 1, 2], (0, 0), Status(2)),
     ),
-];
-
-/// Reads of PAGE and WRITE_PROTECT.
-const STORED: [Sent; 3] = [
+    // reads of PAGE and WRITE_PROTECT
     (
         "read a PAGE r0",
         (&[0, 2], &[0], &[], (5, 5), Status(1)),
@@ -178,54 +189,27 @@ const STORED: [Sent; 3] = [
     ),
 ];
 
-fn sends(
-    alloc: Global,
-    board: &Board,
-    line: &str,
-    before: Known,
-    ways: (Known, Known),
-) -> Result<bool, Fail> {
-    let text = format!(in alloc; "{line} else x")?;
-    let after = [(1, ways.0, UNCOUNTED), (2, ways.1, UNCOUNTED)];
-    leads(alloc, board, &text, (before, UNCOUNTED), &after)
+fn sends(rt: &impl Abort, alloc: Global, board: &Board, sent: Sent) {
+    let (line, before, done, otherwise) = sent;
+    let after = [(1, done, UNCOUNTED), (2, otherwise, UNCOUNTED)];
+    match format!(in alloc; "{line} else x") {
+        Ok(text) => leads(rt, alloc, board, &text, (before, UNCOUNTED), &after),
+        Err(_) => panic!(rt; "no memory"),
+    }
 }
 
-fn compare(rt: &impl Abort, alloc: Global, board: &Board, rows: &[Sent]) -> Result<(), Fail> {
-    for (line, before, done, otherwise) in rows {
-        let is_so = sends(alloc, board, line, *before, (*done, *otherwise))?;
-        assert!(rt; is_so, "{line}");
+fn all_send(rt: &impl Abort, alloc: Global, rows: &[Sent]) -> Result<(), BoardFault> {
+    let board = rule_board(alloc)?;
+    for sent in rows {
+        sends(rt, alloc, &board, *sent);
     }
     Ok(())
-}
-
-#[test]
-fn edges_of_page_writes(rt: HostRuntime) -> Result<(), Fail> {
-    let board = rule_board(rt.alloc())?;
-    compare(&rt, rt.alloc(), &board, &PAGES)
-}
-
-#[test]
-fn edges_of_operations(rt: HostRuntime) -> Result<(), Fail> {
-    let board = rule_board(rt.alloc())?;
-    compare(&rt, rt.alloc(), &board, &OPERATIONS)
-}
-
-#[test]
-fn edges_of_reports(rt: HostRuntime) -> Result<(), Fail> {
-    let board = rule_board(rt.alloc())?;
-    compare(&rt, rt.alloc(), &board, &REPORTS)
-}
-
-#[test]
-fn edges_of_stored_reads(rt: HostRuntime) -> Result<(), Fail> {
-    let board = rule_board(rt.alloc())?;
-    compare(&rt, rt.alloc(), &board, &STORED)
 }
 
 /// Messages that return a number, and the numbers. The register equals nothing then.
 type Load = (&'static str, (u16, u16));
 
-const LOADS: [Load; 6] = [
+static LOADS: [Load; 6] = [
     ("read a OPERATION r0", (0, 255)),
     ("receive a r0", (3, 9)),
     ("call a D0 1 r0", (256, 4096)),
@@ -235,7 +219,7 @@ const LOADS: [Load; 6] = [
 ];
 
 /// Messages after which nothing else is known.
-const UNCHANGING: [&str; 5] = [
+static UNCHANGING: [&str; 5] = [
     "quick a r",
     "send a CLEAR_FAULTS",
     "write a OPERATION 0x80",
@@ -248,38 +232,32 @@ fn with_register(ends: (u16, u16), source: Source) -> Known {
     (&[0], &[0], &[0, 1, 2], ends, source)
 }
 
-fn compare_loads(rt: &impl Abort, alloc: Global, board: &Board, rows: &[Load]) -> Result<(), Fail> {
+fn all_load(rt: &impl Abort, alloc: Global, rows: &[Load]) -> Result<(), BoardFault> {
+    let board = rule_board(alloc)?;
     let before = with_register((5, 5), Status(0));
     for (line, ends) in rows {
-        let is_so = sends(
-            alloc,
-            board,
-            line,
-            before,
-            (with_register(*ends, NO), before),
-        )?;
-        assert!(rt; is_so, "{line}");
+        let loaded = with_register(*ends, NO);
+        sends(rt, alloc, &board, (line, before, loaded, before));
     }
     Ok(())
 }
 
-fn compare_unchanged(
-    rt: &impl Abort,
-    alloc: Global,
-    board: &Board,
-    lines: &[&str],
-) -> Result<(), Fail> {
+fn none_changes(rt: &impl Abort, alloc: Global, lines: &[&'static str]) -> Result<(), BoardFault> {
+    let board = rule_board(alloc)?;
     let before = with_register((5, 5), Status(0));
     for line in lines {
-        let is_so = sends(alloc, board, line, before, (before, before))?;
-        assert!(rt; is_so, "{line}");
+        sends(rt, alloc, &board, (line, before, before, before));
     }
     Ok(())
 }
 
 #[test]
-fn edges_of_other_messages(rt: HostRuntime) -> Result<(), Fail> {
-    let board = rule_board(rt.alloc())?;
-    compare_loads(&rt, rt.alloc(), &board, &LOADS)?;
-    compare_unchanged(&rt, rt.alloc(), &board, &UNCHANGING)
+fn edges_of_messages(rt: HostRuntime) {
+    same(&rt, all_send(&rt, rt.alloc(), &MESSAGES), Ok(()));
+}
+
+#[test]
+fn edges_of_other_messages(rt: HostRuntime) {
+    same(&rt, all_load(&rt, rt.alloc(), &LOADS), Ok(()));
+    same(&rt, none_changes(&rt, rt.alloc(), &UNCHANGING), Ok(()));
 }

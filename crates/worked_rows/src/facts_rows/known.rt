@@ -3,7 +3,6 @@
 use board::{Board, BoardFault, read_board};
 use facts::{GoodSet, PageSet, ProtectSet, Row, Source, Span};
 use std::alloc::Global;
-use std::test::Fail;
 
 /// Target a has a rail on its pages 0 and 1 and none on page 2. Its first rail needs b's, and its
 /// second both others.
@@ -98,18 +97,18 @@ fn span_of(ends: (u16, u16)) -> Span {
 
 /// A row for two targets, of which the second stores 00h in both. Its r7 equals what the second
 /// stores in PAGE, and c1 has a coefficient.
-pub(crate) fn row_of(alloc: Global, known: Known, counted: Counted) -> Result<Row, Fail> {
+pub(crate) fn row_of(alloc: Global, known: Known, counted: Counted) -> Option<Row> {
     let (pages, protects, good, span, source) = known;
     let (counter, base, coeff) = counted;
     let none = Source::None;
-    let pages = PageSet::of(alloc, pages)?.ok_or("not pages")?;
-    let page = PageSet::of(alloc, &[0])?.ok_or("not a page")?;
-    let protects = ProtectSet::of(alloc, protects)?.ok_or("not protections")?;
-    let protect = ProtectSet::of(alloc, &[0])?.ok_or("not a protection")?;
-    Ok(Row {
-        pages: Vec::from_array(alloc, [pages, page])?,
-        protects: Vec::from_array(alloc, [protects, protect])?,
-        good: GoodSet::of(alloc, good)?.ok_or("not rails")?,
+    let pages = PageSet::of(alloc, pages).ok()??;
+    let page = PageSet::of(alloc, &[0]).ok()??;
+    let protects = ProtectSet::of(alloc, protects).ok()??;
+    let protect = ProtectSet::of(alloc, &[0]).ok()??;
+    Some(Row {
+        pages: Vec::from_array(alloc, [pages, page]).ok()?,
+        protects: Vec::from_array(alloc, [protects, protect]).ok()?,
+        good: GoodSet::of(alloc, good).ok()??,
         regs: [span_of(span), ZERO, ZERO, ZERO, ZERO, ZERO, ZERO, ZERO],
         sources: [source, none, none, none, none, none, none, Source::Page(1)],
         counters: [span_of(counter), ZERO, ZERO, ZERO],

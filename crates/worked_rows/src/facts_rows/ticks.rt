@@ -1,16 +1,17 @@
 use super::known::{rule_board, slow_board};
-use board::Board;
+use crate::expected::same;
+use board::{Board, BoardFault};
 use facts::worst_ticks;
 use seq_program::read_program;
 use std::alloc::Global;
 use std::process::Abort;
-use std::test::Fail;
+use std::test::*;
 
 /// An instruction, and its ticks at most where no target stretches the clock, and where one does by
 /// up to 100.
 type Ticks = (&'static str, u64, u64);
 
-const TICKS: [Ticks; 29] = [
+static TICKS: [Ticks; 29] = [
     ("quick a r else x", 32, 1032),
     ("send a CLEAR_FAULTS else x", 59, 1959),
     ("receive a r0 else x", 59, 1959),
@@ -45,32 +46,32 @@ const TICKS: [Ticks; 29] = [
     ("fail", 1, 1),
 ];
 
-fn ticks_of(alloc: Global, board: &Board, line: &str) -> Result<u64, Fail> {
-    let text = format!(in alloc; "{line}\nx:\nend")?;
-    let program = read_program(alloc, board, &text)?;
-    let instr = program.at(0).ok_or("no such place")?;
-    Ok(worst_ticks(board, instr))
+fn ticks_of(alloc: Global, board: &Board, line: &str) -> Option<u64> {
+    let text = format!(in alloc; "{line}\nx:\nend").ok()?;
+    let program = read_program(alloc, board, &text).ok()?;
+    let instr = program.at(0)?;
+    Some(worst_ticks(board, instr))
 }
 
-fn compare(
-    rt: &impl Abort,
-    alloc: Global,
-    quick: &Board,
-    slow: &Board,
-    rows: &[Ticks],
-) -> Result<(), Fail> {
+fn all_take(rt: &impl Abort, alloc: Global, rows: &[Ticks]) -> Result<(), BoardFault> {
+    let quick = rule_board(alloc)?;
+    let slow = slow_board(alloc)?;
     for (line, least, most) in rows {
-        let ticks = ticks_of(alloc, quick, line)?;
-        assert!(rt; ticks == *least, "{line}");
-        let stretched = ticks_of(alloc, slow, line)?;
-        assert!(rt; stretched == *most, "{line}");
+        same(
+            rt,
+            (*line, ticks_of(alloc, &quick, line)),
+            (*line, Some(*least)),
+        );
+        same(
+            rt,
+            (*line, ticks_of(alloc, &slow, line)),
+            (*line, Some(*most)),
+        );
     }
     Ok(())
 }
 
 #[test]
-fn worst_ticks_of_forms(rt: HostRuntime) -> Result<(), Fail> {
-    let quick = rule_board(rt.alloc())?;
-    let slow = slow_board(rt.alloc())?;
-    compare(&rt, rt.alloc(), &quick, &slow, &TICKS)
+fn worst_ticks_of_forms(rt: HostRuntime) {
+    same(&rt, all_take(&rt, rt.alloc(), &TICKS), Ok(()));
 }

@@ -1,139 +1,35 @@
 //! Readers that end late or fail, and writers that fail.
 
 use super::{ASKED, ASKING};
+use crate::devices::SlowWriter;
+use crate::expected::same;
 use session::{DeviceFault, Status, answer, session};
 use std::alloc::Global;
 use std::io;
-use std::io::{Read, Write};
+use std::io::Read;
 use std::process::Abort;
 use std::test::*;
-
-/// Gives one byte a call, and fails at one call.
-#[derive(Drop)]
-struct SlowReader<'a> {
-    rest: &'a [u8],
-    calls_left: usize,
-}
-
-impl Read for SlowReader<'_> {
-    fn read(&mut self, buffer: &mut [u8]) -> io::Result<usize> {
-        if self.calls_left == 0 {
-            return Err(io::Error::from(io::ErrorKind::BrokenPipe));
-        }
-        self.calls_left -= 1;
-        match (self.rest, buffer.first_mut()) {
-            ([byte, rest @ ..], Some(place)) => {
-                *place = *byte;
-                self.rest = rest;
-                Ok(1)
-            }
-            _ => Ok(0),
-        }
-    }
-}
-
-/// Never ends.
-#[derive(Drop)]
-struct EndlessReader;
-
-impl Read for EndlessReader {
-    fn read(&mut self, buffer: &mut [u8]) -> io::Result<usize> {
-        Ok(buffer.len())
-    }
-}
-
-/// Takes one byte a call, and at one call fails or takes nothing.
-#[derive(Drop)]
-struct SlowWriter {
-    taken: Vec<u8>,
-    calls_left: usize,
-    fails: bool,
-}
-
-impl Write for SlowWriter {
-    fn write(&mut self, bytes: &[u8]) -> io::Result<usize> {
-        if self.calls_left == 0 && self.fails {
-            return Err(io::Error::from(io::ErrorKind::BrokenPipe));
-        }
-        match bytes.first() {
-            Some(byte) if self.calls_left > 0 => {
-                self.calls_left -= 1;
-                self.taken.push(*byte)?;
-                Ok(1)
-            }
-            _ => Ok(0),
-        }
-    }
-
-    fn flush(&mut self) -> io::Result<()> {
-        Ok(())
-    }
-}
-
-/// As many LFs as there are, and then the end.
-#[derive(Drop)]
-struct Lines {
-    left: usize,
-}
-
-impl Read for Lines {
-    fn read(&mut self, buffer: &mut [u8]) -> io::Result<usize> {
-        let count = self.left.min(buffer.len());
-        buffer[..count].fill(b'\n');
-        self.left -= count;
-        Ok(count)
-    }
-}
-
-#[test]
-fn the_size_limit(rt: HostRuntime) {
-    for (left, want) in [
-        (16_777_216, b"fault bundle 3 UnknownCommand\n".as_slice()),
-        (16_777_217, b"fault bundle 8 TooLarge\n".as_slice()),
-    ] {
-        let mut output = Vec::new(rt.alloc());
-        let status = session(rt.alloc(), &mut Lines { left }, &mut output);
-        assert!(rt; status == Status::InputFault);
-        assert!(rt; output.as_slice() == want);
-    }
-}
 
 /// A message's bundle, and what is printed for it.
 const FRAME: &[u8] = b"%frame\n%message\nform=writebyte address=40 code=00 out=01\n";
 
 const FRAME_REPLY: &[u8] = b"S 80A 00A 01A P\nsamples 58\ndone 0000\n";
 
-#[test]
-fn the_reader_fails_at_each_call(rt: HostRuntime) {
-    for calls_left in 0..=FRAME.len() {
-        let mut reader = SlowReader {
-            rest: FRAME,
-            calls_left,
-        };
-        let mut output = Vec::new(rt.alloc());
-        let ended = answer(rt.alloc(), &mut reader, &mut output);
-        assert!(rt; ended == Err(DeviceFault::Reader), "{calls_left}");
-        assert!(rt; output.is_empty());
-    }
-    let mut reader = SlowReader {
-        rest: FRAME,
-        calls_left: FRAME.len() + 1,
-    };
-    let mut output = Vec::new(rt.alloc());
-    assert!(rt; session(rt.alloc(), &mut reader, &mut output) == Status::Accepted);
-    assert!(rt; output.as_slice() == FRAME_REPLY);
-}
-
-/// The bundle with blank lines behind the command, one byte a call.
+/// Gives the bundle with blank lines behind the command, one byte a call, and fails at one call.
 #[derive(Drop)]
-struct PaddedReader {
+struct SlowReader {
     head: &'static [u8],
     blanks: usize,
     tail: &'static [u8],
+    calls_left: usize,
 }
 
-impl Read for PaddedReader {
+impl Read for SlowReader {
     fn read(&mut self, buffer: &mut [u8]) -> io::Result<usize> {
+        if self.calls_left == 0 {
+            return Err(io::Error::from(io::ErrorKind::BrokenPipe));
+        }
+        self.calls_left -= 1;
         let Some(place) = buffer.first_mut() else {
             return Ok(0);
         };
@@ -153,58 +49,137 @@ impl Read for PaddedReader {
     }
 }
 
-/// A reader is called 1,048,576 times at most, and the last of them has to tell the end.
-#[test]
-fn the_reader_ends_in_time(rt: HostRuntime) {
-    let mut output = Vec::new(rt.alloc());
-    let ended = answer(rt.alloc(), &mut EndlessReader, &mut output);
-    assert!(rt; ended == Err(DeviceFault::Reader));
-    assert!(rt; output.is_empty());
+fn slow_reader(blanks: usize, calls_left: usize) -> SlowReader {
     let (head, tail) = FRAME.split_at(7);
-    let blanks = 1_048_575 - FRAME.len();
-    for (blanks, want) in [
-        (blanks, (Status::Accepted, FRAME_REPLY)),
-        (blanks + 1, (Status::DeviceFault, b"".as_slice())),
-    ] {
-        let mut reader = PaddedReader { head, blanks, tail };
-        let mut output = Vec::new(rt.alloc());
-        let ended = session(rt.alloc(), &mut reader, &mut output);
-        assert!(rt; (ended, output.as_slice()) == want);
+    SlowReader {
+        head,
+        blanks,
+        tail,
+        calls_left,
     }
 }
 
-/// Whether a writer that fails at a call, or takes nothing there, has got what is before it.
-fn stops_at(alloc: Global, bundle: &[u8], want: &[u8], calls_left: usize, fails: bool) -> bool {
+/// As many LFs as there are, and then the end.
+#[derive(Drop)]
+struct Lines {
+    left: usize,
+}
+
+impl Read for Lines {
+    fn read(&mut self, buffer: &mut [u8]) -> io::Result<usize> {
+        let count = self.left.min(buffer.len());
+        buffer[..count].fill(b'\n');
+        self.left -= count;
+        Ok(count)
+    }
+}
+
+/// Never ends.
+#[derive(Drop)]
+struct EndlessReader;
+
+impl Read for EndlessReader {
+    fn read(&mut self, buffer: &mut [u8]) -> io::Result<usize> {
+        Ok(buffer.len())
+    }
+}
+
+/// Tries how the session with a reader ends, and what is printed.
+fn replies<R: Read>(rt: &impl Abort, alloc: Global, reader: &mut R, want: (Status, &[u8])) {
+    let mut output = Vec::new(alloc);
+    let status = session(alloc, reader, &mut output);
+    same(rt, (status, output.as_slice()), want);
+}
+
+/// Tries that a reader is told to fail, and that nothing is printed.
+fn fails<R: Read>(rt: &impl Abort, alloc: Global, reader: &mut R) {
+    let mut output = Vec::new(alloc);
+    let ended = answer(alloc, reader, &mut output);
+    same(
+        rt,
+        (ended, output.is_empty()),
+        (Err(DeviceFault::Reader), true),
+    );
+}
+
+#[test]
+fn the_size_limit(rt: HostRuntime) {
+    let want = (
+        Status::InputFault,
+        b"fault bundle 3 UnknownCommand\n".as_slice(),
+    );
+    replies(&rt, rt.alloc(), &mut Lines { left: 16_777_216 }, want);
+    let want = (Status::InputFault, b"fault bundle 8 TooLarge\n".as_slice());
+    replies(&rt, rt.alloc(), &mut Lines { left: 16_777_217 }, want);
+}
+
+/// Tries a reader that fails at each of so many calls.
+fn each_fails(rt: &impl Abort, alloc: Global, calls: usize) {
+    for calls_left in 0..calls {
+        fails(rt, alloc, &mut slow_reader(0, calls_left));
+    }
+}
+
+#[test]
+fn the_reader_fails_at_each_call(rt: HostRuntime) {
+    let calls = FRAME.len() + 1;
+    each_fails(&rt, rt.alloc(), calls);
+    let want = (Status::Accepted, FRAME_REPLY);
+    replies(&rt, rt.alloc(), &mut slow_reader(0, calls), want);
+}
+
+/// A reader is called 1,048,576 times at most, and the last of them has to tell the end.
+#[test]
+fn the_reader_ends_in_time(rt: HostRuntime) {
+    fails(&rt, rt.alloc(), &mut EndlessReader);
+    let blanks = 1_048_575 - FRAME.len();
+    let want = (Status::Accepted, FRAME_REPLY);
+    replies(&rt, rt.alloc(), &mut slow_reader(blanks, usize::MAX), want);
+    let want = (Status::DeviceFault, b"".as_slice());
+    replies(
+        &rt,
+        rt.alloc(),
+        &mut slow_reader(blanks + 1, usize::MAX),
+        want,
+    );
+}
+
+/// Tries how the session with a writer ends, and what it has got.
+fn stops(
+    rt: &impl Abort,
+    alloc: Global,
+    bundle: &[u8],
+    how: (usize, bool),
+    want: (Status, Option<&[u8]>),
+) {
     let mut output = SlowWriter {
         taken: Vec::new(alloc),
-        calls_left,
-        fails,
+        calls_left: how.0,
+        fails: how.1,
     };
     let mut reader = bundle;
     let status = session(alloc, &mut reader, &mut output);
-    status == Status::DeviceFault && Some(output.taken.as_slice()) == want.get(..calls_left)
+    same(
+        rt,
+        (how, status, Some(output.taken.as_slice())),
+        (how, want.0, want.1),
+    );
 }
 
 /// Tries a writer that fails, or takes nothing, at each of its calls, and one that doesn't.
 fn all_stop(rt: &impl Abort, alloc: Global, bundle: &[u8], want: &[u8]) {
-    for (calls_left, _) in want.iter().enumerate() {
-        assert!(rt;
-            stops_at(alloc, bundle, want, calls_left, true),
-            "{calls_left}"
-        );
-        assert!(rt;
-            stops_at(alloc, bundle, want, calls_left, false),
-            "{calls_left}"
-        );
+    for calls_left in 0..want.len() {
+        let begun = (Status::DeviceFault, want.get(..calls_left));
+        stops(rt, alloc, bundle, (calls_left, true), begun);
+        stops(rt, alloc, bundle, (calls_left, false), begun);
     }
-    let mut output = SlowWriter {
-        taken: Vec::new(alloc),
-        calls_left: want.len(),
-        fails: true,
-    };
-    let mut reader = bundle;
-    assert!(rt; session(alloc, &mut reader, &mut output) == Status::Accepted);
-    assert!(rt; output.taken.as_slice() == want);
+    stops(
+        rt,
+        alloc,
+        bundle,
+        (want.len(), true),
+        (Status::Accepted, Some(want)),
+    );
 }
 
 #[test]

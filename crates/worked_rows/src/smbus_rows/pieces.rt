@@ -5,7 +5,7 @@ use crate::expected::same;
 use smbus::{ObserveFault, Observer};
 use std::alloc::Global;
 use std::process::Abort;
-use std::test::Fail;
+use std::test::*;
 use wires::Event;
 
 /// A Read Word of STATUS_WORD as its frame is printed.
@@ -61,13 +61,17 @@ fn last_ends(rt: &impl Abort, alloc: Global, before: &[Event], last: Event, ende
     feeds(rt, alloc, &mut observer, (&[last], Ok(STATUS_FRAME), ended));
 }
 
-#[test]
-fn event_by_event(rt: HostRuntime) -> Result<(), Fail> {
-    let events = status_events(rt.alloc())?;
+fn all_are_fed(rt: &impl Abort, alloc: Global) -> Option<()> {
+    let events = status_events(alloc)?;
     let ended = (events.len() as u64, Ok(()));
-    let (last, before) = events.split_last().ok_or("no events")?;
-    last_ends(&rt, rt.alloc(), before, *last, ended);
-    Ok(())
+    let (last, before) = events.split_last()?;
+    last_ends(rt, alloc, before, *last, ended);
+    Some(())
+}
+
+#[test]
+fn event_by_event(rt: HostRuntime) {
+    same(&rt, all_are_fed(&rt, rt.alloc()), Some(()));
 }
 
 /// Feeds one frame in two pieces: it ends in the later one, unless that is empty.
@@ -82,24 +86,25 @@ fn feeds_both(rt: &impl Abort, alloc: Global, first: &[Event], later: &[Event], 
     feeds(rt, alloc, &mut observer, (later, Ok(texts.1), ended));
 }
 
-fn each_cut(rt: &impl Abort, alloc: Global, events: &[Event]) {
+fn each_cut(rt: &impl Abort, alloc: Global) -> Option<()> {
+    let events = status_events(alloc)?;
     let ended = (events.len() as u64, Ok(()));
     for place in 0..=events.len() {
         let (first, later) = events.split_at(place);
         feeds_both(rt, alloc, first, later, ended);
     }
+    Some(())
 }
 
 #[test]
-fn cut_in_two(rt: HostRuntime) -> Result<(), Fail> {
-    each_cut(&rt, rt.alloc(), &status_events(rt.alloc())?);
-    Ok(())
+fn cut_in_two(rt: HostRuntime) {
+    same(&rt, each_cut(&rt, rt.alloc()), Some(()));
 }
 
 /// A fault before all events.
 const AT_ONCE: ObserveFault = ObserveFault::NotFrames(0);
 
-const STRAY_STOP: [Fed<'static>; 2] = [
+static STRAY_STOP: [Fed<'static>; 2] = [
     (&[Event::Stop], Err(AT_ONCE), (0, Err(AT_ONCE))),
     (&[], Err(AT_ONCE), (0, Err(AT_ONCE))),
 ];
@@ -113,7 +118,7 @@ fn stray_stop(rt: HostRuntime) {
 /// it is taken.
 const BEHIND: ObserveFault = ObserveFault::NotFrames(4);
 
-const OPEN_FRAME: [Fed<'static>; 4] = [
+static OPEN_FRAME: [Fed<'static>; 4] = [
     (
         &[Event::Start],
         Ok(""),

@@ -24,14 +24,16 @@ $end
 ";
 
 /// Tries what is dumped behind the header.
-fn draws(rt: &impl Abort, wave: Wave, steps: &str) {
-    same(rt, wave.into_text().strip_prefix(HEADER), Some(steps));
+fn draws(rt: &impl Abort, wave: Result<Wave, AllocError>, steps: &str) {
+    match wave {
+        Ok(wave) => same(rt, wave.into_text().strip_prefix(HEADER), Some(steps)),
+        Err(_) => panic!(rt; "no memory"),
+    }
 }
 
 #[test]
-fn a_dump_of_no_steps(rt: HostRuntime) -> Result<(), Fail> {
-    draws(&rt, Wave::new(rt.alloc())?, "");
-    Ok(())
+fn a_dump_of_no_steps(rt: HostRuntime) {
+    draws(&rt, Wave::new(rt.alloc()), "");
 }
 
 /// The place of a step, and its samples.
@@ -54,7 +56,7 @@ fn wave_of(
 }
 
 /// A START, SCL low, and an alert meanwhile.
-const START: [Ticks; 3] = [
+static START: [Ticks; 3] = [
     (IDLE, 1),
     (
         Sample {
@@ -75,15 +77,14 @@ const START: [Ticks; 3] = [
 ];
 
 #[test]
-fn changes_and_stamps(rt: HostRuntime) -> Result<(), Fail> {
-    let wave = wave_of(&rt, rt.alloc(), (0, &[(IDLE, 3)]), (7, &START))?;
+fn changes_and_stamps(rt: HostRuntime) {
+    let wave = wave_of(&rt, rt.alloc(), (0, &[(IDLE, 3)]), (7, &START));
     let steps = "$comment place 0 $end\n#3\n$comment place 7 $end\n#4\n0\"\n#9\n0!\n0#\n#11\n";
     draws(&rt, wave, steps);
-    Ok(())
 }
 
 /// SCL alone low.
-const CLOCK_LOW: [Ticks; 1] = [(
+static CLOCK_LOW: [Ticks; 1] = [(
     Sample {
         scl: false,
         sda: true,
@@ -93,9 +94,8 @@ const CLOCK_LOW: [Ticks; 1] = [(
 )];
 
 #[test]
-fn levels_are_kept_between_steps(rt: HostRuntime) -> Result<(), Fail> {
-    let wave = wave_of(&rt, rt.alloc(), (7, &CLOCK_LOW), (8, &CLOCK_LOW))?;
+fn levels_are_kept_between_steps(rt: HostRuntime) {
+    let wave = wave_of(&rt, rt.alloc(), (7, &CLOCK_LOW), (8, &CLOCK_LOW));
     let steps = "$comment place 7 $end\n0!\n#2\n$comment place 8 $end\n#4\n";
     draws(&rt, wave, steps);
-    Ok(())
 }
