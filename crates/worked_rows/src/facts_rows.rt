@@ -82,12 +82,16 @@ fn ways_of(
     Ok(ways)
 }
 
+fn ways_on(alloc: Global, board: &Board, counted: Counted) -> Option<Vec<Way>> {
+    let program = read_program(alloc, board, LOOP).ok()?;
+    let row = row_of(alloc, NOTHING, counted)?;
+    ways_of(alloc, board, &program, &row).ok()
+}
+
 /// The ways from place 2 of the loop.
 fn counted_ways(alloc: Global, counted: Counted) -> Option<Vec<Way>> {
     let board = two_board(alloc).ok()?;
-    let program = read_program(alloc, &board, LOOP).ok()?;
-    let row = row_of(alloc, NOTHING, counted)?;
-    ways_of(alloc, &board, &program, &row).ok()
+    ways_on(alloc, &board, counted)
 }
 
 #[test]

@@ -1,11 +1,19 @@
 //! Runs by their calls. What is printed of whole runs is tried with the bundles of
 //! `examples/rows`.
 
+ghost use Rattle.std.specs.Prelude.{length, All};
+ghost use Rattle.seq_program.specs.Valid.{IsOnBoard};
+
 use crate::boards::alert_board;
 use crate::devices::SlowWriter;
 use crate::expected::same;
 use crate::runs::{ASKED, ASKING, NOTHING, answer_of, answers_of, trace_of};
+<<<<<<< HEAD
 use seq_program::{program_is_valid, read_program};
+=======
+use board::Board;
+use seq_program::{Program, read_program};
+>>>>>>> 4f1db3e0b681b24e0a6d095206416112fcd2a5cb
 use simulator::{Entry, RunFault, Trace, WriteFault, start, step, write_trace};
 use smbus::Answer;
 use std::alloc::{AllocError, Global};
@@ -21,13 +29,28 @@ fn levels_at(entry: &Entry, place: u64) -> Option<(bool, bool)> {
     Some((sample.scl, sample.sda))
 }
 
+/// The first step of a program, in which nothing is said.
+fn first_step(alloc: Global, board: &Board, program: &Program) -> Result<Entry, RunFault>
+    requires { All (λ i. IsOnBoard (length board.now.targets) i) program.now }
+{
+    let _places = program.places();
+    let machine = start(alloc, board, &[0, 0], &[0, 0])?;
+    let answer = answer_of(alloc, NOTHING);
+    let (_, entry) = step(alloc, board, program, &machine, &answer)?;
+    Ok(entry)
+}
+
 fn long_wait(alloc: Global) -> Option<Waited> {
     let board = alert_board(alloc).ok()?;
     let program = read_program(alloc, &board, "wait 10000000\nend\n").ok()?;
+<<<<<<< HEAD
     program_is_valid(&program);
     let machine = start(alloc, &board, &[0, 0], &[0, 0]).ok()?;
     let answer = answer_of(alloc, NOTHING);
     let (_, entry) = step(alloc, &board, &program, &machine, &answer).ok()?;
+=======
+    let entry = first_step(alloc, &board, &program).ok()?;
+>>>>>>> 4f1db3e0b681b24e0a6d095206416112fcd2a5cb
     let last = levels_at(&entry, 10_000_000);
     let behind = levels_at(&entry, 10_000_001);
     Some((entry.ticks, entry.samples.runs().len(), last, behind))
@@ -45,12 +68,17 @@ fn trace_text(alloc: Global, trace: &Trace) -> Option<String> {
     String::from_utf8(bytes).ok()
 }
 
+fn asked_on(alloc: Global, board: &Board) -> Option<String> {
+    let program = read_program(alloc, board, ASKING).ok()?;
+    let answers = answers_of(alloc, &ASKED).ok()?;
+    let trace = trace_of(alloc, board, &program, 0, &answers).ok()?;
+    trace_text(alloc, &trace)
+}
+
+/// The text of the run of ASKING.
 fn asked_text(alloc: Global) -> Option<String> {
     let board = alert_board(alloc).ok()?;
-    let program = read_program(alloc, &board, ASKING).ok()?;
-    let answers = answers_of(alloc, &ASKED).ok()?;
-    let trace = trace_of(alloc, &board, &program, 0, &answers).ok()?;
-    trace_text(alloc, &trace)
+    asked_on(alloc, &board)
 }
 
 #[test]

@@ -53,18 +53,26 @@ fn ticks_of(alloc: Global, board: &Board, line: &str) -> Option<u64> {
     Some(worst_ticks(board, instr))
 }
 
+/// Tries the ticks on the board where no target stretches the clock.
 fn all_take(rt: &impl Abort, alloc: Global, rows: &[Ticks]) -> Result<(), BoardFault> {
-    let quick = rule_board(alloc)?;
-    let slow = slow_board(alloc)?;
-    for (line, least, most) in rows {
+    let board = rule_board(alloc)?;
+    for (line, least, _) in rows {
         same(
             rt,
-            (*line, ticks_of(alloc, &quick, line)),
+            (*line, ticks_of(alloc, &board, line)),
             (*line, Some(*least)),
         );
+    }
+    Ok(())
+}
+
+/// Tries the ticks on the board where one does.
+fn all_take_longer(rt: &impl Abort, alloc: Global, rows: &[Ticks]) -> Result<(), BoardFault> {
+    let board = slow_board(alloc)?;
+    for (line, _, most) in rows {
         same(
             rt,
-            (*line, ticks_of(alloc, &slow, line)),
+            (*line, ticks_of(alloc, &board, line)),
             (*line, Some(*most)),
         );
     }
@@ -74,4 +82,5 @@ fn all_take(rt: &impl Abort, alloc: Global, rows: &[Ticks]) -> Result<(), BoardF
 #[test]
 fn worst_ticks_of_forms(rt: HostRuntime) {
     same(&rt, all_take(&rt, rt.alloc(), &TICKS), Ok(()));
+    same(&rt, all_take_longer(&rt, rt.alloc(), &TICKS), Ok(()));
 }
