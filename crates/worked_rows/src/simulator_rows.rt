@@ -8,12 +8,8 @@ use crate::boards::alert_board;
 use crate::devices::SlowWriter;
 use crate::expected::same;
 use crate::runs::{ASKED, ASKING, NOTHING, answer_of, answers_of, trace_of};
-<<<<<<< HEAD
-use seq_program::{program_is_valid, read_program};
-=======
 use board::Board;
-use seq_program::{Program, read_program};
->>>>>>> 4f1db3e0b681b24e0a6d095206416112fcd2a5cb
+use seq_program::{Program, program_is_valid, read_program};
 use simulator::{Entry, RunFault, Trace, WriteFault, start, step, write_trace};
 use smbus::Answer;
 use std::alloc::{AllocError, Global};
@@ -33,7 +29,7 @@ fn levels_at(entry: &Entry, place: u64) -> Option<(bool, bool)> {
 fn first_step(alloc: Global, board: &Board, program: &Program) -> Result<Entry, RunFault>
     requires { All (λ i. IsOnBoard (length board.now.targets) i) program.now }
 {
-    let _places = program.places();
+    program_is_valid(program);
     let machine = start(alloc, board, &[0, 0], &[0, 0])?;
     let answer = answer_of(alloc, NOTHING);
     let (_, entry) = step(alloc, board, program, &machine, &answer)?;
@@ -43,14 +39,7 @@ fn first_step(alloc: Global, board: &Board, program: &Program) -> Result<Entry, 
 fn long_wait(alloc: Global) -> Option<Waited> {
     let board = alert_board(alloc).ok()?;
     let program = read_program(alloc, &board, "wait 10000000\nend\n").ok()?;
-<<<<<<< HEAD
-    program_is_valid(&program);
-    let machine = start(alloc, &board, &[0, 0], &[0, 0]).ok()?;
-    let answer = answer_of(alloc, NOTHING);
-    let (_, entry) = step(alloc, &board, &program, &machine, &answer).ok()?;
-=======
     let entry = first_step(alloc, &board, &program).ok()?;
->>>>>>> 4f1db3e0b681b24e0a6d095206416112fcd2a5cb
     let last = levels_at(&entry, 10_000_000);
     let behind = levels_at(&entry, 10_000_001);
     Some((entry.ticks, entry.samples.runs().len(), last, behind))
