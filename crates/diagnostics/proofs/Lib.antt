@@ -13,3 +13,4 @@ pub mod Told
 pub mod Stored
 pub mod Gained
 pub mod Judged
+pub mod CountedLines
