@@ -8,7 +8,7 @@ use Rattle.std.specs.Str.{bytes_eq}
 use Rattle.std.proofs.lemmas.Bool.{cases_Bool}
 use Rattle.std.proofs.lemmas.Bool.Decides.{nat_tests}
 use Rattle.std.proofs.lemmas.Slice.Eq.{bytes_eq-Decides}
-use Rattle.texts.specs.Hex.{pair_of, pair_text}
+use Rattle.texts.specs.Hex.{pair_text}
 use Rattle.texts.specs.ReadBack.{PairsReadBack}
 use Rattle.pmbus_table.specs.Table.{Row, table, row_of, row_named}
 use Rattle.pmbus_table.specs.Commands.{is_manufacturer, is_command, name_text, command_in}

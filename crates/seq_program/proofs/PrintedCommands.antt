@@ -21,9 +21,7 @@ use Rattle.pmbus_table.specs.Table.{Row, table, row_of}
 use Rattle.pmbus_table.specs.NameLaws.{NamesReadBack}
 use Rattle.board.specs.Boards.{place_of_name}
 use Rattle.seq_program.specs.CommandWords as words
-use Rattle.seq_program.specs.CommandWords.{form_at, width_of, named_sized, before}
-use Rattle.seq_program.specs.CommandWords.{manufacturer_word, manufacturer_sized, sized_in}
-use Rattle.seq_program.specs.CommandWords.{first_some}
+use Rattle.seq_program.specs.CommandWords.{before}
 use Rattle.seq_program.specs.JoinedWords.{is_word_byte, is_word}
 
 -- names

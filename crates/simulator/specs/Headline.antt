@@ -1,6 +1,5 @@
 -- What holds of every run of a program that is safe within a bound.
 use Rattle.std.specs.Prelude.{◌≡◌, ◌≤◌, ℕ, List, [], ◌∷◌, ◌++◌, slice_get, Some, All}
-use Rattle.wires.specs.declared.lines.Sample.{Sample}
 use Rattle.wires.specs.Events.{events_of}
 use Rattle.bit_bus.specs.Levels.{EndsHigh}
 use Rattle.smbus.specs.Answered.{Answered}

@@ -1,9 +1,7 @@
 -- Each machine within a run of an inductive table is admitted.
-use Rattle.std.proofs.Common.{◌≡◌, ◌≤◌, ◌⊎◌, ℕ, List, [], ◌∷◌, inl, inr, arith}
+use Rattle.std.proofs.Common.{◌≡◌, ◌⊎◌, ℕ, List, [], ◌∷◌, inl, inr, arith}
 use Rattle.board.specs.Boards.{Board}
-use Rattle.board.specs.Valid.{IsBoard}
 use Rattle.seq_program.specs.declared.instr.Instr.{Instr}
-use Rattle.seq_program.specs.Valid.{IsProgram}
 use Rattle.simulator.specs.declared.machine.Ending.TheVariants.{Running}
 use Rattle.simulator.specs.Machines.{Machine, Entry}
 use Rattle.facts.specs.Rows.{rank}

@@ -1,6 +1,6 @@
 -- The ticks of a message by its heading.
 use Rattle.std.proofs.Common.{◌≡◌, ◌∙◌, ℕ, Option, Some, None, option_map, option_and_then}
-use Rattle.std.proofs.Common.{unwrap_or, slice_get, sym, ap, subst}
+use Rattle.std.proofs.Common.{unwrap_or, slice_get, sym, ap}
 use Rattle.smbus.specs.declared.message.Form.{Form}
 use Rattle.smbus.specs.SlotCounts.{most_slots}
 use Rattle.board.specs.declared.entry.Range.{Range}

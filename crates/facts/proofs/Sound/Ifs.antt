@@ -2,9 +2,9 @@
 use Rattle.std.proofs.Common.{◌≡◌, ℕ, zero, suc, ◌+◌, ◌-◌, ◌^◌, ◌%◌, ◌<◌, ◌≤◌, ◌⊎◌, List, [], ◌∷◌}
 use Rattle.std.proofs.Common.{◌++◌, length, refl, ap, sym, ◌∙◌, subst, inl, inr, arith, Bool, true}
 use Rattle.std.proofs.Common.{false, not, ◌&&◌, ◌||◌, cond}
-use Rattle.std.proofs.lemmas.Bool.{eqb-true, eqb-false, eq-eqb, ne_eqb, and_parts, and_from}
-use Rattle.std.proofs.lemmas.Bool.{or_cases, cases_Bool, cases_eq, cond-true, cond-false, cond_both}
-use Rattle.std.proofs.lemmas.Bool.{false≢true, true≢false, not_from_false, le-leb, ltb-true}
+use Rattle.std.proofs.lemmas.Bool.{eqb-true, eqb-false, eq-eqb, and_parts, and_from}
+use Rattle.std.proofs.lemmas.Bool.{or_cases, cases_Bool, cond-true, cond-false, cond_both}
+use Rattle.std.proofs.lemmas.Bool.{not_from_false, le-leb}
 use Rattle.std.proofs.lemmas.Nat.{and_comm, and_mask}
 use Rattle.std.proofs.lemmas.List.{get_or-set_same}
 use Rattle.std.specs.Int.Bits.{and_self, and_zero_l}

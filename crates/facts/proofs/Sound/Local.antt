@@ -10,7 +10,6 @@ use Rattle.board.specs.Boards.{Target, Board}
 use Rattle.targets.specs.declared.outcome.Outcome.{Outcome}
 use Rattle.targets.specs.declared.outcome.Outcome.TheVariants.{Done, NotAcknowledged, TimedOut}
 use Rattle.targets.specs.Outcomes.{outcome_of}
-use Rattle.targets.specs.States.{BusState}
 use Rattle.seq_program.specs.declared.instr.Instr.{Instr}
 use Rattle.seq_program.specs.declared.instr.Instr.TheVariants as instr
 use Rattle.seq_program.specs.Messages.{alert_message, message_of}

@@ -11,7 +11,7 @@ use Rattle.targets.specs.States.{BusState}
 use Rattle.seq_program.specs.declared.instr.Instr.{Instr}
 use Rattle.seq_program.specs.Valid.{jump_in}
 use Rattle.simulator.specs.Machines.{Machine, Entry}
-use Rattle.simulator.specs.Moves.{result_in, after_message, silently, moved}
+use Rattle.simulator.specs.Moves.{result_in, moved}
 use Rattle.simulator.specs.Steps.{IsStepOf}
 use Rattle.facts.specs.Rows.{Row, Admits, rank}
 use Rattle.facts.specs.Requests.{Request}

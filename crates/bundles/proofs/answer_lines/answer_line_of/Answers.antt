@@ -1,4 +1,4 @@
-use Rattle.std.proofs.Common.{◌≡◌, List, ℕ, codes, sym}
+use Rattle.std.proofs.Common.{◌≡◌, codes, sym}
 use Rattle.std.proofs.lemmas.Slice.Eq.{bytes_eq-Decides}
 use Rattle.bundles.proofs.Silence.{dash_is_silence}
 use Rattle.bundles.proofs.answer_lines.answer_line_of.Goals as goal
