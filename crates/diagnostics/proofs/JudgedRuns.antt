@@ -14,7 +14,7 @@ use Rattle.seq_program.specs.declared.instr.Instr.{Instr}
 use Rattle.seq_program.specs.Valid.{IsProgram}
 use Rattle.simulator.specs.declared.machine.Ending.TheVariants.{Running}
 use Rattle.simulator.specs.Machines.{Machine, Entry, start_at}
-use Rattle.simulator.specs.RunLaws.{RunsAreOne}
+use Rattle.simulator.specs.RunLaws.{RunsAreOne, RunsGoOn, TicksAddUp}
 use Rattle.simulator.specs.StepLaws.{IsReady, StartsAreReady, StepsAreSeen}
 use Rattle.simulator.specs.Steps.{IsStep}
 use Rattle.facts.specs.declared.rule.Rule.{Rule}
@@ -168,7 +168,8 @@ kept_next s index before here k few = by_order (compared k index)
     by_order (inr (inl is)) = subst (λ (n : ℕ). KeepsRulesAt s n) (sym is) here
     by_order (inr (inr lt)) = absurd (omega (arith, lt, few))
 
-pub judged_step : RunsAreOne → StepsAreSeen → StepsStayAdmitted → (s : Scenario)
+pub judged_step : RunsGoOn → TicksAddUp → RunsAreOne → StepsAreSeen → StepsStayAdmitted
+    → (s : Scenario)
     (left later : List Answered) (index ticks : ℕ) (m next : Machine) (old new : Set)
     (a : Answered) (e : Entry) → IsBoard s.board → IsProgram s.program
     → IsJudged s left index ticks m old → left ≡ a ∷ later
@@ -177,8 +178,8 @@ pub judged_step : RunsAreOne → StepsAreSeen → StepsStayAdmitted → (s : Sce
     → IsStep s.board s.program m a e next → Knows s.board history old
     → Knows s.board (e ∷ history) new)
     → IsTold s m old None → IsJudged s later (index + 1) (ticks + e.ticks) next new
-judged_step one seen stay s left later index ticks m next old new a e is program j first step knows
-    told =
+judged_step go_on add_up one seen stay s left later index ticks m next old new a e is program j
+    first step knows told =
     let b = s.board in
     let p = s.program in
     let before = j.replayed.entries in
@@ -189,7 +190,7 @@ judged_step one seen stay s left later index ticks m next old new a e is program
     → IsAdmitted b p t next h in
     record {
       may_start = j.may_start;
-      replayed = one_more s left later index ticks m next a e j.replayed first step;
+      replayed = one_more go_on add_up s left later index ticks m next a e j.replayed first step;
       ready = (seen b p m next a e is program j.ready step.step).ready;
       knows = subst P history (knows (reverse before) e next j.ready step.step j.knows);
       admitted = subst Q history (λ t table.

@@ -2,7 +2,6 @@ pub mod Feeds
 pub mod CountedNames
 pub mod JudgedRuns
 pub mod EndedRuns
-pub mod LongerRuns
 pub mod Replayed
 pub mod FoundAnswers
 pub mod Places

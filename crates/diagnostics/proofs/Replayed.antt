@@ -13,8 +13,8 @@ use Rattle.simulator.specs.declared.fault.RunFault.TheVariants as faults
 use Rattle.simulator.specs.Faults.{most_ticks, IsStepFault, FailsAt}
 use Rattle.simulator.specs.Machines.{Machine, Entry, start_at, IsMachine}
 use Rattle.simulator.specs.Steps.{IsRun, total_ticks}
+use Rattle.simulator.specs.RunLaws.{RunsGoOn, TicksAddUp}
 use Rattle.simulator.specs.Traces.{Trace, IsSeen}
-use Rattle.diagnostics.proofs.LongerRuns.{next_run, ticks_more}
 use Rattle.diagnostics.specs.Runs.{IsNextStep}
 use Rattle.session.specs.declared.scenario.Scenario.{Scenario}
 use Rattle.session.specs.Scenarios.{start_of, IsRunOf, IsFaultOf}
@@ -60,23 +60,23 @@ next_is (x ∷ answers) (suc i) a later e =
     let n = next_is answers i a later e in
     record { here = n.here; rest = simp unary_clauses (simp unary_clauses at n.rest) }
 
-abbrev pub one_more : (s : Scenario) (left later : List Answered) (index ticks : ℕ)
-    (m next : Machine)
-    (a : Answered) (e : Entry) → IsReplayed s left index ticks m → left ≡ a ∷ later
+abbrev pub one_more : RunsGoOn → TicksAddUp → (s : Scenario) (left later : List Answered)
+    (index ticks : ℕ) (m next : Machine) (a : Answered) (e : Entry)
+    → IsReplayed s left index ticks m → left ≡ a ∷ later
     → IsNextStep s.board s.program m a ticks e next
     → IsReplayed s later (index + 1) (ticks + e.ticks) next
-one_more s left later index ticks m next a e h first n =
+one_more go_on add_up s left later index ticks m next a e h first n =
     let answers = s.answers.answers in
     let at = next_is answers index a later (h.rest ∙ first) in
     record {
       entries = h.entries ++ e ∷ [];
       run =
-          next_run s.board s.program (start_at (start_of s)) m next answers h.entries index a e
+          go_on s.board s.program (start_at (start_of s)) m next answers h.entries index a e
           at.here h.run n.step;
       machine = n.machine;
       seen = All-append IsSeen h.entries (e ∷ []) h.seen
           (All-from_recursion IsSeen (e ∷ []) (n.seen, tt));
-      sum = ticks_more h.entries e ticks h.sum;
+      sum = ap (λ n. n + e.ticks) h.sum ∙ add_up h.entries e;
       few_ticks = n.within;
       rest = at.rest;
       few = h.few;

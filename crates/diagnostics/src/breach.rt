@@ -21,7 +21,9 @@ use board::{Board, board_is_valid};
 use facts::{Row, Rule};
 use seq_program::{Program, program_is_valid};
 use session::Scenario;
-use simulator::{Ending, Entry, Machine, RunFault, runs_are_one, start, step_at, steps_are_seen};
+use simulator::{
+    Ending, Entry, Machine, RunFault, runs_are_one, runs_go_on, start, step_at, steps_are_seen,
+};
 use smbus::Answer;
 use std::alloc::{AllocError, Global};
 use table_check::accepted_runs_are_admitted;
@@ -105,6 +107,7 @@ pub(crate) fn first_breach(
     accepted_runs_are_admitted();
     accepted_runs_keep_rules();
     runs_are_one();
+    runs_go_on();
     let answered = &scenario.answers;
     let mut machine = match start(alloc, board, &answered.pages, &answered.protects) {
         Ok(machine) => machine,

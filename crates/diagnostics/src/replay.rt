@@ -7,7 +7,7 @@ ghost use Rattle.session.specs.Scenarios.{IsOnItsBoard, IsRunOf, IsFaultOf};
 
 use seq_program::program_is_valid;
 use session::Scenario;
-use simulator::{Entry, Machine, RunFault, start, step_at};
+use simulator::{Entry, Machine, RunFault, runs_go_on, start, step_at};
 use smbus::Answer;
 use std::alloc::Global;
 
@@ -57,6 +57,7 @@ pub(crate) fn run_through(alloc: Global, scenario: &Scenario<'_>) -> Result<(), 
 {
     let (board, program) = (&scenario.board, &scenario.program);
     program_is_valid(program);
+    runs_go_on();
     let answered = &scenario.answers;
     let mut machine = start(alloc, board, &answered.pages, &answered.protects)?;
     let mut spare = Entry::empty(alloc);

@@ -1,6 +1,5 @@
 pub mod Transfers
 pub mod Fronts
-pub mod LongerRuns
 pub mod Told
 pub mod Reported
 pub mod GaveUp

@@ -3,10 +3,10 @@ use Rattle.std.proofs.Common.{◌≡◌, ℕ, ◌+◌, List, [], ◌∷◌, ◌+
 use Rattle.std.proofs.Common.{length, refl, sym, ap, subst, ◌∙◌, append_assoc}
 use Rattle.std.proofs.lemmas.List.{append-nil, map-append}
 use Rattle.simulator.specs.Machines.{Entry}
+use Rattle.simulator.specs.RunLaws.{TicksAddUp}
 use Rattle.simulator.specs.Traces.{IsSeen}
 use Rattle.simulator.specs.TraceTexts.{IsLine, AreLines}
 use Rattle.wires.specs.Waves.{Step, Drawn, IsWave}
-use Rattle.session.proofs.LongerRuns.{ticks_more}
 use Rattle.session.specs.declared.report.Report.TheVariants as reports
 use Rattle.session.specs.declared.report.Telling.{Telling}
 use Rattle.session.specs.declared.report.Telling.TheVariants.{Lines, Levels}
@@ -34,16 +34,17 @@ line_told Lines entries e text more line so_far is bytes =
     rw bytes (line_more entries (string_bytes text) e line so_far is)
 line_told Levels entries e text more line so_far is bytes = so_far
 
-pub levels_told : (telling : Telling) (entries : List Entry) (e : Entry) (wave more : Drawn)
+pub levels_told : TicksAddUp → (telling : Telling) (entries : List Entry) (e : Entry)
+    (wave more : Drawn)
     → IsReport telling entries (reports.Wave wave) → IsSeen e
     → ((steps : List Step) → IsWave steps wave → IsWave (steps ++ (e.place, e.samples) ∷ []) more)
     → more.ticks ≡ wave.ticks + length e.samples
     → IsReport telling (entries ++ e ∷ []) (reports.Wave more)
-levels_told Lines entries e wave more so_far seen drawn ticks = so_far
-levels_told Levels entries e wave more so_far seen drawn ticks =
+levels_told add_up Lines entries e wave more so_far seen drawn ticks = so_far
+levels_told add_up Levels entries e wave more so_far seen drawn ticks =
     let steps : steps_of (entries ++ e ∷ []) ≡ steps_of entries ++ (e.place, e.samples) ∷ [] =
     map-append (λ (e : Entry). (e.place, e.samples)) entries (e ∷ []) in (
       subst (λ (s : List Step). IsWave s more) (sym steps) (drawn (steps_of entries) so_far.0),
-      ticks ∙ ap (λ n. wave.ticks + n) (sym seen.ticks)
-          ∙ ticks_more entries e wave.ticks so_far.1,
+      ticks ∙ ap (λ n. wave.ticks + n) (sym seen.ticks) ∙ ap (λ n. n + e.ticks) so_far.1
+          ∙ add_up entries e,
     )

@@ -13,8 +13,8 @@ use Rattle.simulator.specs.declared.fault.RunFault.TheVariants as faults
 use Rattle.simulator.specs.Faults.{most_ticks, IsStepFault, FailsAt}
 use Rattle.simulator.specs.Machines.{Machine, Entry, start_at, IsMachine}
 use Rattle.simulator.specs.Steps.{IsStep, IsRun, total_ticks}
+use Rattle.simulator.specs.RunLaws.{RunsGoOn, TicksAddUp}
 use Rattle.simulator.specs.Traces.{Trace, IsSeen}
-use Rattle.session.proofs.LongerRuns.{next_run, ticks_more}
 use Rattle.session.specs.declared.scenario.Scenario.{Scenario}
 use Rattle.session.specs.declared.report.Report.{Report}
 use Rattle.session.specs.declared.report.Telling.{Telling}
@@ -81,21 +81,22 @@ abbrev pub IsOneMore : Report → Entry → Report → Type 0
 IsOneMore old e new = (telling : Telling) (entries : List Entry) → IsReport telling entries old
     → IsReport telling (entries ++ e ∷ []) new
 
-pub told_more : (telling : Telling) (s : Scenario) (index ticks : ℕ) (m next : Machine)
-    (old new : Report) (a : Answered) (e : Entry) → IsTold telling s index ticks m old
-    → slice_get s.answers.answers index ≡ Some a → IsNextStep s ticks m a e next
+pub told_more : RunsGoOn → TicksAddUp → (telling : Telling) (s : Scenario) (index ticks : ℕ)
+    (m next : Machine) (old new : Report) (a : Answered) (e : Entry)
+    → IsTold telling s index ticks m old → slice_get s.answers.answers index ≡ Some a
+    → IsNextStep s ticks m a e next
     → IsOneMore old e new → IsTold telling s (index + 1) (ticks + e.ticks) next new
-told_more telling s index ticks m next old new a e h here n more =
+told_more go_on add_up telling s index ticks m next old new a e h here n more =
     let answers = s.answers.answers in
     record {
       entries = h.entries ++ e ∷ [];
       run =
-          next_run s.board s.program (start_at (start_of s)) m next answers h.entries index a e
+          go_on s.board s.program (start_at (start_of s)) m next answers h.entries index a e
           here h.run n.step;
       machine = n.machine;
       seen = All-append IsSeen h.entries (e ∷ []) h.seen
           (All-from_recursion IsSeen (e ∷ []) (n.seen, tt));
-      sum = ticks_more h.entries e ticks h.sum;
+      sum = ap (λ n. n + e.ticks) h.sum ∙ add_up h.entries e;
       few = n.within;
       told = more telling h.entries h.told;
     }
@@ -149,14 +150,15 @@ told_fault telling s index ticks m report a fault h here start why =
       why = subst (λ (n : ℕ). IsStepFault s.board s.program m a n index fault) h.sum why;
     })
 
-pub told_to_more : (telling : Telling) (s : Scenario) (left later : List Answered)
-    (index ticks : ℕ) (m next : Machine) (old new : Report) (a : Answered) (e : Entry)
+pub told_to_more : RunsGoOn → TicksAddUp → (telling : Telling) (s : Scenario)
+    (left later : List Answered) (index ticks : ℕ) (m next : Machine) (old new : Report)
+    (a : Answered) (e : Entry)
     → IsToldTo telling s left index ticks m old → left ≡ a ∷ later → IsNextStep s ticks m a e next
     → IsOneMore old e new → IsToldTo telling s later (index + 1) (ticks + e.ticks) next new
-told_to_more telling s left later index ticks m next old new a e h first n more =
+told_to_more go_on add_up telling s left later index ticks m next old new a e h first n more =
     let at = next_is s.answers.answers index a later (h.rest ∙ first) in
     record {
-      told = told_more telling s index ticks m next old new a e h.told at.here n more;
+      told = told_more go_on add_up telling s index ticks m next old new a e h.told at.here n more;
       rest = at.rest;
       few = h.few;
     }

@@ -4,7 +4,7 @@ ghost use Rattle.simulator.specs.Steps.{total_ticks};
 ghost use Rattle.simulator.specs.Traces.{Trace, IsSeen};
 ghost use Rattle.session.specs.Reports.{IsReport, HasRoom, IsWhole};
 
-use simulator::{Ending, Entry, last_line, push_line};
+use simulator::{Ending, Entry, last_line, push_line, runs_go_on};
 use std::alloc::{AllocError, Global};
 use wires::Wave;
 
@@ -49,6 +49,7 @@ impl Report {
                 Ok(Report::Lines(text))
             }
             Report::Wave(mut wave) => {
+                runs_go_on();
                 wave.push(entry.place, &entry.samples)?;
                 Ok(Report::Wave(wave))
             }

@@ -9,7 +9,7 @@ use crate::reply::{Reply, Status, refused};
 use crate::report::{Report, Telling};
 use crate::scenario::Scenario;
 use seq_program::program_is_valid;
-use simulator::{Entry, RunFault, start, step_at};
+use simulator::{Entry, RunFault, runs_go_on, start, step_at};
 use std::alloc::{AllocError, Global};
 
 /// What is told of the run of a scenario. An answer is read, done and told before the next is read,
@@ -21,6 +21,7 @@ fn run_text(alloc: Global, scenario: &Scenario<'_>, telling: Telling) -> Result<
 {
     let (board, program) = (&scenario.board, &scenario.program);
     program_is_valid(program);
+    runs_go_on();
     let answered = &scenario.answers;
     let mut machine = start(alloc, board, &answered.pages, &answered.protects)?;
     let mut spare = Entry::empty(alloc);

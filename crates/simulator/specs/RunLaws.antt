@@ -1,6 +1,5 @@
 -- What a run of the model is seen to do.
-use Rattle.std.specs.Prelude.{◌≡◌, List, [], ◌∷◌, slice_get, Option, Some}
-use Rattle.std.specs.Prelude.{None}
+use Rattle.std.specs.Prelude.{◌≡◌, ◌+◌, ℕ, List, [], ◌∷◌, ◌++◌, take, slice_get, Option, Some, None}
 use Rattle.wires.specs.declared.lines.Sample.{Sample}
 use Rattle.wires.specs.Events.{events_of}
 use Rattle.bit_bus.specs.Levels.{HasTimeout}
@@ -19,7 +18,7 @@ use Rattle.seq_program.specs.Messages.{message_of}
 use Rattle.seq_program.specs.Valid.{IsProgram}
 use Rattle.simulator.specs.Entries.{all_frames}
 use Rattle.simulator.specs.Machines.{Machine, Entry}
-use Rattle.simulator.specs.Steps.{IsStep, IsRun, run_samples}
+use Rattle.simulator.specs.Steps.{IsStep, IsRun, total_ticks, run_samples}
 use Rattle.simulator.specs.StepLaws.{IsReady}
 
 -- a frame is whole where its message is done, and broken off otherwise: in a refused byte, or where
@@ -85,3 +84,18 @@ RunsAreOne =
     (entries others : List Entry) (last end : Machine)
     → IsRun b p m answers entries last → IsRun b p m answers others end
     → (entries ≡ others) × (last ≡ end)
+
+-- the run of the answers before an index and the step of the answer there are the run up to it
+abbrev pub RunsGoOn : Type 0
+RunsGoOn =
+    (b : Board) (p : List Instr) (m mid last : Machine) (answers : List Answered)
+    (entries : List Entry) (index : ℕ) (a : Answered) (e : Entry)
+    → slice_get answers index ≡ Some a
+    → IsRun b p m (take index answers) entries mid → IsStep b p mid a e last
+    → IsRun b p m (take (index + 1) answers) (entries ++ e ∷ []) last
+
+-- and take the ticks of both
+abbrev pub TicksAddUp : Type 0
+TicksAddUp =
+    (entries : List Entry) (e : Entry)
+    → total_ticks entries + e.ticks ≡ total_ticks (entries ++ e ∷ [])

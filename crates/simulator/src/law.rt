@@ -1,6 +1,6 @@
 ghost use Rattle.simulator.specs.Does.{EntriesDoAsAsked};
 ghost use Rattle.simulator.specs.EntryLaws.{EntriesReadBack, IdleReadsBack, JoinedReadBack};
-ghost use Rattle.simulator.specs.RunLaws.{RunsAreOne, RunsAreSeen, StepsAreOne};
+ghost use Rattle.simulator.specs.RunLaws.{RunsAreOne, RunsAreSeen, RunsGoOn, StepsAreOne, TicksAddUp};
 ghost use Rattle.simulator.specs.SafeLaws.{AllowedFramesAreSeen, SafeStepsAreSafeRuns};
 ghost use Rattle.simulator.specs.SmallPrograms.{EndingIsSafe, ListedSendIsSafe, ClearingIsSafe};
 ghost use Rattle.simulator.specs.SmallPrograms.{VoltageWithinLimitIsSafe};
@@ -68,6 +68,13 @@ pub fn runs_are_seen()
 pub fn runs_are_one()
     ensures steps { StepsAreOne }
     ensures runs { RunsAreOne }
+{}
+
+/// A run goes on step by step: that of the answers before an index, and the step of the answer
+/// there, are the run up to it, and its ticks are those of both.
+pub fn runs_go_on()
+    ensures run { RunsGoOn }
+    ensures ticks { TicksAddUp }
 {}
 
 /// What makes steps and runs safe, without a look at the samples: the frame of a step is allowed

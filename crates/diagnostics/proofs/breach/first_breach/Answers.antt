@@ -56,7 +56,8 @@ loop-spare-preserved c =
     let taken = rw c.in-Some.is at c.in_ok-answer.ensures.taken in
     let next = rw c.in-Some-3.is at c.in_ok-after-2.ensures in
     rw same
-    (judged_step c.runs_are_one.ensures.runs c.steps_are_seen.ensures.steps
+    (judged_step c.runs_go_on.ensures.run c.runs_go_on.ensures.ticks c.runs_are_one.ensures.runs
+    c.steps_are_seen.ensures.steps
     c.accepted_runs_are_admitted.ensures.steps c.args.scenario.now c.loop-spare.answers
     c.next.new.self c.loop-spare.index c.loop-spare.ticks c.loop-spare.machine c.in-Some-3.after
     (rails_in c.loop-spare.judge.good) (rails_in c.after.new.self.good) c.in-Some.answer

@@ -21,7 +21,8 @@ loop-spare-preserved c =
     ap (λ (e : Entry). e.ticks) c.entry.view_is in
     let taken = rw c.in-Some.is at c.in_ok-answer.ensures.taken in
     rw same
-    (one_more c.args.scenario.now c.loop-spare.answers c.next.new.self c.loop-spare.index
+    (one_more c.runs_go_on.ensures.run c.runs_go_on.ensures.ticks c.args.scenario.now
+    c.loop-spare.answers c.next.new.self c.loop-spare.index
     c.loop-spare.ticks c.loop-spare.machine c.in_ok-after.after c.in-Some.answer
     c.in_ok-after.entry c.loop-spare.invariant taken
     (record {

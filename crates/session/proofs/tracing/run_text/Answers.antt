@@ -21,7 +21,8 @@ loop-report-preserved c =
     ap (λ (e : Entry). e.ticks) c.entry.view_is in
     let taken = rw c.in-Some.is at c.in_ok-answer.ensures.taken in
     rw same
-    (told_to_more c.args.telling c.args.scenario.now c.loop-report.answers c.next.new.self
+    (told_to_more c.runs_go_on.ensures.run c.runs_go_on.ensures.ticks c.args.telling
+    c.args.scenario.now c.loop-report.answers c.next.new.self
     c.loop-report.index c.loop-report.ticks c.loop-report.machine c.in_ok-after.after
     c.loop-report.report c.in_ok-report-2.report c.in-Some.answer c.in_ok-after.entry
     c.loop-report.invariant taken

@@ -15,6 +15,7 @@ returns-in_ok-push-in-Wave c = λ telling entries so_far.
     let wave = rw c.in-Wave.is at so_far in
     let place = ap (λ (e : Entry). e.place) c.entry.view_is in
     let samples = ap (λ (e : Entry). e.samples) c.entry.view_is in
-    levels_told telling entries c.args.entry.now c.in-Wave.wave c.push.new.self wave
+    levels_told c.runs_go_on.ensures.ticks telling entries c.args.entry.now c.in-Wave.wave
+    c.push.new.self wave
     c.requires.seen (rw (place, samples) at c.in_ok-push-in-Wave.ensures.ok)
     (rw samples at c.in_ok-push-in-Wave.ensures.ticks)
