@@ -3,7 +3,7 @@ ghost use Rattle.std.specs.Prelude.{length};
 ghost use Rattle.wires.specs.Events.{events_of};
 ghost use Rattle.wires.specs.Runs.{most_samples};
 ghost use Rattle.bit_bus.specs.Planned.{IsPlan};
-ghost use Rattle.bit_bus.specs.Levels.{idle, low_run, whole_levels, cut_levels, levels, first_cut};
+ghost use Rattle.bit_bus.specs.Levels.{idle, low_run, whole_levels, cut_levels, levels, first_cut, is_cut};
 ghost use Rattle.bit_bus.specs.Levels.{EndsHigh};
 ghost use Rattle.bit_bus.specs.SampleCounts.{most_driven};
 ghost use Rattle.bit_bus.specs.Word.{event_word};
@@ -19,9 +19,20 @@ pub struct Driven {
     pub cut: Option<usize>,
 }
 
+/// Levels of SDA.
+const HIGH: bool = true;
+const LOW: bool = false;
+
 /// The longest low period of the clock, in ticks, that isn't a timeout: 25 ms (SMBus 3.2,
 /// t_TIMEOUT).
 const LONGEST_LOW: u16 = 5000;
+
+/// Whether a slot with this hold is cut: its low period, which has one tick more, is a timeout.
+pub fn is_cut(hold: u16) -> bool
+    ensures { result ≡ is_cut hold }
+{
+    hold >= LONGEST_LOW
+}
 
 fn push_low(samples: &mut Runs, sda: bool, alert: bool, ticks: u16) -> Result<(), AllocError>
     requires { length samples.old + ticks ≤ most_samples }
@@ -61,14 +72,14 @@ fn push_whole(samples: &mut Runs, slot: Slot, hold: u16, alert: bool) -> Result<
             push_high(samples, sda, alert)?;
         }
         Slot::Again => {
-            push_low(samples, true, alert, hold + 1)?;
-            push_high(samples, true, alert)?;
-            push_high(samples, false, alert)?;
+            push_low(samples, HIGH, alert, hold + 1)?;
+            push_high(samples, HIGH, alert)?;
+            push_high(samples, LOW, alert)?;
         }
         Slot::End => {
-            push_low(samples, false, alert, hold + 1)?;
-            push_high(samples, false, alert)?;
-            push_high(samples, true, alert)?;
+            push_low(samples, LOW, alert, hold + 1)?;
+            push_high(samples, LOW, alert)?;
+            push_high(samples, HIGH, alert)?;
         }
     }
     Ok(())
@@ -81,13 +92,13 @@ fn push_cut(samples: &mut Runs, slot: Slot, hold: u16, alert: bool) -> Result<()
 {
     let sda = match slot {
         Slot::Bit(sda) => sda,
-        Slot::Again => true,
-        Slot::End => false,
+        Slot::Again => HIGH,
+        Slot::End => LOW,
     };
     push_low(samples, sda, alert, LONGEST_LOW)?;
-    push_low(samples, false, alert, hold - (LONGEST_LOW - 1))?;
-    push_high(samples, false, alert)?;
-    push_high(samples, true, alert)?;
+    push_low(samples, LOW, alert, hold - (LONGEST_LOW - 1))?;
+    push_high(samples, LOW, alert)?;
+    push_high(samples, HIGH, alert)?;
     Ok(())
 }
 
@@ -98,10 +109,10 @@ fn drive_slots(alloc: Global, plan: &Plan, alert: bool) -> Result<Driven, AllocE
 {
     let count = plan.count();
     let mut samples = Runs::new(alloc);
-    push_high(&mut samples, false, alert)?;
+    push_high(&mut samples, LOW, alert)?;
     for place in 0..count {
         let (slot, hold) = plan.slot(place);
-        if hold >= LONGEST_LOW {
+        if is_cut(hold) {
             push_cut(&mut samples, slot, hold, alert)?;
             return Ok(Driven {
                 samples,

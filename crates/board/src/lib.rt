@@ -23,4 +23,4 @@ pub use fault::BoardFault;
 pub use file::read_board;
 pub use law::{board_is_valid, lists_are_read_in_order};
 pub use rail::Rail;
-pub use target::Target;
+pub use target::{Target, is_page_value};

@@ -1,5 +1,6 @@
 ghost use Rattle.std.specs.Prelude.{◌≡◌, option_map};
 ghost use Rattle.board.specs.Boards.{entry_of};
+ghost use Rattle.board.specs.Valid.{is_page_value};
 
 use crate::allow_list::AllowList;
 use crate::entry::Allow;
@@ -93,4 +94,12 @@ impl Target {
     {
         self.allow.get(form, code)
     }
+}
+
+/// Whether PAGE of a target with so many pages takes a value: one of them, or FFh for all
+/// (PMBus 1.3 Part II, 11.10).
+pub fn is_page_value(pages: u8, value: u8) -> bool
+    ensures { result ≡ is_page_value pages value }
+{
+    value < pages || value == 0xFF
 }

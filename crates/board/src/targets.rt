@@ -18,10 +18,9 @@ use crate::fields::{flag_at, items_at, number_at, number_in, text_at};
 use crate::keys::{Key, Kind, Sort, check_keys, value_at};
 use crate::named::Named;
 use crate::names::has_name;
-use crate::target::Target;
+use crate::target::{Target, is_page_value};
 use indexmap::IndexSet;
-use pmbus_table::code::PAGE;
-use pmbus_table::permits;
+use pmbus_table::is_protection;
 use std::alloc::Global;
 use toml::{Table, Value};
 
@@ -142,19 +141,13 @@ fn bytes_of(alloc: Global, values: &[Value]) -> Result<Vec<u8>, BoardFault>
 fn are_pages(pages: u8, values: &[u8]) -> bool
     ensures { result ≡ list_all (is_page_value pages) values.now }
 {
-    values.iter().all(|value| *value < pages || *value == 0xFF)
+    values.iter().all(|value| is_page_value(pages, *value))
 }
 
 fn are_protections(values: &[u8]) -> bool
     ensures { result ≡ list_all is_protection values.now }
 {
     values.iter().all(|value| is_protection(*value))
-}
-
-fn is_protection(value: u8) -> bool
-    ensures { result ≡ is_protection value }
-{
-    permits(value, PAGE).is_some()
 }
 
 #[tactic(auto, unfolding(crate::specs::Targets::start_pages_of))]

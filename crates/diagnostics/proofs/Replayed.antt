@@ -14,7 +14,7 @@ use Rattle.simulator.specs.Faults.{most_ticks, IsStepFault, FailsAt}
 use Rattle.simulator.specs.Machines.{Machine, Entry, start_at, IsMachine}
 use Rattle.simulator.specs.Steps.{IsRun, total_ticks}
 use Rattle.simulator.specs.RunLaws.{RunsGoOn, TicksAddUp}
-use Rattle.simulator.specs.Traces.{Trace, IsSeen}
+use Rattle.simulator.specs.Traces.{Trace, HasItsFrame}
 use Rattle.diagnostics.specs.Runs.{IsNextStep}
 use Rattle.session.specs.declared.scenario.Scenario.{Scenario}
 use Rattle.session.specs.Scenarios.{start_of, IsRunOf, IsFaultOf}
@@ -25,7 +25,7 @@ pub record IsReplayed (s : Scenario) (left : List Answered) (index ticks : ℕ) 
   pub entries : List Entry
   pub run : IsRun s.board s.program (start_at (start_of s)) (take index s.answers.answers) entries m
   pub machine : IsMachine s.board s.program m
-  pub seen : All IsSeen entries
+  pub seen : All HasItsFrame entries
   pub sum : ticks ≡ total_ticks entries
   pub few_ticks : ticks ≤ most_ticks
   pub rest : drop index s.answers.answers ≡ left
@@ -38,7 +38,7 @@ nothing_done s m is machine left all few = record {
   entries = [];
   run = is;
   machine = machine;
-  seen = All-from_recursion IsSeen [] tt;
+  seen = All-from_recursion HasItsFrame [] tt;
   sum = refl;
   few_ticks = omega arith;
   rest = all;
@@ -74,8 +74,8 @@ one_more go_on add_up s left later index ticks m next a e h first n =
           go_on s.board s.program (start_at (start_of s)) m next answers h.entries index a e
           at.here h.run n.step;
       machine = n.machine;
-      seen = All-append IsSeen h.entries (e ∷ []) h.seen
-          (All-from_recursion IsSeen (e ∷ []) (n.seen, tt));
+      seen = All-append HasItsFrame h.entries (e ∷ []) h.seen
+          (All-from_recursion HasItsFrame (e ∷ []) (n.seen, tt));
       sum = ap (λ n. n + e.ticks) h.sum ∙ add_up h.entries e;
       few_ticks = n.within;
       rest = at.rest;

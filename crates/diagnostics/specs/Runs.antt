@@ -7,7 +7,7 @@ use Rattle.simulator.specs.declared.fault.RunFault.{RunFault}
 use Rattle.simulator.specs.Faults.{most_ticks, IsStepFault}
 use Rattle.simulator.specs.Machines.{Machine, Entry, IsMachine}
 use Rattle.simulator.specs.Steps.{IsStep}
-use Rattle.simulator.specs.Traces.{IsSeen}
+use Rattle.simulator.specs.Traces.{HasItsFrame}
 use Rattle.facts.specs.Requests.{sent_in}
 
 -- a step that goes on, where so many ticks were taken before it
@@ -15,7 +15,7 @@ pub record IsNextStep (b : Board) (p : List Instr) (m : Machine) (a : Answered) 
     (e : Entry) (next : Machine) : Type 0 where
   pub step : IsStep b p m a e next
   pub machine : IsMachine b p next
-  pub seen : IsSeen e
+  pub seen : HasItsFrame e
   pub within : ticks + e.ticks ≤ most_ticks
 
 -- the next step of a run, or none for a reason

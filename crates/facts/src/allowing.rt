@@ -10,9 +10,9 @@ ghost use Rattle.facts.specs.Duties.{written_span, one, IsWithinRange, IsInEntry
 
 use crate::row::Row;
 use crate::span::Span;
-use board::{Allow, Range, Target};
+use board::{Allow, Range, Target, is_page_value};
 use pmbus_table::code::{OPERATION, PAGE, WRITE_PROTECT};
-use pmbus_table::{enables, permits};
+use pmbus_table::{enables, is_protection};
 use seq_program::{Instr, Written};
 
 /// One value.
@@ -80,8 +80,8 @@ fn is_known_byte(device: &Target, code: u8, value: u8) -> bool
     ensures { IsTrue result ↔ IsKnownByte device.now code value }
 {
     match code {
-        PAGE => value < device.pages() || value == 0xFF,
-        WRITE_PROTECT => permits(value, code).is_some(),
+        PAGE => is_page_value(device.pages(), value),
+        WRITE_PROTECT => is_protection(value),
         OPERATION => value == 0x00 || value == 0x40 || enables(value),
         _ => true,
     }

@@ -20,3 +20,10 @@ pub fn permits(protect: u8, code: u8) -> Option<bool>
         _ => None,
     }
 }
+
+/// Whether a WRITE_PROTECT value is one of 00h, 20h, 40h and 80h.
+pub fn is_protection(protect: u8) -> bool
+    ensures { result ≡ is_protection protect }
+{
+    permits(protect, WRITE_PROTECT).is_some()
+}

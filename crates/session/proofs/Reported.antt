@@ -4,7 +4,7 @@ use Rattle.std.proofs.Common.{length, refl, sym, ap, subst, ◌∙◌, append_as
 use Rattle.std.proofs.lemmas.List.{append-nil, map-append}
 use Rattle.simulator.specs.Machines.{Entry}
 use Rattle.simulator.specs.RunLaws.{TicksAddUp}
-use Rattle.simulator.specs.Traces.{IsSeen}
+use Rattle.simulator.specs.Traces.{HasItsFrame}
 use Rattle.simulator.specs.TraceTexts.{IsLine, AreLines}
 use Rattle.wires.specs.Waves.{Step, Drawn, IsWave}
 use Rattle.session.specs.declared.report.Report.TheVariants as reports
@@ -36,7 +36,7 @@ line_told Levels entries e text more line so_far is bytes = so_far
 
 pub levels_told : TicksAddUp → (telling : Telling) (entries : List Entry) (e : Entry)
     (wave more : Drawn)
-    → IsReport telling entries (reports.Wave wave) → IsSeen e
+    → IsReport telling entries (reports.Wave wave) → HasItsFrame e
     → ((steps : List Step) → IsWave steps wave → IsWave (steps ++ (e.place, e.samples) ∷ []) more)
     → more.ticks ≡ wave.ticks + length e.samples
     → IsReport telling (entries ++ e ∷ []) (reports.Wave more)

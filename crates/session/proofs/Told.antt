@@ -14,7 +14,7 @@ use Rattle.simulator.specs.Faults.{most_ticks, IsStepFault, FailsAt}
 use Rattle.simulator.specs.Machines.{Machine, Entry, start_at, IsMachine}
 use Rattle.simulator.specs.Steps.{IsStep, IsRun, total_ticks}
 use Rattle.simulator.specs.RunLaws.{RunsGoOn, TicksAddUp}
-use Rattle.simulator.specs.Traces.{Trace, IsSeen}
+use Rattle.simulator.specs.Traces.{Trace, HasItsFrame}
 use Rattle.session.specs.declared.scenario.Scenario.{Scenario}
 use Rattle.session.specs.declared.report.Report.{Report}
 use Rattle.session.specs.declared.report.Telling.{Telling}
@@ -28,7 +28,7 @@ pub record IsTold (telling : Telling) (s : Scenario) (index ticks : ℕ) (m : Ma
   pub entries : List Entry
   pub run : IsRun s.board s.program (start_at (start_of s)) (take index s.answers.answers) entries m
   pub machine : IsMachine s.board s.program m
-  pub seen : All IsSeen entries
+  pub seen : All HasItsFrame entries
   pub sum : ticks ≡ total_ticks entries
   pub few : ticks ≤ most_ticks
   pub told : IsReport telling entries report
@@ -47,7 +47,7 @@ told_none telling s m report is machine none = record {
   entries = [];
   run = is;
   machine = machine;
-  seen = All-from_recursion IsSeen [] tt;
+  seen = All-from_recursion HasItsFrame [] tt;
   sum = refl;
   few = omega arith;
   told = none;
@@ -58,7 +58,7 @@ pub record IsNextStep (s : Scenario) (ticks : ℕ) (m : Machine) (a : Answered) 
     (next : Machine) : Type 0 where
   pub step : IsStep s.board s.program m a e next
   pub machine : IsMachine s.board s.program next
-  pub seen : IsSeen e
+  pub seen : HasItsFrame e
   pub within : ticks + e.ticks ≤ most_ticks
 
 -- the first of the answers that are left
@@ -94,8 +94,8 @@ told_more go_on add_up telling s index ticks m next old new a e h here n more =
           go_on s.board s.program (start_at (start_of s)) m next answers h.entries index a e
           here h.run n.step;
       machine = n.machine;
-      seen = All-append IsSeen h.entries (e ∷ []) h.seen
-          (All-from_recursion IsSeen (e ∷ []) (n.seen, tt));
+      seen = All-append HasItsFrame h.entries (e ∷ []) h.seen
+          (All-from_recursion HasItsFrame (e ∷ []) (n.seen, tt));
       sum = ap (λ n. n + e.ticks) h.sum ∙ add_up h.entries e;
       few = n.within;
       told = more telling h.entries h.told;

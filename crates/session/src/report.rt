@@ -1,7 +1,7 @@
 ghost use Rattle.std.specs.Prelude.{◌≡◌, ◌∷◌, ◌++◌, [], List, IfOk, string_bytes};
 ghost use Rattle.simulator.specs.Machines.{Entry as Step};
 ghost use Rattle.simulator.specs.Steps.{total_ticks};
-ghost use Rattle.simulator.specs.Traces.{Trace, IsSeen};
+ghost use Rattle.simulator.specs.Traces.{Trace, HasItsFrame};
 ghost use Rattle.session.specs.Reports.{IsReport, HasRoom, IsWhole};
 
 use simulator::{Ending, Entry, last_line, push_line, runs_go_on};
@@ -37,7 +37,7 @@ impl Report {
 
     /// The report with one step more. Fails only for want of memory.
     pub fn and(self, alloc: Global, entry: &Entry) -> Result<Report, AllocError>
-        requires seen { IsSeen entry.now }
+        requires seen { HasItsFrame entry.now }
         requires room { HasRoom self entry.now }
         ensures { IfOk result (λ report. (telling : Telling) → (entries : List Step)
             → IsReport telling entries self

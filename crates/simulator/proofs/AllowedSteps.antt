@@ -15,7 +15,7 @@ use Rattle.smbus.specs.Slots.{samples_of}
 use Rattle.simulator.specs.Machines.{Entry}
 use Rattle.simulator.specs.Steps.{alert_level}
 use Rattle.simulator.specs.Allowed.{IsAllowedBy}
-use Rattle.simulator.specs.StepLaws.{SeesMessage}
+use Rattle.simulator.specs.StepLaws.{CarriesMessage}
 use Rattle.simulator.specs.SafeLaws.{HasAllowedFrame, AllowedFramesAreSeen}
 
 no_frames : (f : Shown) (fs : List Shown) → f ∷ fs ≡ [] → ⊥
@@ -28,11 +28,11 @@ at_most_one : (fs gs : List Shown) → length gs ≤ 1 → fs ≡ gs → length 
 at_most_one fs gs few same = rw same few
 
 message_allowed : (b : Board) (s : BusState) (m : Asked) (a : Answered) (e : Entry) → e.before ≡ s
-    → SeesMessage s m a e → IsAllowedBy b s m a → HasAllowedFrame b e
-message_allowed b s m a e before sees ok =
-    let r = sees.reads in
+    → CarriesMessage s m a e → IsAllowedBy b s m a → HasAllowedFrame b e
+message_allowed b s m a e before carries ok =
+    let r = carries.reads in
     let f = r.shows.one.frame in
-    let here : e.samples ≡ samples_of (alert_level s) m a = sees.samples in
+    let here : e.samples ≡ samples_of (alert_level s) m a = carries.samples in
     let only : (fs : List Shown) → AreFrames (events_of e.samples) fs
     → fs ≡ f ∷ [] = λ fs read. r.is_only.only fs
     (let P : List Sample → Type 0 = λ x. AreFrames (events_of x) fs in subst P here read) in
@@ -51,22 +51,22 @@ message_allowed b s m a e before sees ok =
           record {
             message = m;
             answer = a;
-            wire = sees.asked.wire;
-            has_length = sees.asked.can_be_sent.has_good_data.has_length;
-            has_good_block = sees.asked.can_be_sent.has_good_block;
+            wire = carries.asked.wire;
+            has_length = carries.asked.can_be_sent.has_good_data.has_length;
+            has_good_block = carries.asked.can_be_sent.has_good_block;
             shown = rw same shape;
             allowed = rw before ok;
           };
     }
 
 pub allowed_frames_are_seen : FramesAreUnique → AllowedFramesAreSeen
-allowed_frames_are_seen unique b s None a e before sees ok =
+allowed_frames_are_seen unique b s None a e before carries ok =
     let only : (fs : List Shown) → AreFrames (events_of e.samples) fs
-    → fs ≡ [] = λ fs read. unique (events_of e.samples) [] fs sees read in
+    → fs ≡ [] = λ fs read. unique (events_of e.samples) [] fs carries read in
     record {
-      read = inl sees;
+      read = inl carries;
       one = λ fs read. at_most_one fs [] (omega arith) (only fs read);
       allowed = λ f has. absurd (no_frames f [] (only (f ∷ []) has));
     }
-allowed_frames_are_seen unique b s (Some m) a e before sees ok =
-    message_allowed b s m a e before sees ok
+allowed_frames_are_seen unique b s (Some m) a e before carries ok =
+    message_allowed b s m a e before carries ok

@@ -19,7 +19,7 @@ use Rattle.simulator.specs.declared.machine.Ending.TheVariants.{Running, Finishe
 use Rattle.simulator.specs.Does.{HasFrame}
 use Rattle.simulator.specs.EntryLaws.{IdleReadsBack}
 use Rattle.simulator.specs.Machines.{Machine, Entry, start_at}
-use Rattle.simulator.specs.Steps.{alert_level, entry_of, IsStepOf, IsStep, IsRun}
+use Rattle.simulator.specs.Steps.{alert_level, step_entry, IsStepOf, IsStep, IsRun}
 use Rattle.simulator.specs.Entries.{idle_samples}
 use Rattle.simulator.specs.Reports.{WritesTo}
 use Rattle.simulator.specs.Allowed.{IsAllowed}
@@ -29,7 +29,7 @@ use Rattle.simulator.specs.SmallPrograms.{ending_program, EndingIsSafe}
 
 -- a step of `end`
 pub record Ends (m : Machine) (a : Answered) (e : Entry) (next : Machine) : Type 0 where
-  pub entry : e ≡ entry_of End None a m
+  pub entry : e ≡ step_entry End None a m
   pub ended : next.ended ≡ Finished
 
 pub step_of : (b : Board) (p : List Instr) (m : Machine) (a : Answered) (e : Entry)
@@ -75,7 +75,7 @@ pub record Seen (e : Entry) : Type 0 where
   pub ticks : e.ticks ≡ 1
   pub high : EndsHigh e.samples
 
-pub seen : IdleReadsBack → (m : Machine) (a : Answered) (e : Entry) → e ≡ entry_of End None a m
+pub seen : IdleReadsBack → (m : Machine) (a : Answered) (e : Entry) → e ≡ step_entry End None a m
     → Seen e
 seen idle m a e is =
     let no = idle (alert_level m.bus) 1 in

@@ -15,8 +15,8 @@ use Rattle.targets.specs.States.{BusState}
 use Rattle.seq_program.specs.declared.instr.Instr.{Instr}
 use Rattle.simulator.specs.Machines.{Machine, Entry}
 use Rattle.simulator.specs.Moves.{moved}
-use Rattle.simulator.specs.Steps.{step_samples, sent_outcome, entry_of, IsStepOf}
-use Rattle.simulator.specs.Traces.{IsSeen}
+use Rattle.simulator.specs.Steps.{step_samples, sent_outcome, step_entry, IsStepOf}
+use Rattle.simulator.specs.Traces.{HasItsFrame}
 use Rattle.simulator.proofs.Seen.{silent_seen, message_seen}
 
 pub moved_bus : (i : Instr) (o : Option Asked) (outcome : Outcome) (new : BusState) (m : Machine)
@@ -39,7 +39,7 @@ pub same_entry : (i : Instr) (o : Option Asked) (a : Answered) (m : Machine) (pl
     (before : BusState) (samples : List Sample) (outcome : Option Outcome) (ticks : ℕ)
     → place ≡ m.place → before ≡ m.bus → samples ≡ step_samples m.bus i o a
     → outcome ≡ sent_outcome o a → ticks ≡ length samples
-    → entry_from place before samples outcome ticks ≡ entry_of i o a m
+    → entry_from place before samples outcome ticks ≡ step_entry i o a m
 same_entry i o a m place before samples outcome ticks p b s r t =
     ap (λ (x : ℕ). entry_from x before samples outcome ticks) p
     ∙ ap (λ (x : BusState). entry_from m.place x samples outcome ticks) b
@@ -51,7 +51,7 @@ same_entry i o a m place before samples outcome ticks p b s r t =
 pub made_step : (b : Board) (i : Instr) (o : Option Asked) (m : Machine) (a : Answered)
     (bus : BusState) (outcome : Outcome) (next : Machine) (e : Entry)
     → FitsStep b m.bus o a → IsAfter b m.bus o a bus → outcome ≡ outcome_of o a
-    → next ≡ moved i o outcome bus m → e ≡ entry_of i o a m → IsStepOf b i o m a e next
+    → next ≡ moved i o outcome bus m → e ≡ step_entry i o a m → IsStepOf b i o m a e next
 made_step b i o m a bus outcome next e fits after ends goes is =
     let same : next.bus ≡ bus = ap (λ (x : Machine). x.bus) goes ∙ moved_bus i o outcome bus m in
     record {
@@ -64,6 +64,6 @@ made_step b i o m a bus outcome next e fits after ends goes is =
     }
 
 pub seen_entry : (i : Instr) (o : Option Asked) (a : Answered) (m : Machine) → ReadsBack
-    → SlotsAreOneFrame → IfSome o (λ asked. CanBeSent asked a) → IsSeen (entry_of i o a m)
+    → SlotsAreOneFrame → IfSome o (λ asked. CanBeSent asked a) → HasItsFrame (step_entry i o a m)
 seen_entry i None a m reads slots can = silent_seen i a m
 seen_entry i (Some asked) a m reads slots can = message_seen i asked a m reads slots can

@@ -34,7 +34,7 @@ use Rattle.simulator.specs.Allowed.{word_of, IsAllowedBy}
 use Rattle.simulator.specs.Reports.{Selects, IsReportedGood}
 use Rattle.simulator.specs.Safe.{is_guarded, IsSafe, AreSafe}
 use Rattle.simulator.specs.StepDoes.{StepDoes}
-use Rattle.simulator.specs.StepLaws.{StepsAreSeen, StartsAreReady, SeesMessage, Sees}
+use Rattle.simulator.specs.StepLaws.{StepsAreSeen, StartsAreReady, CarriesMessage, Carries}
 use Rattle.simulator.specs.EntryLaws.{IdleReadsBack}
 use Rattle.simulator.specs.SafeLaws.{AllowedFramesAreSeen, SendsMessage, SafeStepsAreSafeRuns}
 use Rattle.simulator.specs.Headline.{RunsAreSafe}
@@ -84,7 +84,7 @@ program_of b x i t m slots sends =
 record First (b : Board) (s : BusState) (m : Asked) (slots : ℕ) (a : Answered) (e : Entry)
     (next : Machine) : Type 0 where
   pub fits : Fits b s m a
-  pub sees : SeesMessage s m a e
+  pub carries : CarriesMessage s m a e
   pub does : StepDoes b s (Some m) a e
   pub place : next.place ≡ 1
   pub ended : next.ended ≡ Running
@@ -115,8 +115,8 @@ first_of known b x i t m slots s a e next sends starts step =
     let same : x ≡ seen.instr = let here : slice_get p 0 ≡ Some seen.instr = seen.here in cc in
     let asked : message_of b seen.instr (start_at s).regs ≡ Some m =
     subst (λ (y : Instr). message_of b y (start_at s).regs ≡ Some m) same asks in
-    let sees : SeesMessage s m a e =
-    subst (λ (o : Option Asked). Sees s o a e) asked seen.sees in
+    let carries : CarriesMessage s m a e =
+    subst (λ (o : Option Asked). Carries s o a e) asked seen.carries in
     let taken : x ≡ step.instr = let here : slice_get p 0 ≡ Some step.instr = step.here in cc in
     let of : IsStepOf b x (Some m) (start_at s) a e next =
     subst (λ (o : Option Asked). IsStepOf b x o (start_at s) a e next) asks
@@ -127,11 +127,11 @@ first_of known b x i t m slots s a e next sends starts step =
     ap (λ (y : Entry). y.ticks) of.entry_is ∙ sym (ap (λ (y : Entry). length y.samples) of.entry_is)
     in
     let few = rw (sends.long (length a.bytes)) at
-    (sees.reads.few (largest_stretch b.targets) of.fits.holds) in
-    let samples = ap length sees.samples in
+    (carries.reads.few (largest_stretch b.targets) of.fits.holds) in
+    let samples = ap length carries.samples in
     record {
       fits = of.fits;
-      sees = sees;
+      carries = carries;
       does = subst (λ (o : Option Asked). StepDoes b s o a e) asked seen.does;
       place = ap (λ (y : Machine). y.place) of.next_is ∙ place_after x m s next.bus o sends.goes_on;
       ended = ap (λ (y : Machine). y.ended) of.next_is ∙ ended_after x m s next.bus o;
@@ -152,7 +152,7 @@ first_safe : KnownOfSteps → (b : Board) (x : Instr) (i : ℕ) (t : Target) (m 
     → IsStart b s → First b s m slots a e next → IsSafe b [] e
 first_safe known b x i t m slots s a e next sends starts f =
     let may = sends.allowed s a starts f.fits in
-    let one = known.frames b s (Some m) a e f.does.before f.sees may in
+    let one = known.frames b s (Some m) a e f.does.before f.carries may in
     record {
       read = one.read;
       one = one.one;

@@ -29,9 +29,9 @@ use Rattle.seq_program.specs.Valid.{IsProgram}
 use Rattle.simulator.specs.declared.machine.Ending.TheVariants.{Running}
 use Rattle.simulator.specs.Machines.{Machine, Entry}
 use Rattle.simulator.specs.Moves.{moved}
-use Rattle.simulator.specs.Steps.{entry_of, IsStep}
+use Rattle.simulator.specs.Steps.{step_entry, IsStep}
 use Rattle.simulator.specs.StepDoes.{StepDoes}
-use Rattle.simulator.specs.StepLaws.{IsReady, SeesMessage, Sees, StepsAreSeen}
+use Rattle.simulator.specs.StepLaws.{IsReady, CarriesMessage, Carries, StepsAreSeen}
 
 -- what is read is this value, if anything
 abbrev pub plain : ℕ → Answered
@@ -102,7 +102,7 @@ unchanged b s m value leaves = record {
 
 -- the step
 abbrev pub entry_by : Instr → Asked → ℕ → Machine → Entry
-entry_by i m value machine = entry_of i (Some m) (plain value) machine
+entry_by i m value machine = step_entry i (Some m) (plain value) machine
 
 abbrev pub next_by : Instr → Asked → ℕ → Machine → Machine
 next_by i m value machine =
@@ -136,7 +136,7 @@ plain_step b p machine i m value sends = record {
 -- what it is seen to be and to do
 pub record StepSeen (b : Board) (p : List Instr) (machine : Machine) (i : Instr) (m : Asked)
     (value : ℕ) : Type 0 where
-  pub sees : SeesMessage machine.bus m (plain value) (entry_by i m value machine)
+  pub carries : CarriesMessage machine.bus m (plain value) (entry_by i m value machine)
   pub does : StepDoes b machine.bus (Some m) (plain value) (entry_by i m value machine)
   pub ready : IsReady b p (next_by i m value machine)
 
@@ -154,7 +154,7 @@ step_seen steps b p machine i m value is program ready sends =
     let asked : message_of b seen.instr machine.regs ≡ Some m =
     subst (λ (x : Instr). message_of b x machine.regs ≡ Some m) same sends.message in
     record {
-      sees = subst (λ (o : Option Asked). Sees machine.bus o a e) asked seen.sees;
+      carries = subst (λ (o : Option Asked). Carries machine.bus o a e) asked seen.carries;
       does = subst (λ (o : Option Asked). StepDoes b machine.bus o a e) asked seen.does;
       ready = seen.ready;
     }

@@ -12,7 +12,7 @@ use Rattle.simulator.specs.declared.fault.RunFault.TheVariants.{Memory}
 use Rattle.simulator.specs.Faults.{most_ticks, IsStepFault, FailsAt}
 use Rattle.simulator.specs.Machines.{Machine, Entry}
 use Rattle.simulator.specs.Steps.{IsStep, IsRun, total_ticks}
-use Rattle.simulator.specs.Traces.{IsSeen}
+use Rattle.simulator.specs.Traces.{HasItsFrame}
 use Rattle.simulator.proofs.Taken.{take_more}
 
 pub one_more : (b : Board) (p : List Instr) (m mid last : Machine) (answers : List Answered)
@@ -83,10 +83,10 @@ next_run b p m mid last answers entries index a e lt is run step =
     take_more answers index a lt ∙ ap (λ (x : Answered). take index answers ++ x ∷ []) (sym is) in
     rw more (one_more b p m mid last (take index answers) entries a e run step)
 
-pub seen_more : (entries : List Entry) (e : Entry) → All IsSeen entries → IsSeen e
-    → All IsSeen (entries ++ e ∷ [])
+pub seen_more : (entries : List Entry) (e : Entry) → All HasItsFrame entries → HasItsFrame e
+    → All HasItsFrame (entries ++ e ∷ [])
 seen_more entries e all seen =
-    All-append IsSeen entries (e ∷ []) all (All-from_recursion IsSeen (e ∷ []) (seen, tt))
+    All-append HasItsFrame entries (e ∷ []) all (All-from_recursion HasItsFrame (e ∷ []) (seen, tt))
 
 pub sum_more : (entries : List Entry) (e : Entry) (ticks more : ℕ) → ticks ≡ total_ticks entries
     → more ≡ e.ticks → ticks + more ≡ total_ticks (entries ++ e ∷ [])

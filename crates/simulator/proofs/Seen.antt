@@ -11,8 +11,8 @@ use Rattle.smbus.specs.OneFrame.{IsOnlyFrame, CanBeSent, SlotsAreOneFrame}
 use Rattle.seq_program.specs.declared.instr.Instr.{Instr}
 use Rattle.simulator.specs.Machines.{Machine}
 use Rattle.simulator.specs.Entries.{idle_samples}
-use Rattle.simulator.specs.Steps.{alert_level, idle_ticks, entry_of}
-use Rattle.simulator.specs.Traces.{IsSeen}
+use Rattle.simulator.specs.Steps.{alert_level, idle_ticks, step_entry}
+use Rattle.simulator.specs.Traces.{HasItsFrame}
 
 no_events : (alert : Bool) (n : ℕ) → events_of (idle_samples alert n) ≡ []
 unfolding idle_samples
@@ -28,11 +28,11 @@ one_frame alert m a reads slots can =
     reads alert alert (plan_of m a) in
     (one.frame, rw same one.is_only)
 
-pub silent_seen : (i : Instr) (a : Answered) (m : Machine) → IsSeen (entry_of i None a m)
+pub silent_seen : (i : Instr) (a : Answered) (m : Machine) → HasItsFrame (step_entry i None a m)
 silent_seen i a m =
     record { frames = no_events (alert_level m.bus) (suc (idle_ticks i)); ticks = refl }
 
 pub message_seen : (i : Instr) (asked : Asked) (a : Answered) (m : Machine) → ReadsBack
-    → SlotsAreOneFrame → CanBeSent asked a → IsSeen (entry_of i (Some asked) a m)
+    → SlotsAreOneFrame → CanBeSent asked a → HasItsFrame (step_entry i (Some asked) a m)
 message_seen i asked a m reads slots can =
     record { frames = one_frame (alert_level m.bus) asked a reads slots can; ticks = refl }

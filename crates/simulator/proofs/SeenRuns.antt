@@ -23,7 +23,7 @@ use Rattle.simulator.specs.Entries.{AreRead, IsEntry}
 use Rattle.simulator.specs.EntryLaws.{ReadsOne, JoinedReadBack}
 use Rattle.simulator.specs.Machines.{Machine, Entry}
 use Rattle.simulator.specs.Steps.{alert_level, IsStep, IsRun}
-use Rattle.simulator.specs.StepLaws.{IsReady, Sees, StepsAreSeen}
+use Rattle.simulator.specs.StepLaws.{IsReady, Carries, StepsAreSeen}
 use Rattle.simulator.specs.RunLaws.{IsFrameOf, AreStepFrames, AreRunFrames, RunsAreSeen}
 
 -- whole or broken off, by how the message ended
@@ -41,14 +41,14 @@ record Framed (s : BusState) (o : Option Asked) (a : Answered) (e : Entry) : Typ
   pub read : AreFrames (events_of e.samples) frames
   pub are : AreStepFrames e.samples o a frames
 
-framed : (s : BusState) (o : Option Asked) (a : Answered) (e : Entry) → Sees s o a e
+framed : (s : BusState) (o : Option Asked) (a : Answered) (e : Entry) → Carries s o a e
     → Framed s o a e
-framed s None a e sees = record { frames = []; read = sees; are = refl }
-framed s (Some m) a e sees =
-    let r = sees.reads in
+framed s None a e carries = record { frames = []; read = carries; are = refl }
+framed s (Some m) a e carries =
+    let r = carries.reads in
     let f = r.shows.one.frame in
     let lines : List Sample = samples_of (alert_level s) m a in
-    let here : e.samples ≡ lines = sees.samples in
+    let here : e.samples ≡ lines = carries.samples in
     let ended : IsFrameOf lines m a (outcome_of (Some m) a) f =
     by_ending m a (alert_level s) r a.refuse (first_cut (plan_of m a))
     (returned_by m.form a.value a.bytes) refl refl in
@@ -90,7 +90,7 @@ walked steps b p m last (a ∷ answers) (e ∷ entries) is program ready run =
     let next = run.0 in
     let step : IsStep b p m a e next = run.1 in
     let seen = steps b p m next a e is program ready step in
-    let own = framed m.bus (message_of b seen.instr m.regs) a e seen.sees in
+    let own = framed m.bus (message_of b seen.instr m.regs) a e seen.carries in
     let later = walked steps b p next last answers entries is program seen.ready run.2 in
     record {
       frames = own.frames ∷ later.frames;

@@ -33,7 +33,7 @@ use Rattle.simulator.specs.Machines.{Machine, Entry}
 use Rattle.simulator.specs.Moves.{result_in, with_result, after_message, silently}
 use Rattle.simulator.specs.Steps.{alert_level, idle_ticks, IsStepOf}
 use Rattle.simulator.specs.StepDoes.{StepDoes}
-use Rattle.simulator.specs.StepLaws.{Sees, StepsAreSeen, StartsAreReady}
+use Rattle.simulator.specs.StepLaws.{Carries, StepsAreSeen, StartsAreReady}
 use Rattle.simulator.proofs.NextPlaces.{is_instr, stepped_place}
 use Rattle.simulator.proofs.Sendable.{sendable}
 use Rattle.simulator.proofs.StepDoing.{message_does, silence_does}
@@ -153,7 +153,7 @@ out_of m a alert r = (
 
 record Seen (b : Board) (i : Instr) (o : Option Asked) (m : Machine) (a : Answered) (e : Entry)
     (next : Machine) : Type 0 where
-  pub sees : Sees m.bus o a e
+  pub carries : Carries m.bus o a e
   pub does : StepDoes b m.bus o a e
   pub entry : IsEntry e.samples
   pub words : Words next.regs
@@ -176,7 +176,7 @@ by_message on_wire lengths reads does idle b i None m a e next is ok belongs wor
     let none = idle (alert_level m.bus) (suc (idle_ticks i)) in
     let samples = same_samples e _ step.entry_is in
     record {
-      sees = rw samples none.none;
+      carries = rw samples none.none;
       does = silence_does b m.bus a e (same_before e _ step.entry_is) (rw samples none.only);
       entry = rw samples (none.entry (omega arith));
       words = rw (same_regs next _ step.next_is) (silent_words i m ok words);
@@ -192,7 +192,7 @@ by_message on_wire lengths reads does idle b i (Some msg) m a e next is ok belon
     let no_block = no_block_read msg takes in
     let shown = does msg a (alert_level m.bus) sent in
     record {
-      sees = record {
+      carries = record {
         asked = sent;
         samples = samples;
         reads = one;
@@ -219,7 +219,7 @@ steps_are_seen on_wire lengths reads does idle stays b p m next a e is program r
     record {
       instr = i;
       here = step.here;
-      sees = seen.sees;
+      carries = seen.carries;
       does = seen.does;
       entry = seen.entry;
       ready = record {

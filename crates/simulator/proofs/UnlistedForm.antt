@@ -114,10 +114,10 @@ unlisted_form_is_unsafe steps ready one found b s i t code bound is starts at ta
     first_step steps ready b s (sending i code) m bound is starts
     (two_places (sending i code) takes (lit< tt)) (sends_code b s i code t at) runs in
     let e = entry_by (sending i code) m 0 (start_at s) in
-    let reads = first.seen.sees.reads in
+    let reads = first.seen.carries.reads in
     let f = reads.shows.one.frame in
     let small = address_small b i t is at in
-    let code_small : code < 256 = first.seen.sees.asked.wire.code in
+    let code_small : code < 256 = first.seen.carries.asked.wire.code in
     let al : IsAllowed b s e.samples f = first.safe.safe.0.allowed f reads.is_only.is in
     let in_time : HasTimeout e.samples → ⊥ =
     λ late. no_timeout (first_cut (plan_of m (plain 0))) (none_cut m 0) (reads.timeout.0 late) in

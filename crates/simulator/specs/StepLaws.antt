@@ -27,7 +27,7 @@ pub record IsReady (b : Board) (p : List Instr) (m : Machine) : Type 0 where
 
 -- the samples are those of the message and the answer, which are bytes on the wire; so they have
 -- its one frame, and what they are seen to do is what was asked and answered
-pub record SeesMessage (s : BusState) (m : Asked) (a : Answered) (e : Entry) : Type 0 where
+pub record CarriesMessage (s : BusState) (m : Asked) (a : Answered) (e : Entry) : Type 0 where
   pub asked : AreAsked m a
   pub samples : e.samples ≡ samples_of (alert_level s) m a
   pub reads : ReadsOne m a (alert_level s)
@@ -36,15 +36,15 @@ pub record SeesMessage (s : BusState) (m : Asked) (a : Answered) (e : Entry) : T
   pub no_block : ReadsNoBlock status_word_code m
 
 -- without a message no frame is seen
-abbrev pub Sees : BusState → Option Asked → Answered → Entry → Type 0
-Sees s None a e = AreFrames (events_of e.samples) []
-Sees s (Some m) a e = SeesMessage s m a e
+abbrev pub Carries : BusState → Option Asked → Answered → Entry → Type 0
+Carries s None a e = AreFrames (events_of e.samples) []
+Carries s (Some m) a e = CarriesMessage s m a e
 
 pub record StepIsSeen (b : Board) (p : List Instr) (m : Machine) (a : Answered) (e : Entry)
     (next : Machine) : Type 0 where
   pub instr : Instr
   pub here : slice_get p m.place ≡ Some instr
-  pub sees : Sees m.bus (message_of b instr m.regs) a e
+  pub carries : Carries m.bus (message_of b instr m.regs) a e
   -- the message and the answer tell what it is seen to write, report and withdraw
   pub does : StepDoes b m.bus (message_of b instr m.regs) a e
   -- the lines are idle before it, and free after it

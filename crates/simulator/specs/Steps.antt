@@ -38,8 +38,8 @@ abbrev pub sent_outcome : Option Asked → Answered → Option Outcome
 sent_outcome None a = None
 sent_outcome (Some message) a = Some (outcome_of (Some message) a)
 
-abbrev pub entry_of : Instr → Option Asked → Answered → Machine → Entry
-entry_of i message a m =
+abbrev pub step_entry : Instr → Option Asked → Answered → Machine → Entry
+step_entry i message a m =
     record {
       place = m.place;
       before = m.bus;
@@ -54,7 +54,7 @@ pub record IsStepOf (b : Board) (i : Instr) (message : Option Asked) (m : Machin
   pub fits : FitsStep b m.bus message a
   pub bus : IsAfter b m.bus message a next.bus
   pub next_is : next ≡ moved i message (outcome_of message a) next.bus m
-  pub entry_is : e ≡ entry_of i message a m
+  pub entry_is : e ≡ step_entry i message a m
 
 -- a step of a machine that runs, by the instruction at its place
 pub record IsStep (b : Board) (p : List Instr) (m : Machine) (a : Answered) (e : Entry)

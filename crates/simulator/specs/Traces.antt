@@ -15,14 +15,14 @@ pub record Trace : Type 0 where
   pub last : Machine
 
 -- the events of a step: those of one frame where a message was sent, else none
-abbrev pub IsSeenAs : Option Outcome → List Event → Type 0
-IsSeenAs None events = events ≡ []
-IsSeenAs (Some outcome) events = (f : Shown) × IsOnlyFrame events f
+abbrev pub AreStepEvents : Option Outcome → List Event → Type 0
+AreStepEvents None events = events ≡ []
+AreStepEvents (Some outcome) events = (f : Shown) × IsOnlyFrame events f
 
-pub record IsSeen (e : Entry) : Type 0 where
-  pub frames : IsSeenAs e.outcome (events_of e.samples)
+pub record HasItsFrame (e : Entry) : Type 0 where
+  pub frames : AreStepEvents e.outcome (events_of e.samples)
   pub ticks : e.ticks ≡ length e.samples
 
 pub record IsTrace (t : Trace) : Type 0 where
-  pub entries : All IsSeen t.entries
+  pub entries : All HasItsFrame t.entries
   pub within : total_ticks t.entries ≤ most_ticks

@@ -22,4 +22,4 @@ pub use running::{Trace, run};
 pub use starting::start;
 pub use stepping::{step, step_at};
 pub use trace::{WriteFault, write_trace};
-pub use trace_text::{last_line, push_line};
+pub use trace_text::{last_line, outcome_text, push_line};

@@ -8,7 +8,7 @@ ghost use Rattle.simulator.specs.Faults.{most_ticks, IsStepFault};
 ghost use Rattle.simulator.specs.Machines.{IsMachine};
 ghost use Rattle.simulator.specs.Moves.{moved};
 ghost use Rattle.simulator.specs.Steps.{IsStepOf, IsStep};
-ghost use Rattle.simulator.specs.Traces.{IsSeen};
+ghost use Rattle.simulator.specs.Traces.{HasItsFrame};
 ghost use Rattle.simulator.specs.declared.fault.RunFault.{RunFault};
 ghost use Rattle.simulator.specs.declared.fault.RunFault.TheVariants.{Memory};
 ghost use Rattle.simulator.specs.declared.machine.Ending.TheVariants.{Running};
@@ -93,7 +93,7 @@ fn step_by(
     ensures step { IfOk result (λ r.
         IsStepOf board.now instr.now
         (option_map (λ m. m.now) message.entry) last.0 answer.now r.1 r.0) }
-    ensures seen { IfOk result (λ r. IsSeen r.1) }
+    ensures seen { IfOk result (λ r. HasItsFrame r.1) }
     ensures belongs { IfOk result
         (λ r. Belongs board.now last.0.bus → Belongs board.now r.0.bus) }
 {
@@ -133,7 +133,7 @@ fn step_if_fits(
     ensures step { IfOk result (λ r.
         IsStepOf board.now instr.now
         (option_map (λ m. m.now) message.entry) last.0 answer.now r.1 r.0) }
-    ensures seen { IfOk result (λ r. IsSeen r.1) }
+    ensures seen { IfOk result (λ r. HasItsFrame r.1) }
     ensures belongs { IfOk result
         (λ r. Belongs board.now last.0.bus → Belongs board.now r.0.bus) }
     ensures fault { IfErr result (λ e. e ≢ Memory → (e ≡ RunFault.AnswerDoesNotFit index)
@@ -168,7 +168,7 @@ pub fn step_at(
     ensures step { IfOk result (λ r. IsStep board.now program.now last.0 answer.now r.1 r.0) }
     ensures within { IfOk result (λ r. before + r.1.ticks ≤ most_ticks) }
     ensures machine { IfOk result (λ r. IsMachine board.now program.now r.0) }
-    ensures seen { IfOk result (λ r. IsSeen r.1) }
+    ensures seen { IfOk result (λ r. HasItsFrame r.1) }
     ensures fault { IfErr result (λ e. e ≢ Memory
         → IsStepFault board.now program.now last.0 answer.now before index e) }
 {
@@ -203,7 +203,7 @@ pub fn step(
     ensures step { IfOk result (λ r. IsStep board.now program.now machine.now answer.now r.1 r.0) }
     ensures within { IfOk result (λ r. r.1.ticks ≤ most_ticks) }
     ensures machine { IfOk result (λ r. IsMachine board.now program.now r.0) }
-    ensures seen { IfOk result (λ r. IsSeen r.1) }
+    ensures seen { IfOk result (λ r. HasItsFrame r.1) }
     ensures fault { IfErr result
         (λ e. e ≢ Memory → IsStepFault board.now program.now machine.now answer.now 0 0 e) }
 {

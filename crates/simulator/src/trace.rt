@@ -1,7 +1,7 @@
 ghost use Rattle.std.specs.Prelude.{◌≡◌, ◌≤◌, All, IfOk, IfErr, OnOk, string_bytes};
 ghost use Rattle.simulator.specs.Faults.{most_ticks};
 ghost use Rattle.simulator.specs.Steps.{total_ticks};
-ghost use Rattle.simulator.specs.Traces.{IsSeen};
+ghost use Rattle.simulator.specs.Traces.{HasItsFrame};
 ghost use Rattle.simulator.specs.TraceTexts.{AreLines, IsTraceText, IsWritten, IsBegun};
 ghost use Rattle.simulator.specs.declared.trace.WriteFault.TheVariants.{Memory};
 ghost use Rattle.simulator.specs.declared.trace.WriteFault.TheVariants.{Write as WriteFailed};
@@ -34,7 +34,7 @@ impl From<AllocError> for WriteFault {
 
 /// The lines of steps in order.
 fn lines_of(alloc: Global, entries: &[Entry]) -> Result<String, AllocError>
-    requires { All IsSeen entries.now }
+    requires { All HasItsFrame entries.now }
     ensures { IfOk result (λ text. AreLines entries.now (string_bytes text)) }
 {
     let mut text = String::new(alloc);

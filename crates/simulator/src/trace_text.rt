@@ -6,7 +6,7 @@ ghost use Rattle.smbus.specs.Frames.{AreFrames};
 ghost use Rattle.smbus.specs.OneFrame.{IsOnlyFrame};
 ghost use Rattle.smbus.specs.Shown.{Shown};
 ghost use Rattle.simulator.specs.Steps.{total_ticks};
-ghost use Rattle.simulator.specs.Traces.{IsSeen};
+ghost use Rattle.simulator.specs.Traces.{HasItsFrame};
 ghost use Rattle.simulator.specs.TraceTexts.{outcome_text, ending_text, last_line, IsLineMore};
 ghost use Rattle.simulator.specs.TraceTexts.{AreLines, IsTraceText};
 
@@ -18,7 +18,8 @@ use targets::Outcome;
 use texts::push_word;
 use wires::{Runs, events_of};
 
-fn outcome_text(alloc: Global, outcome: Outcome) -> Result<String, AllocError>
+/// How a message ended, as text: `done` with what it returned, `nak` or `timeout`.
+pub fn outcome_text(alloc: Global, outcome: Outcome) -> Result<String, AllocError>
     ensures { IfOk result (λ text. string_bytes text ≡ outcome_text outcome) }
 {
     match outcome {
@@ -51,7 +52,7 @@ fn only_frame(alloc: Global, samples: &Runs) -> Result<Frame, AllocError>
 /// Appends the line of a step: its place, its ticks, the frame that is read from its samples and
 /// how the message ended, `-` and `-` without one.
 pub fn push_line(alloc: Global, text: &mut String, entry: &Entry) -> Result<(), AllocError>
-    requires { IsSeen entry.now }
+    requires { HasItsFrame entry.now }
     ensures { OnOk result (IsLineMore entry.now (string_bytes text.old) (string_bytes text.new)) }
 {
     let place = entry.place;

@@ -5,6 +5,7 @@ pub mod Least
 pub mod WriteSlots
 pub mod Stored
 pub mod Effects
+pub mod Registers
 pub mod Fitting
 pub mod SomeAnswer
 pub mod StateLaws

@@ -3,19 +3,18 @@
 ghost use Rattle.std.specs.Prelude.{◌≡◌, ◌↔◌, ◌&&◌, ℕ, ◌∷◌, [], Some, IfSome, IfNone, IsTrue};
 ghost use Rattle.std.specs.Prelude.{option_map};
 ghost use Rattle.board.specs.Boards.{Target};
-ghost use Rattle.pmbus_table.specs.Protect.{is_protection};
-ghost use Rattle.board.specs.Valid.{IsBoard, is_page_value};
+ghost use Rattle.board.specs.Valid.{IsBoard};
 ghost use Rattle.targets.specs.States.{IsTargetAt};
 ghost use Rattle.targets.specs.Outcomes.{IsDone, cut_of};
 ghost use Rattle.targets.specs.WriteSlots.{reaches_value, cuts_after_value};
 ghost use Rattle.targets.specs.Effects.{IsByteWrite, ValueWentOut, TakesEffect, IsPermitted};
-ghost use Rattle.targets.specs.Effects.{WritesPage, WritesProtect};
+ghost use Rattle.targets.specs.Registers.{code_of, takes, WritesTo};
 
 use crate::outcome::cut_of;
 use crate::state::BusState;
-use board::{Board, Target};
+use board::{Board, Target, is_page_value};
 use pmbus_table::code::{PAGE, WRITE_PROTECT};
-use pmbus_table::permits;
+use pmbus_table::{is_protection, permits};
 use smbus::{Answer, Form, Message};
 
 /// Whether every byte is acknowledged and no slot cut.
@@ -121,16 +120,34 @@ fn write_to<'a>(board: &'a Board, message: &Message, code: u8) -> Option<(usize,
     Some((index, target, value))
 }
 
-fn is_page_value(pages: u8, value: u8) -> bool
-    ensures { result ≡ is_page_value pages value }
-{
-    value < pages || value == 0xFF
+/// A register of a target that decides what becomes of its messages.
+#[derive(Clone, Copy)]
+pub(crate) enum Register {
+    /// PAGE.
+    Page,
+    /// WRITE_PROTECT.
+    Protect,
 }
 
-fn is_protection(value: u8) -> bool
-    ensures { result ≡ is_protection value }
-{
-    permits(value, WRITE_PROTECT).is_some()
+impl Register {
+    fn code(self) -> u8
+        ensures { result ≡ code_of self }
+    {
+        match self {
+            Register::Page => PAGE,
+            Register::Protect => WRITE_PROTECT,
+        }
+    }
+
+    /// Whether a value is one of those that the register of a target takes.
+    fn takes(self, target: &Target, value: u8) -> bool
+        ensures { result ≡ takes self target.now value }
+    {
+        match self {
+            Register::Page => is_page_value(target.pages(), value),
+            Register::Protect => is_protection(value),
+        }
+    }
 }
 
 /// Whether the target of an index permits a write of a code, and the write takes effect.
@@ -142,44 +159,24 @@ fn is_taken(state: &BusState, index: usize, code: u8, message: &Message, answer:
     is_permitted(state, index, code) && takes_effect(message, answer)
 }
 
-/// The target whose PAGE a message sets, by its index, and the value.
-fn page_write_of(
+/// The target whose register a message sets, by its index, and the value.
+fn write_by(
+    register: Register,
     board: &Board,
     state: &BusState,
     message: &Message,
     answer: &Answer,
 ) -> Option<(usize, u8)>
     ensures some { IfSome result
-        (λ w. WritesPage board.now state.now (Some message.now) answer.now w.0 w.1) }
+        (λ w. WritesTo register board.now state.now (Some message.now) answer.now w.0 w.1) }
     ensures only { IsBoard board.now → (i value : ℕ)
-        → WritesPage board.now state.now (Some message.now) answer.now i value
+        → WritesTo register board.now state.now (Some message.now) answer.now i value
         → result ≡ Some (i, value) }
 {
-    let (index, target, value) = write_to(board, message, PAGE)?;
-    let is_valid = is_page_value(target.pages(), value);
-    if is_valid && is_taken(state, index, PAGE, message, answer) {
-        Some((index, value))
-    } else {
-        None
-    }
-}
-
-/// The target whose WRITE_PROTECT a message sets, by its index, and the value.
-fn protect_write_of(
-    board: &Board,
-    state: &BusState,
-    message: &Message,
-    answer: &Answer,
-) -> Option<(usize, u8)>
-    ensures some { IfSome result
-        (λ w. WritesProtect board.now state.now (Some message.now) answer.now w.0 w.1) }
-    ensures only { IsBoard board.now → (i value : ℕ)
-        → WritesProtect board.now state.now (Some message.now) answer.now i value
-        → result ≡ Some (i, value) }
-{
-    let (index, _, value) = write_to(board, message, WRITE_PROTECT)?;
-    let is_valid = is_protection(value);
-    if is_valid && is_taken(state, index, WRITE_PROTECT, message, answer) {
+    let code = register.code();
+    let (index, target, value) = write_to(board, message, code)?;
+    let is_value = register.takes(target, value);
+    if is_value && is_taken(state, index, code, message, answer) {
         Some((index, value))
     } else {
         None
@@ -187,40 +184,22 @@ fn protect_write_of(
 }
 
 /// The same of a step that may send nothing.
-pub(crate) fn page_write(
+pub(crate) fn register_write(
+    register: Register,
     board: &Board,
     state: &BusState,
     message: Option<&Message>,
     answer: &Answer,
 ) -> Option<(usize, u8)>
-    ensures some { IfSome result (λ w.
-        WritesPage board.now state.now (option_map (λ m. m.now) message.entry) answer.now w.0 w.1) }
-    ensures only { IsBoard board.now → (i value : ℕ)
-        → WritesPage board.now state.now (option_map (λ m. m.now) message.entry) answer.now i value
-        → result ≡ Some (i, value) }
-{
-    match message {
-        Some(message) => page_write_of(board, state, message, answer),
-        None => None,
-    }
-}
-
-pub(crate) fn protect_write(
-    board: &Board,
-    state: &BusState,
-    message: Option<&Message>,
-    answer: &Answer,
-) -> Option<(usize, u8)>
-    ensures some { IfSome result (λ w.
-        WritesProtect board.now state.now
+    ensures some { IfSome result (λ w. WritesTo register board.now state.now
         (option_map (λ m. m.now) message.entry) answer.now w.0 w.1) }
     ensures only { IsBoard board.now → (i value : ℕ)
-        → WritesProtect board.now state.now
+        → WritesTo register board.now state.now
         (option_map (λ m. m.now) message.entry) answer.now i value
         → result ≡ Some (i, value) }
 {
     match message {
-        Some(message) => protect_write_of(board, state, message, answer),
+        Some(message) => write_by(register, board, state, message, answer),
         None => None,
     }
 }

@@ -15,7 +15,7 @@ pub use law::{
     fitting_bytes_are_on_wire, lowest_address_wins, ranges_are_of_forms, some_answer_fits,
     states_belong, targets_are_found,
 };
-pub use outcome::{Outcome, cut_of};
+pub use outcome::{Outcome, cut_of, ending_of};
 pub use start::starts;
 pub use state::BusState;
 pub use step::{after, after_in};

@@ -1,8 +1,9 @@
 ghost use Rattle.std.specs.Prelude.{◌≡◌, ◌<◌, ◌^◌, length, min, option_map, take};
 ghost use Rattle.std.specs.List.{position_from};
 ghost use Rattle.bit_bus.specs.Levels.{is_cut};
-ghost use Rattle.targets.specs.Outcomes.{returned_by, cut_of, outcome_of};
+ghost use Rattle.targets.specs.Outcomes.{returned_by, ending_of, cut_of, outcome_of};
 
+use bit_bus::is_cut;
 use smbus::{Answer, Form, Message, slot_count};
 
 /// How a message ended.
@@ -14,15 +15,6 @@ pub enum Outcome {
     NotAcknowledged,
     /// The clock was held low for too long.
     TimedOut,
-}
-
-/// The shortest hold that cuts a slot: its low period is longer than 5000 ticks.
-const CUTTING_HOLD: u16 = 5000;
-
-fn is_cut(hold: u16) -> bool
-    ensures { result ≡ is_cut hold }
-{
-    hold >= CUTTING_HOLD
 }
 
 fn first_cut_in(holds: &[u16]) -> Option<usize>
@@ -63,19 +55,27 @@ fn returned_by(form: Form, answer: &Answer) -> u16
     }
 }
 
-/// How a message ends: timed out where a slot is cut, else not acknowledged where a byte is
-/// refused.
-pub(crate) fn outcome_of(message: Option<&Message>, answer: &Answer) -> Outcome
-    ensures { result ≡ outcome_of (option_map (λ m. m.now) message.entry) answer.now }
+/// How a message of a form ended, from the slot that was cut, if any: timed out where one was, else
+/// not acknowledged where a byte was refused.
+pub fn ending_of(form: Form, answer: &Answer, cut: Option<usize>) -> Outcome
+    ensures { result ≡ ending_of answer.now.refuse cut
+        (returned_by form answer.now.value answer.now.bytes) }
 {
-    let Some(message) = message else {
-        return Outcome::Done(0);
-    };
-    if cut_of(message, answer).is_some() {
+    if cut.is_some() {
         Outcome::TimedOut
     } else if answer.refuse.is_some() {
         Outcome::NotAcknowledged
     } else {
-        Outcome::Done(returned_by(message.form, answer))
+        Outcome::Done(returned_by(form, answer))
+    }
+}
+
+/// How a step ends, which may send nothing.
+pub(crate) fn outcome_of(message: Option<&Message>, answer: &Answer) -> Outcome
+    ensures { result ≡ outcome_of (option_map (λ m. m.now) message.entry) answer.now }
+{
+    match message {
+        Some(message) => ending_of(message.form, answer, cut_of(message, answer)),
+        None => Outcome::Done(0),
     }
 }

@@ -7,7 +7,7 @@ ghost use Rattle.targets.specs.Effects.{StopsAlerting, IsAfter};
 ghost use Rattle.targets.specs.Stored.{with_write};
 
 use crate::alerting::alert_winner;
-use crate::effect::{is_done, page_write, protect_write};
+use crate::effect::{Register, is_done, register_write};
 use crate::outcome::{Outcome, outcome_of};
 use crate::state::BusState;
 use board::Board;
@@ -96,8 +96,8 @@ pub fn after_in(
         (λ r. r.1 ≡ outcome_of (option_map (λ m. m.now) message.entry) answer.now) }
 {
     let stops = stops_alerting(board, state, message, answer);
-    let page_write = page_write(board, state, message, answer);
-    let protect_write = protect_write(board, state, message, answer);
+    let page_write = register_write(Register::Page, board, state, message, answer);
+    let protect_write = register_write(Register::Protect, board, state, message, answer);
     let new = BusState {
         page: with_write(spare.page, &state.page, page_write)?,
         protect: with_write(spare.protect, &state.protect, protect_write)?,

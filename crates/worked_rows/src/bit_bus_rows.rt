@@ -1,5 +1,5 @@
 use crate::expected::{holds, same};
-use bit_bus::{Driven, Plan, Slot, drive};
+use bit_bus::{Driven, Plan, Slot, drive, is_cut};
 use std::alloc::{AllocError, Global};
 use std::process::Abort;
 use std::test::*;
@@ -38,6 +38,12 @@ fn each_is_plan(rt: &impl Abort, alloc: Global, rows: &[(usize, &[u16], bool)]) 
 #[test]
 fn limits_of_a_plan(rt: HostRuntime) {
     each_is_plan(&rt, rt.alloc(), &LIMITS);
+}
+
+/// With a hold of 4999 ticks SCL is low for 5000, which is no timeout.
+#[test]
+fn cut_holds(rt: HostRuntime) {
+    same(&rt, (is_cut(4999), is_cut(5000)), (false, true));
 }
 
 fn without_holds(alloc: Global, slots: &[Slot]) -> Result<Option<Plan>, AllocError> {

@@ -1,6 +1,6 @@
 use crate::boards::{TWO, alert_board, two_board};
 use crate::expected::{same, says};
-use board::{Board, BoardFault, Range, read_board};
+use board::{Board, BoardFault, Range, is_page_value, read_board};
 use pmbus_table::{Command, by_name};
 use smbus::Form;
 use std::alloc::Global;
@@ -218,6 +218,20 @@ fn compare_whole(rt: &impl Abort, alloc: Global) -> Result<(), BoardFault> {
 #[test]
 fn a_whole_board(rt: HostRuntime) {
     same(&rt, compare_whole(&rt, rt.alloc()), Ok(()));
+}
+
+/// Of a target with two pages.
+static PAGE_VALUES: [(u8, bool); 4] = [(1, true), (2, false), (0xFE, false), (0xFF, true)];
+
+fn each_is_page_value(rt: &impl Abort, rows: &[(u8, bool)]) {
+    for row in rows {
+        same(rt, (row.0, is_page_value(2, row.0)), *row);
+    }
+}
+
+#[test]
+fn page_values(rt: HostRuntime) {
+    each_is_page_value(&rt, &PAGE_VALUES);
 }
 
 #[test]

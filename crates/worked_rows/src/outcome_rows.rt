@@ -7,7 +7,7 @@ use smbus::{Form, Message};
 use std::alloc::Global;
 use std::process::Abort;
 use std::test::*;
-use targets::{Outcome, after, cut_of, fits};
+use targets::{Outcome, after, cut_of, ending_of, fits};
 
 fn ended(
     alloc: Global,
@@ -222,4 +222,24 @@ fn all_are_cut(rt: &impl Abort, alloc: Global, rows: &[Cut]) {
 #[test]
 fn first_cut_slots(rt: HostRuntime) {
     all_are_cut(&rt, rt.alloc(), &CUTS);
+}
+
+/// What an answer to a Read Word refuses, the slot that is cut, and how it ends.
+static ENDINGS: [(Option<u16>, Option<usize>, Outcome); 4] = [
+    (None, None, Outcome::Done(0x0840)),
+    (Some(2), None, Outcome::NotAcknowledged),
+    (None, Some(9), Outcome::TimedOut),
+    (Some(2), Some(9), Outcome::TimedOut),
+];
+
+fn all_endings(rt: &impl Abort, alloc: Global, rows: &[(Option<u16>, Option<usize>, Outcome)]) {
+    for (refuse, cut, want) in rows {
+        let answer = answer_of(alloc, (0x0840, *refuse, 0));
+        same(rt, ending_of(Form::ReadWord, &answer, *cut), *want);
+    }
+}
+
+#[test]
+fn endings(rt: HostRuntime) {
+    all_endings(&rt, rt.alloc(), &ENDINGS);
 }

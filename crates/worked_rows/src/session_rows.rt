@@ -6,9 +6,11 @@ mod devices;
 use crate::expected::says;
 use crate::runs::answer_of;
 use session::outcome_line;
+use simulator::outcome_text;
 use smbus::{Form, Message};
 use std::alloc::{AllocError, Global};
 use std::test::*;
+use targets::Outcome;
 
 /// How a Read Word that returns 0840h ends.
 fn word_outcome(
@@ -30,6 +32,15 @@ fn outcomes(rt: HostRuntime) {
     says(&rt, word_outcome(rt.alloc(), None, None), "done 0840");
     says(&rt, word_outcome(rt.alloc(), Some(2), None), "nak");
     says(&rt, word_outcome(rt.alloc(), Some(2), Some(9)), "timeout");
+}
+
+#[test]
+fn outcome_words(rt: HostRuntime) {
+    says(
+        &rt,
+        outcome_text(rt.alloc(), Outcome::Done(0x0840)),
+        "done 0840",
+    );
 }
 
 /// Two targets that may alert, at the addresses 40h and 21h, and a program that waits, asks three

@@ -1,10 +1,11 @@
+mod events;
 mod pieces;
 
 use crate::expected::{holds, same};
 use bit_bus::{Driven, Plan, Slot, drive};
 use smbus::{
-    Answer, Form, Frame, Message, ObserveFault, Segment, SmbusFault, carries_code, form_named,
-    frame_slots, frame_text, most_slots, observe, sent_count, slot_count,
+    Answer, Form, Frame, Message, ObserveFault, SmbusFault, frame_slots, frame_text, most_slots,
+    observe, sent_count, slot_count,
 };
 use std::alloc::{AllocError, Global};
 use std::process::Abort;
@@ -329,94 +330,4 @@ fn no_slots(rt: HostRuntime) {
 fn bad_data_is_named(rt: HostRuntime) {
     let fault = SmbusFault::BadData;
     same(&rt, (fault.number(), fault.name()), (3, "BadData"));
-}
-
-const HIGH: Event = Event::Rise(true);
-
-const LOW: Event = Event::Rise(false);
-
-/// Events, and why they have no frames.
-static STRAYS: [(&[Event], Option<ObserveFault>); 6] = [
-    (&[Event::Stop], Some(ObserveFault::NotFrames(0))),
-    (&[Event::Start], Some(ObserveFault::NotFrames(1))),
-    (
-        &[Event::Start, HIGH, Event::Stop],
-        Some(ObserveFault::NotFrames(2)),
-    ),
-    (
-        &[Event::Start, LOW, Event::Start],
-        Some(ObserveFault::NotFrames(2)),
-    ),
-    (
-        &[Event::Start, HIGH, HIGH, Event::Start],
-        Some(ObserveFault::NotFrames(3)),
-    ),
-    (&[], None),
-];
-
-fn all_stray(rt: &impl Abort, alloc: Global, rows: &[(&[Event], Option<ObserveFault>)]) {
-    for (events, want) in rows {
-        same(
-            rt,
-            (*events, observe(alloc, events).err()),
-            (*events, *want),
-        );
-    }
-}
-
-#[test]
-fn places_of_stray_events(rt: HostRuntime) {
-    all_stray(&rt, rt.alloc(), &STRAYS);
-}
-
-#[test]
-fn stray_events_are_named(rt: HostRuntime) {
-    let fault = ObserveFault::NotFrames(3);
-    same(&rt, (fault.number(), fault.name()), (2, "NotFrames"));
-}
-
-/// A frame of two segments with no byte.
-static BARE: [Event; 5] = [Event::Start, HIGH, Event::Start, LOW, Event::Stop];
-
-/// The address and the direction of the first segment.
-fn first_address(alloc: Global) -> Result<Option<(Option<u8>, Option<bool>)>, ObserveFault> {
-    let frames = observe(alloc, &BARE)?;
-    let Some(frame) = frames.first() else {
-        return Ok(None);
-    };
-    let Some(segment) = frame.segments.first() else {
-        return Ok(None);
-    };
-    Ok(Some((segment.address(), segment.read())))
-}
-
-#[test]
-fn empty_segments(rt: HostRuntime) {
-    same(&rt, first_address(rt.alloc()), Ok(Some((None, None))));
-    reads(&rt, observed(rt.alloc(), &BARE), Ok("S Sr P"));
-}
-
-/// The address and the direction of a segment.
-fn address_of(alloc: Global) -> Option<(Option<u8>, Option<bool>)> {
-    let bytes = vec![in alloc; (0x81, true), (0x5A, false)].ok()?;
-    let segment = Segment { bytes };
-    Some((segment.address(), segment.read()))
-}
-
-#[test]
-fn addresses(rt: HostRuntime) {
-    same(&rt, address_of(rt.alloc()), Some((Some(0x40), Some(true))));
-}
-
-#[test]
-fn form_words(rt: HostRuntime) {
-    same(&rt, form_named("quickread"), Some(Form::Quick(true)));
-    same(&rt, form_named("blockcall"), Some(Form::BlockProcessCall));
-    same(&rt, form_named("alert"), None);
-}
-
-#[test]
-fn forms_with_a_code(rt: HostRuntime) {
-    same(&rt, carries_code(Form::SendByte), true);
-    same(&rt, carries_code(Form::ReceiveByte), false);
 }

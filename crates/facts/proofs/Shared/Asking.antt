@@ -20,7 +20,7 @@ use Rattle.targets.specs.Fitting.{target_of, entry_for, values_for, lengths_for,
 use Rattle.seq_program.specs.Valid.{read_form, IsWritten, IsBlock}
 use Rattle.simulator.specs.Machines.{Machine, Entry}
 use Rattle.simulator.specs.Moves.{with_result}
-use Rattle.simulator.specs.StepLaws.{SeesMessage}
+use Rattle.simulator.specs.StepLaws.{CarriesMessage}
 use Rattle.simulator.specs.StepDoes.{StepDoes}
 use Rattle.facts.specs.declared.rule.Rule.{Rule}
 use Rattle.facts.specs.Rows.{Row, Admits, IsRow}
@@ -77,7 +77,7 @@ pub record Sending (b : Board) (row : Row) (h : List Entry) (m next : Machine) (
   pub duty : (rule : Rule) → MeetsAt b row i r rule
   pub fits : Fits b m.bus (asked t m.regs r) a
   pub after : IsAfter b m.bus (Some (asked t m.regs r)) a next.bus
-  pub sees : SeesMessage m.bus (asked t m.regs r) a e
+  pub carries : CarriesMessage m.bus (asked t m.regs r) a e
   pub does : StepDoes b m.bus (Some (asked t m.regs r)) a e
   pub regs : next.regs ≡ regs_after r m.regs (ending t m.regs r a)
   pub counters : next.counters ≡ m.counters

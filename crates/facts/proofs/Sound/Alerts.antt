@@ -18,7 +18,7 @@ use Rattle.seq_program.specs.declared.instr.Instr.TheVariants.{Alert}
 use Rattle.seq_program.specs.Messages.{alert_message}
 use Rattle.simulator.specs.Machines.{Machine, Entry}
 use Rattle.simulator.specs.StepDoes.{StepDoes}
-use Rattle.simulator.specs.StepLaws.{SeesMessage}
+use Rattle.simulator.specs.StepLaws.{CarriesMessage}
 use Rattle.facts.specs.declared.source.Source.TheVariants as source
 use Rattle.facts.specs.Sets.{empty}
 use Rattle.facts.specs.Rows.{Row, Admits, IsRow}
@@ -90,7 +90,7 @@ pub record AlertStep (b : Board) (row : Row) (h : List Entry) (m next : Machine)
   pub small : r < 8
   pub fits : Fits b m.bus alert_message a
   pub after : IsAfter b m.bus (Some alert_message) a next.bus
-  pub sees : SeesMessage m.bus alert_message a e
+  pub carries : CarriesMessage m.bus alert_message a e
   pub does : StepDoes b m.bus (Some alert_message) a e
   pub done : (v : ℕ) → outcome_of (Some alert_message) a ≡ Done v
       → (next.place ≡ m.place + 1) × (next.regs ≡ slice_set m.regs r v)
@@ -144,5 +144,5 @@ pub alert_ticks : (b : Board) (row : Row) (h : List Entry) (m next : Machine) (r
     → length e.samples ≤ frame_ticks b (most_slots form.Alert 0 0)
 unfolding frame_ticks
 alert_ticks b row h m next r otherwise a e k =
-    let few = k.sees.reads.few (largest_stretch b.targets) k.fits.holds in
-    rw k.sees.samples few
+    let few = k.carries.reads.few (largest_stretch b.targets) k.fits.holds in
+    rw k.carries.samples few

@@ -22,7 +22,7 @@ use Rattle.simulator.specs.Moves.{silently}
 use Rattle.simulator.specs.Safe.{IsSafe}
 use Rattle.simulator.specs.SafeLaws.{AllowedFramesAreSeen}
 use Rattle.simulator.specs.StepDoes.{StepDoes}
-use Rattle.simulator.specs.StepLaws.{Sees, StepsAreSeen}
+use Rattle.simulator.specs.StepLaws.{Carries, StepsAreSeen}
 use Rattle.simulator.specs.Steps.{alert_level, idle_ticks, IsStepOf}
 use Rattle.facts.specs.declared.rule.Rule.TheVariants.{K1}
 use Rattle.facts.specs.Sets.{empty}
@@ -58,7 +58,7 @@ pub record Laws : Type 0 where
 -- a step as it is seen
 record SeenStep (b : Board) (o : Option Asked) (m : Machine) (a : Answered)
     (e : Entry) : Type 0 where
-  pub sees : Sees m.bus o a e
+  pub carries : Carries m.bus o a e
   pub does : StepDoes b m.bus o a e
 
 seen_step : Laws
@@ -70,9 +70,9 @@ seen_step laws b p i row m h a e next k step =
     let seen = laws.steps b p m next a e k.board k.program k.ready
     (record { running = k.running; instr = i; here = k.here; step = step }) in
     let same : seen.instr ≡ i = same_at p m.place seen.instr i seen.here k.here in
-    let P : Instr → Type 0 = λ x. Sees m.bus (message_of b x m.regs) a e in
+    let P : Instr → Type 0 = λ x. Carries m.bus (message_of b x m.regs) a e in
     let Q : Instr → Type 0 = λ x. StepDoes b m.bus (message_of b x m.regs) a e in
-    record { sees = subst P same seen.sees; does = subst Q same seen.does }
+    record { carries = subst P same seen.carries; does = subst Q same seen.does }
 
 is_instr : (b : Board) (p : List Instr) (i : Instr) (row : Row) (m : Machine) (h : List Entry)
     → Stands b p i row m h → IsInstr i
@@ -92,7 +92,7 @@ request_sound laws b p i row m h a e next target otherwise r k q step =
     let is : message_of b i m.regs ≡ Some msg = q.asks
     ∙ ap (option_map (λ (t : Target). asked t m.regs r)) first.at in
     let A : Option Asked → Type 0 = λ o. IsStepOf b i o m a e next in
-    let S : Option Asked → Type 0 = λ o. Sees m.bus o a e in
+    let S : Option Asked → Type 0 = λ o. Carries m.bus o a e in
     let D : Option Asked → Type 0 = λ o. StepDoes b m.bus o a e in
     let by : IsStepOf b i (Some msg) m a e next = subst A is step in
     let o = outcome_of (Some msg) a in
@@ -106,7 +106,7 @@ request_sound laws b p i row m h a e next target otherwise r k q step =
       duty = duty;
       fits = by.fits;
       after = by.bus;
-      sees = subst S is seen.sees;
+      carries = subst S is seen.carries;
       does = subst D is seen.does;
       regs = ap (λ (z : Machine). z.regs) by.next_is ∙ moved_regs i r msg o next.bus m q.result;
       counters = ap (λ (z : Machine). z.counters) by.next_is ∙ moved_counters i msg o next.bus m;
@@ -117,7 +117,7 @@ request_sound laws b p i row m h a e next target otherwise r k q step =
     request_ticks b row h m next target t r otherwise a e k' in
     let ticks : e.ticks ≡ length e.samples = step_ticks b i (Some msg) m a e next by in
     record {
-      safe = safe_message laws.frames b h m.bus msg a e k'.sees k'.does
+      safe = safe_message laws.frames b h m.bus msg a e k'.carries k'.does
           (request_is_safe b row h m next target t r a e k');
       ticks = omega (arith, worst, few, ticks);
       goes = inr (
@@ -153,7 +153,7 @@ alert_sound laws b p r l row m h a e next k step =
       small = is_instr b p (instr.Alert r l) row m h k;
       fits = step.fits;
       after = step.bus;
-      sees = seen.sees;
+      carries = seen.carries;
       does = seen.does;
       done = λ v is. (
         place ∙ ap (place_after (instr.Alert r l) m.place) is,
@@ -171,7 +171,7 @@ alert_sound laws b p r l row m h a e next k step =
     step in
     record {
       safe =
-          safe_message laws.frames b h m.bus alert_message a e k'.sees k'.does
+          safe_message laws.frames b h m.bus alert_message a e k'.carries k'.does
           (alert_is_safe b h m.bus a);
       ticks = omega (arith, few, ticks);
       goes = inr (
@@ -209,7 +209,7 @@ silence : Laws → (b : Board) (i : Instr) (m : Machine) (h : List Entry) (a : A
     → IsStepOf b i None m a e next
     → Silence b i m h e next
 silence laws b i m h a e next belongs seen step = record {
-  safe = safe_silence laws.frames b h m.bus a e seen.sees seen.does;
+  safe = safe_silence laws.frames b h m.bus a e seen.carries seen.does;
   ticks = ap (λ (x : Entry). x.ticks) step.entry_is
       ∙ (laws.idle (alert_level m.bus) (suc (idle_ticks i))).count;
   changes = silent_changes b m next h a e belongs step.bus seen.does;

@@ -60,10 +60,10 @@ pub request_ticks : (b : Board) (row : Row) (h : List Entry) (m next : Machine) 
     → length e.samples ≤ frame_ticks b (longest_slots b (sent i r otherwise))
 unfolding frame_ticks
 request_ticks b row h m next i t r otherwise a e k =
-    let few = k.sees.reads.few (largest_stretch b.targets) k.fits.holds in
+    let few = k.carries.reads.few (largest_stretch b.targets) k.fits.holds in
     let more : most_slots (form_in r) (length (data_in m.regs r)) (length a.bytes) *
     (3 + largest_stretch b.targets)
     ≤ most_slots (form_in r) (block_count r)
     (Range.high (lengths_at b i r)) * (3 + largest_stretch b.targets)
     = mul-le-mul_right (3 + largest_stretch b.targets) (slots_within b row h m next i t r a e k) in
-    rw k.sees.samples (omega (arith, few, more))
+    rw k.carries.samples (omega (arith, few, more))

@@ -24,7 +24,7 @@ use Rattle.seq_program.specs.Valid.{IsInstr, IsProgram, jump_in}
 use Rattle.simulator.specs.declared.machine.Ending.TheVariants.{Running}
 use Rattle.simulator.specs.Machines.{Machine, Entry, start_at}
 use Rattle.simulator.specs.Moves.{moved}
-use Rattle.simulator.specs.Steps.{IsStepOf, IsStep, entry_of as told}
+use Rattle.simulator.specs.Steps.{IsStepOf, IsStep, step_entry as told}
 use Rattle.targets.specs.Outcomes.{outcome_of}
 use Rattle.simulator.specs.SmallPrograms.{SomeClearingIsListed}
 use Rattle.simulator.specs.StepLaws.{StepsAreSeen, StartsAreReady}

@@ -3,7 +3,7 @@ use Rattle.targets.specs.States.{BusState, Belongs}
 use Rattle.targets.specs.Effects.{IsAfter}
 use Rattle.simulator.specs.Machines.{Machine}
 use Rattle.simulator.specs.Steps.{step_samples}
-use Rattle.simulator.specs.Traces.{IsSeen}
+use Rattle.simulator.specs.Traces.{HasItsFrame}
 use Rattle.simulator.proofs.Sendable.{sendable}
 use Rattle.simulator.proofs.MadeSteps.{moved_bus, outcome_if, same_entry, made_step, seen_entry}
 use Rattle.simulator.proofs.stepping.step_by.Goals as goal
@@ -51,7 +51,7 @@ returns-clause-seen c =
     c.args.instr.now c.args.last.0.regs
     (option_map (λ m. m.now) c.args.message) c.args.answer.now c.board_is_valid.ensures
     c.requires.instr c.requires.asked c.requires.fits in
-    subst IsSeen (sym entry)
+    subst HasItsFrame (sym entry)
     (seen_entry c.args.instr.now (option_map (λ m. m.now) c.args.message) c.args.answer.now
     c.args.last.0 c.reads_back.ensures.word c.slots_are_one_frame.ensures.one can)
 

@@ -16,15 +16,15 @@ returns-clause-state c =
     let a = c.args.answer.now in
     let is = c.stops_alerting-stops.ensures.board in
     let page = stored_after (WritesPage b s m a) c.deref.result.now s.page
-    c.in_ok-with_write.field-0.items c.page_write-page_write.result
+    c.in_ok-with_write.field-0.items c.register_write-page_write.result
     (c.deref.ensures.value ∙ ap (λ (s : BusState). s.page) c.state.view_is)
-    c.in_ok-with_write.ensures c.page_write-page_write.ensures.some
-    (c.page_write-page_write.ensures.only is) in
+    c.in_ok-with_write.ensures c.register_write-page_write.ensures.some
+    (c.register_write-page_write.ensures.only is) in
     let protect = stored_after (WritesProtect b s m a) c.deref-2.result.now s.protect
-    c.in_ok-with_write-2.field-0.items c.protect_write-protect_write.result
+    c.in_ok-with_write-2.field-0.items c.register_write-protect_write.result
     (c.deref-2.ensures.value ∙ ap (λ (s : BusState). s.protect) c.state.view_is)
-    c.in_ok-with_write-2.ensures c.protect_write-protect_write.ensures.some
-    (c.protect_write-protect_write.ensures.only is) in
+    c.in_ok-with_write-2.ensures c.register_write-protect_write.ensures.some
+    (c.register_write-protect_write.ensures.only is) in
     let alerting : c.state.inside.alerting ≡ s.alerting =
     ap (λ (s : BusState). s.alerting) c.state.view_is in
     let alerts : c.answer.inside.alerts ≡ a.alerts =
