@@ -1,6 +1,6 @@
 //! How many bytes and slots the frame of a message has.
 
-ghost use Rattle.std.specs.Prelude.{◌≡◌, ◌≤◌, ◌-◌, ◌^◌, ℕ, List, length, min};
+ghost use Rattle.std.specs.Prelude.{◌≡◌, ◌-◌, ◌^◌, ℕ, List, length, min};
 ghost use Rattle.smbus.specs.Protocol.{sent_count, whole};
 ghost use Rattle.smbus.specs.Parts.{first_bytes, returned_bytes};
 ghost use Rattle.smbus.specs.Slots.{slots_of};

@@ -1,6 +1,4 @@
-ghost use Rattle.std.specs.Prelude.{◌≡◌, ◌≢◌, ◌≤◌, if◌then◌else◌, ◌∷◌, ◌++◌, [], List, length};
-ghost use Rattle.std.specs.Prelude.{IfOk};
-ghost use Rattle.std.specs.Prelude.{IfErr, IsTrue, OnOk, MatchOption, MatchResult, MatchBool};
+ghost use Rattle.std.specs.Prelude.{◌≡◌, ◌≢◌, ◌++◌, List, length, IfOk, IfErr, OnOk, MatchBool};
 ghost use Rattle.smbus.specs.Shown.{Shown};
 ghost use Rattle.smbus.specs.Frames.{AreFrames, FaultIs};
 ghost use Rattle.smbus.specs.Machine.{byte_of, reading_of, risen, run, start, step};
@@ -24,24 +22,16 @@ struct Reading {
     bits: Vec<bool>,
 }
 
-fn weighed(bit: bool, weight: u8) -> u8
-    ensures value { result ≡ (if bit then weight else 0) }
-    ensures bound { result ≤ weight }
-{
-    if bit { weight } else { 0 }
-}
-
 /// Eight bits, and the ninth, which is low for an acknowledge.
 fn byte_from(bits: &[bool]) -> (u8, bool)
     requires { length bits.now ≡ 9 }
     ensures { result ≡ byte_of bits.now }
 {
-    let high = weighed(bits[0], 128)
-        + weighed(bits[1], 64)
-        + weighed(bits[2], 32)
-        + weighed(bits[3], 16);
-    let low = weighed(bits[4], 8) + weighed(bits[5], 4) + weighed(bits[6], 2) + weighed(bits[7], 1);
-    (high + low, !bits[8])
+    let mut byte = 0;
+    for bit in &bits[..8] {
+        byte = 2 * byte + u8::from(*bit);
+    }
+    (byte, !bits[8])
 }
 
 impl Reading {

@@ -1,4 +1,4 @@
-ghost use Rattle.std.specs.Prelude.{◌≡◌, ◌<◌, ◌^◌, ◌++◌, ◌↔◌, false, is_none, length, take};
+ghost use Rattle.std.specs.Prelude.{◌≡◌, ◌<◌, ◌++◌, ◌↔◌, false, is_none, length, take};
 ghost use Rattle.std.specs.Prelude.{slice_index, IfOk, OnOk, IfSome, IfNone, IsTrue, IsErrOf};
 ghost use Rattle.smbus.specs.Protocol.{sent, got, byte_marks, marks_of, HasLength, AreGoodCounts};
 ghost use Rattle.smbus.specs.Protocol.{low, high, sent_count, whole, IsNumbered};
@@ -66,17 +66,11 @@ fn returned_bytes(
 fn push_byte(slots: &mut Vec<Slot>, byte: u8, acknowledged: bool) -> Result<(), AllocError>
     ensures { OnOk result (slots.new.items ≡ slots.old.items ++ byte_marks byte acknowledged) }
 {
-    slots.extend_from_slice(&[
-        Slot::Bit(byte / 128 % 2 == 1),
-        Slot::Bit(byte / 64 % 2 == 1),
-        Slot::Bit(byte / 32 % 2 == 1),
-        Slot::Bit(byte / 16 % 2 == 1),
-        Slot::Bit(byte / 8 % 2 == 1),
-        Slot::Bit(byte / 4 % 2 == 1),
-        Slot::Bit(byte / 2 % 2 == 1),
-        Slot::Bit(byte / 1 % 2 == 1),
-        Slot::Bit(!acknowledged),
-    ])
+    for place in (0..8u8).rev() {
+        slots.push(Slot::Bit(byte >> place & 1 == 1))?;
+    }
+    slots.push(Slot::Bit(!acknowledged))?;
+    Ok(())
 }
 
 fn push_sent(slots: &mut Vec<Slot>, bytes: &[u8]) -> Result<(), AllocError>
