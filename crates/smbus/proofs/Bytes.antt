@@ -1,21 +1,38 @@
 -- A byte and its bits.
 use Rattle.std.proofs.Common.{◌≡◌, ℕ, zero, suc, ◌+◌, ◌-◌, ◌*◌, ◌/◌, ◌%◌, ◌^◌, ◌<◌, ◌≤◌, ◌==◌, inl}
 use Rattle.std.proofs.Common.{inr, Bool, true, false, not, if◌then◌else◌, List, [], ◌∷◌, ◌++◌}
-use Rattle.std.proofs.Common.{length, take, get_or, refl, sym, ap, ◌∙◌, arith}
+use Rattle.std.proofs.Common.{length, take, drop, get_or, refl, sym, ap, ◌∙◌, append_assoc, arith}
 use Rattle.std.proofs.lemmas.Bool.{cases_Bool, eqb-true}
 use Rattle.std.proofs.lemmas.Bool.Decides.{nat_tests}
-use Rattle.std.proofs.lemmas.List.{length-take, take_more, take_all}
+use Rattle.std.proofs.lemmas.List.{length-take, take_more, take_all, at_drop_more, at_drop_all}
 use Rattle.std.proofs.lemmas.Nat.{mod-pow-add, mod_below}
 use Rattle.std.proofs.lemmas.Nat.Bits.{bit_at_cat_low, bit_at_cat_high}
 use native.Mathlib.Numerals.{unary_clauses}
+use mir.Val.{bool_byte}
 use Rattle.std.specs.Int.{bit_at}
 use Rattle.wires.specs.Bits.{bit, bits_of, number_of}
+use Rattle.bit_bus.specs.declared.plan.Slot.{Slot}
+use Rattle.bit_bus.specs.declared.plan.Slot.TheVariants.{Bit}
 use Rattle.smbus.specs.Frames.{byte_bits}
+use Rattle.smbus.specs.Protocol.{bit_marks}
 use Rattle.smbus.specs.Machine.{byte_of}
 
 pub length-bits_of : (k n : ℕ) → length (bits_of k n) ≡ k
 length-bits_of zero n = refl
 length-bits_of (suc k) n = ap suc (length-bits_of k n)
+
+-- the bits of a byte are pushed from the most significant on
+pub next_bit : (places n : ℕ) (b : Bool) (old now all : List Slot) → 0 < places
+    → b ≡ bit n (places - 1) → now ≡ old ++ Bit b ∷ []
+    → old ++ bit_marks (bits_of places n) ≡ all
+    → now ++ bit_marks (bits_of (places - 1) n) ≡ all
+next_bit zero n b old now all lt is pushed same = absurd (omega arith)
+next_bit (suc k) n b old now all lt is pushed same =
+    let e : suc k - 1 ≡ k = omega arith in
+    let is' : b ≡ bit n k = rw e at is in
+    let marks : List Slot = bit_marks (bits_of k n) in
+    rw e (ap (λ (l : List Slot). l ++ marks) pushed ∙ append_assoc old (Bit b ∷ []) marks
+    ∙ ap (λ (x : Bool). old ++ Bit x ∷ marks) is' ∙ same)
 
 top : (n k : ℕ) → n % 2 ^ suc k ≡ (n / 2 ^ k % 2) * 2 ^ k + n % 2 ^ k
 top n k = let e : suc k ≡ 1 + k = omega arith in rw e (mod-pow-add n 1 k)
@@ -125,22 +142,55 @@ byte_of-lt bits e =
     let h : number_of (take 8 bits) < 2 ^ 8 = rw l at (number_of-lt (take 8 bits)) in
     h
 
-abbrev pub weighed : Bool → ℕ → ℕ
-weighed b n = if b then n else 0
+pub bit_byte : (b : Bool) → bool_byte b ≡ (if b then 1 else 0)
+bit_byte true = refl
+bit_byte false = refl
 
-pub number_of-nine : (bits : List Bool) → length bits ≡ 9
-    → weighed (get_or bits 0 false) 128 + weighed (get_or bits 1 false) 64
-    + weighed (get_or bits 2 false) 32 + weighed (get_or bits 3 false) 16
-    + (weighed (get_or bits 4 false) 8 + weighed (get_or bits 5 false) 4
-    + weighed (get_or bits 6 false) 2 + weighed (get_or bits 7 false) 1)
-    ≡ number_of (take 8 bits)
-number_of-nine [] e = cc
-number_of-nine (a ∷ []) e = absurd (omega arith)
-number_of-nine (a ∷ b ∷ []) e = absurd (omega arith)
-number_of-nine (a ∷ b ∷ c ∷ []) e = absurd (omega arith)
-number_of-nine (a ∷ b ∷ c ∷ d ∷ []) e = absurd (omega arith)
-number_of-nine (a ∷ b ∷ c ∷ d ∷ f ∷ []) e = absurd (omega arith)
-number_of-nine (a ∷ b ∷ c ∷ d ∷ f ∷ g ∷ []) e = absurd (omega arith)
-number_of-nine (a ∷ b ∷ c ∷ d ∷ f ∷ g ∷ h ∷ []) e = absurd (omega arith)
-number_of-nine (a ∷ b ∷ c ∷ d ∷ f ∷ g ∷ h ∷ i ∷ []) e = absurd (omega arith)
-number_of-nine (a ∷ b ∷ c ∷ d ∷ f ∷ g ∷ h ∷ i ∷ j ∷ more) e = omega arith
+-- a number that grows by each bit
+abbrev pub number_from : ℕ → List Bool → ℕ
+number_from n [] = n
+number_from n (b ∷ bits) = number_from (2 * n + (if b then 1 else 0)) bits
+
+number_from-is : (n : ℕ) (bits : List Bool)
+    → number_from n bits ≡ n * 2 ^ length bits + number_of bits
+number_from-is n [] = omega arith
+number_from-is n (true ∷ bits) =
+    let h = number_from-is (2 * n + 1) bits in
+    let p : 2 ^ suc (length bits) ≡ 2 ^ length bits * 2 = simp unary_clauses in
+    let m : (2 * n + 1) * 2 ^ length bits ≡ n * (2 ^ length bits * 2) + 2 ^ length bits =
+    omega arith in
+    rw p (omega arith)
+number_from-is n (false ∷ bits) =
+    let h = number_from-is (2 * n + 0) bits in
+    let p : 2 ^ suc (length bits) ≡ 2 ^ length bits * 2 = simp unary_clauses in
+    let m : (2 * n + 0) * 2 ^ length bits ≡ n * (2 ^ length bits * 2) = omega arith in
+    rw p (omega arith)
+
+pub number_from-zero : (bits : List Bool) → number_from 0 bits ≡ number_of bits
+number_from-zero bits = let h = number_from-is 0 bits in omega arith
+
+-- it never falls
+pub number_from-grows : (n : ℕ) (bits : List Bool) → n ≤ number_from n bits
+number_from-grows n [] = omega arith
+number_from-grows n (true ∷ bits) = let h = number_from-grows (2 * n + 1) bits in omega arith
+number_from-grows n (false ∷ bits) = let h = number_from-grows (2 * n + 0) bits in omega arith
+
+pub number_from-next : (n i : ℕ) (bits : List Bool) (all : ℕ) → i < length bits
+    → number_from n (drop i bits) ≡ all
+    → number_from (2 * n + (if get_or bits i false then 1 else 0)) (drop (i + 1) bits) ≡ all
+number_from-next n i bits all lt e = sym (at_drop_more (number_from n) bits i false lt) ∙ e
+
+pub number_from-end : (n i : ℕ) (bits : List Bool) (all : ℕ) → length bits ≤ i
+    → number_from n (drop i bits) ≡ all → n ≡ all
+number_from-end n i bits all le e = sym (at_drop_all (number_from n) bits i le) ∙ e
+
+pub number_from-fits : (n i : ℕ) (bits : List Bool) → length bits ≡ 9 → i < length (take 8 bits)
+    → number_from n (drop i (take 8 bits)) ≡ number_of (take 8 bits)
+    → 2 * n + (if get_or (take 8 bits) i false then 1 else 0) < 256
+number_from-fits n i bits nine lt e =
+    let next = number_from-next n i (take 8 bits) (number_of (take 8 bits)) lt e in
+    let grows = number_from-grows (2 * n + (if get_or (take 8 bits) i false then 1 else 0))
+    (drop (i + 1) (take 8 bits)) in
+    let l : length (take 8 bits) ≡ 8 = simp length-take (omega arith) in
+    let h : number_of (take 8 bits) < 2 ^ 8 = rw l at (number_of-lt (take 8 bits)) in
+    omega arith

@@ -11,7 +11,7 @@ use Rattle.smbus.specs.Protocol.Piece.{Got}
 use Rattle.smbus.specs.Parts.{first_bytes, has_repeat, returned_bytes}
 use Rattle.smbus.specs.Slots.{slots_of, marks_sent}
 use Rattle.smbus.proofs.MarkCounts.{mark_count, length-marks_of}
-use Rattle.smbus.proofs.PartsOfFrames.{repeat_of, repeats_count, parts_of, sent_count-parts}
+use Rattle.smbus.proofs.PartsOfFrames.{repeat_of, repeats_count, whole_parts, sent_count-parts}
 use Rattle.smbus.specs.Counts.{controller_count, bytes_up_to, slots_for, slot_count}
 
 same_repeats : (r : Bool) → repeats_count r ≡ (if r then 1 else 0)
@@ -172,6 +172,6 @@ slots_counted m a =
     ≡ mark_count (up_to_refused a.refuse pieces)
     =
     ap (λ (l : List Piece). mark_count (up_to_refused a.refuse l))
-    (parts_of m.form m.address m.code m.out a.value a.bytes) in
+    (whole_parts m.form m.address m.code m.out a.value a.bytes) in
     let count = slots_up_to a.refuse (first_bytes m) (has_repeat m.form) m.address returned in
     omega arith

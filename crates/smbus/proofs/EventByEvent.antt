@@ -603,14 +603,3 @@ stops s front b o e low =
 pub stays : (s : State) (front : List Bool) (b : Bool) → s.is_open ≡ true → s.bits ≡ front ++ b ∷ []
     → b ≡ true → step s Stop ≡ None
 stays s front b o e high = rw (o, e, high, ends_low-push front true) refl
-
-pub closes : (s : State) (front : List Bool) (new : List Shown) (segments : Segments)
-    (bytes : List (ℕ × Bool)) (bits : List Bool)
-    → new ≡ s.frames ++ record { segments = segments; tail = bits } ∷ []
-    → segments ≡ s.segments ++ bytes ∷ [] → bytes ≡ s.bytes → bits ≡ front
-    → (a : Segments) (b : List (ℕ × Bool)) (c : List Bool) → a ≡ [] → b ≡ [] → c ≡ []
-    → let left : Option State = Some
-    (closed (s.frames ++ record { segments = s.segments ++ s.bytes ∷ []; tail = front } ∷ [])) in
-    left ≡ Some (state new false a b c)
-closes s front new segments bytes bits n se by bi a b c ea eb ec =
-    rw (n, se, by, bi, ea, eb, ec) refl

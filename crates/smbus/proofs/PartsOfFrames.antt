@@ -25,24 +25,24 @@ abbrev pub repeat_of : Bool → ℕ → List Piece
 repeat_of true a = Repeat ∷ Sent (2 * a + 1) ∷ []
 repeat_of false a = []
 
-pub parts_of : (form : Form) (a code : ℕ) (out : List ℕ) (value : ℕ) (block : List ℕ)
+pub whole_parts : (form : Form) (a code : ℕ) (out : List ℕ) (value : ℕ) (block : List ℕ)
     → whole_of form a code out value block ≡ sent (first_bytes_of form a code out)
     ++ (repeat_of (has_repeat form) a ++ got (returned_bytes form value block))
-parts_of (Quick is_read) a code out value block = refl
-parts_of SendByte a code out value block = refl
-parts_of ReceiveByte a code out value block = refl
-parts_of WriteByte a code out value block =
+whole_parts (Quick is_read) a code out value block = refl
+whole_parts SendByte a code out value block = refl
+whole_parts ReceiveByte a code out value block = refl
+whole_parts WriteByte a code out value block =
     sym (append-nil (sent (first_bytes_of WriteByte a code out)))
-parts_of WriteWord a code out value block =
+whole_parts WriteWord a code out value block =
     sym (append-nil (sent (first_bytes_of WriteWord a code out)))
-parts_of ReadByte a code out value block = refl
-parts_of ReadWord a code out value block = refl
-parts_of ProcessCall a code out value block = refl
-parts_of BlockWrite a code out value block =
+whole_parts ReadByte a code out value block = refl
+whole_parts ReadWord a code out value block = refl
+whole_parts ProcessCall a code out value block = refl
+whole_parts BlockWrite a code out value block =
     sym (append-nil (sent (first_bytes_of BlockWrite a code out)))
-parts_of BlockRead a code out value block = refl
-parts_of BlockProcessCall a code out value block = refl
-parts_of Alert a code out value block = refl
+whole_parts BlockRead a code out value block = refl
+whole_parts BlockProcessCall a code out value block = refl
+whole_parts Alert a code out value block = refl
 
 -- a refusal among the first bytes
 refused_first : (n : ℕ) (bytes : List ℕ) (later : List Piece) → n < length bytes
@@ -82,7 +82,7 @@ sent_count-repeat false a bytes = sent_count-got bytes
 pub sent_count-parts : (m : Asked) (value : ℕ) (block : List ℕ)
     → sent_count (whole m value block) ≡ length (first_bytes m) + repeats_count (has_repeat m.form)
 sent_count-parts m value block =
-    ap sent_count (parts_of m.form m.address m.code m.out value block)
+    ap sent_count (whole_parts m.form m.address m.code m.out value block)
     ∙ sent_count-sent (first_bytes m)
     (repeat_of (has_repeat m.form) m.address ++ got (returned_bytes m.form value block))
     ∙ ap (λ (n : ℕ). length (first_bytes m) + n)
@@ -96,7 +96,7 @@ marks-parts : (m : Asked) (value : ℕ) (block : List ℕ) (repeats : Bool)
     → whole m value block ≡ sent (first_bytes m)
     ++ (repeat_of repeats m.address ++ got (returned_bytes m.form value block))
 marks-parts m value block repeats e =
-    parts_of m.form m.address m.code m.out value block
+    whole_parts m.form m.address m.code m.out value block
     ∙ ap (λ (r : Bool).
     sent (first_bytes m) ++ (repeat_of r m.address ++ got (returned_bytes m.form value block))) e
 
@@ -151,7 +151,7 @@ pub rest_is : (m : Asked) (refuse : Option ℕ) (value : ℕ) (block : List ℕ)
     → up_to_refused refuse (whole m value block) ≡ sent (first_bytes m)
     ++ rest_of (has_repeat m.form) (is_none refuse) m.address (returned_bytes m.form value block)
 rest_is m None value block lt ge =
-    parts_of m.form m.address m.code m.out value block
+    whole_parts m.form m.address m.code m.out value block
     ∙ ap (λ (l : List Piece). sent (first_bytes m) ++ l)
     (whole_rest (has_repeat m.form) m.address (returned_bytes m.form value block))
 rest_is m (Some n) value block lt ge = by_rest m n value block (has_repeat m.form) refl ge lt

@@ -1,10 +1,12 @@
 -- Reading event by event. Nothing public cites this: `Frames` says what is read.
 use Rattle.std.specs.Prelude.{ℕ, ◌==◌, Bool, true, false, not, if◌then◌else◌, Option, Some, None}
-use Rattle.std.specs.Prelude.{List, [], ◌∷◌, ◌++◌, take, length, slice_index_or}
+use Rattle.std.specs.Prelude.{is_some, option_map, unwrap_or, List, [], ◌∷◌, ◌++◌, take, length}
+use Rattle.std.specs.Prelude.{slice_index_or}
 use Rattle.wires.specs.declared.event.Event.{Event}
 use Rattle.wires.specs.declared.event.Event.TheVariants.{Start, Stop, Rise}
 use Rattle.wires.specs.Bits.{number_of}
 use Rattle.smbus.specs.Shown.{Shown}
+use Rattle.smbus.specs.declared.observing.OpenFrame.{OpenFrame}
 use Rattle.smbus.specs.declared.observing.Reading.{Reading}
 
 unfoldable pub byte_of : List Bool → ℕ × Bool
@@ -19,14 +21,21 @@ pub record State : Type 0 where
   pub bytes : List (ℕ × Bool)
   pub bits : List Bool
 
-abbrev pub reading_of : Reading → State
-reading_of r = record {
-  frames = r.frames.items;
-  is_open = r.is_open;
-  segments = r.segments.items;
-  bytes = r.bytes.items;
-  bits = r.bits.items;
+-- where no frame has begun, nothing stands behind the frames
+abbrev pub state_of : List Shown → Option OpenFrame → State
+state_of frames begun = record {
+  frames = frames;
+  is_open = is_some begun;
+  segments = unwrap_or (option_map (λ f. f.segments.items) begun) [];
+  bytes = unwrap_or (option_map (λ f. f.bytes.items) begun) [];
+  bits = unwrap_or (option_map (λ f. f.bits.items) begun) [];
 }
+
+abbrev pub reading_of : Reading → State
+reading_of r = state_of r.frames.items r.open_frame
+
+abbrev pub opened : List Shown → State
+opened frames = record { frames = frames; is_open = true; segments = []; bytes = []; bits = [] }
 
 abbrev pub grown : State → State
 grown s = record {

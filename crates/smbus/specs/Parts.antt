@@ -8,46 +8,67 @@ use Rattle.smbus.specs.declared.message.Form.TheVariants.{Quick, SendByte, Recei
 use Rattle.smbus.specs.declared.message.Form.TheVariants.{WriteWord, ReadByte, ReadWord}
 use Rattle.smbus.specs.declared.message.Form.TheVariants.{ProcessCall, BlockWrite, BlockRead}
 use Rattle.smbus.specs.declared.message.Form.TheVariants.{BlockProcessCall, Alert}
+use Rattle.smbus.specs.declared.parts.Parts.{Parts}
+use Rattle.smbus.specs.declared.parts.Written.{Written}
+use Rattle.smbus.specs.declared.parts.Written.TheVariants as written
+use Rattle.smbus.specs.declared.parts.Returned.{Returned}
+use Rattle.smbus.specs.declared.parts.Returned.TheVariants as returned
 use Rattle.smbus.specs.Asked.{Asked}
 use Rattle.smbus.specs.Protocol.{Piece, low, high, direction_bit, got}
 use Rattle.smbus.specs.Protocol.Piece.{Sent, Refused, Repeat}
 
+abbrev parts : Written → Returned → Parts
+parts before after = record { written = before; returned = after }
+
+-- the frame of each form
+abbrev pub parts_of : Form → Parts
+parts_of (Quick is_read) = parts (written.Nothing is_read) returned.Nothing
+parts_of SendByte = parts written.Code returned.Nothing
+parts_of ReceiveByte = parts (written.Nothing true) returned.Byte
+parts_of WriteByte = parts (written.Data 1) returned.Nothing
+parts_of WriteWord = parts (written.Data 2) returned.Nothing
+parts_of ReadByte = parts written.Code returned.Byte
+parts_of ReadWord = parts written.Code returned.Word
+parts_of ProcessCall = parts (written.Data 2) returned.Word
+parts_of BlockWrite = parts written.Block returned.Nothing
+parts_of BlockRead = parts written.Code returned.Block
+parts_of BlockProcessCall = parts written.Block returned.Block
+parts_of Alert = parts (written.Nothing true) returned.Byte
+
 -- the bytes of the controller up to the repeated START, or all of them
+abbrev pub written_bytes : Written → ℕ → ℕ → List ℕ → List ℕ
+written_bytes (written.Nothing is_read) a code out = (2 * a + direction_bit is_read) ∷ []
+written_bytes written.Code a code out = (2 * a) ∷ code ∷ []
+written_bytes (written.Data count) a code out = (2 * a) ∷ code ∷ out
+written_bytes written.Block a code out = (2 * a) ∷ code ∷ length out ∷ out
+
 abbrev pub first_bytes_of : Form → ℕ → ℕ → List ℕ → List ℕ
-first_bytes_of (Quick is_read) a code out = (2 * a + direction_bit is_read) ∷ []
-first_bytes_of SendByte a code out = (2 * a) ∷ code ∷ []
-first_bytes_of ReceiveByte a code out = (2 * a + 1) ∷ []
-first_bytes_of WriteByte a code out = (2 * a) ∷ code ∷ out
-first_bytes_of WriteWord a code out = (2 * a) ∷ code ∷ out
-first_bytes_of ReadByte a code out = (2 * a) ∷ code ∷ []
-first_bytes_of ReadWord a code out = (2 * a) ∷ code ∷ []
-first_bytes_of ProcessCall a code out = (2 * a) ∷ code ∷ out
-first_bytes_of BlockWrite a code out = (2 * a) ∷ code ∷ length out ∷ out
-first_bytes_of BlockRead a code out = (2 * a) ∷ code ∷ []
-first_bytes_of BlockProcessCall a code out = (2 * a) ∷ code ∷ length out ∷ out
-first_bytes_of Alert a code out = (2 * a + 1) ∷ []
+first_bytes_of form a code out = written_bytes (parts_of form).written a code out
 
 abbrev pub first_bytes : Asked → List ℕ
 first_bytes m = first_bytes_of m.form m.address m.code m.out
 
+-- between what is written and what is returned
+abbrev pub is_between : Written → Returned → Bool
+is_between (written.Nothing is_read) after = false
+is_between before returned.Nothing = false
+is_between before after = true
+
+abbrev pub has_repeat_of : Parts → Bool
+has_repeat_of p = is_between p.written p.returned
+
 abbrev pub has_repeat : Form → Bool
-has_repeat ReadByte = true
-has_repeat ReadWord = true
-has_repeat ProcessCall = true
-has_repeat BlockRead = true
-has_repeat BlockProcessCall = true
-has_repeat form = false
+has_repeat form = has_repeat_of (parts_of form)
 
 -- the bytes of a target
+abbrev pub bytes_back : Returned → ℕ → List ℕ → List ℕ
+bytes_back returned.Nothing value block = []
+bytes_back returned.Byte value block = low value ∷ []
+bytes_back returned.Word value block = low value ∷ high value ∷ []
+bytes_back returned.Block value block = length block ∷ block
+
 abbrev pub returned_bytes : Form → ℕ → List ℕ → List ℕ
-returned_bytes ReceiveByte value block = low value ∷ []
-returned_bytes ReadByte value block = low value ∷ []
-returned_bytes ReadWord value block = low value ∷ high value ∷ []
-returned_bytes ProcessCall value block = low value ∷ high value ∷ []
-returned_bytes BlockRead value block = length block ∷ block
-returned_bytes BlockProcessCall value block = length block ∷ block
-returned_bytes Alert value block = low value ∷ []
-returned_bytes form value block = []
+returned_bytes form value block = bytes_back (parts_of form).returned value block
 
 -- the refusal, if any, is of a byte after so many
 abbrev pub IsAfter : Option ℕ → ℕ → Type 0

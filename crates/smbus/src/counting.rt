@@ -1,6 +1,6 @@
 //! How many bytes and slots the frame of a message has.
 
-ghost use Rattle.std.specs.Prelude.{◌≡◌, ◌≤◌, ◌-◌, ◌^◌, ℕ, List, length, min};
+ghost use Rattle.std.specs.Prelude.{◌≡◌, ◌-◌, ◌^◌, ℕ, List, length, min};
 ghost use Rattle.smbus.specs.Protocol.{sent_count, whole};
 ghost use Rattle.smbus.specs.Parts.{first_bytes, returned_bytes};
 ghost use Rattle.smbus.specs.Slots.{slots_of};
@@ -8,17 +8,17 @@ ghost use Rattle.smbus.specs.SlotCounts.{most_slots};
 ghost use Rattle.smbus.specs.Counts.{repeat_count, controller_count, byte_count};
 
 use crate::message::{Answer, Form, Message};
-use crate::slots::has_repeat;
+use crate::parts::{Returned, Written, parts_of};
 
 /// How many bytes the controller sends before a repeated START, or in all.
 fn first_count(message: &Message) -> usize
     ensures { result ≡ length (first_bytes message.now) }
 {
-    match message.form {
-        Form::Quick(_) | Form::ReceiveByte | Form::Alert => 1,
-        Form::SendByte | Form::ReadByte | Form::ReadWord | Form::BlockRead => 2,
-        Form::WriteByte | Form::WriteWord | Form::ProcessCall => message.out.len() + 2,
-        Form::BlockWrite | Form::BlockProcessCall => message.out.len() + 3,
+    match parts_of(message.form).written {
+        Written::Nothing(_) => 1,
+        Written::Code => 2,
+        Written::Data(_) => message.out.len() + 2,
+        Written::Block => message.out.len() + 3,
     }
 }
 
@@ -26,18 +26,18 @@ fn first_count(message: &Message) -> usize
 fn repeat_count(form: Form) -> usize
     ensures { result ≡ repeat_count form }
 {
-    usize::from(has_repeat(form))
+    usize::from(parts_of(form).has_repeat())
 }
 
 /// How many bytes the target sends.
 fn returned_count(message: &Message, answer: &Answer) -> usize
     ensures { result ≡ length (returned_bytes message.now.form answer.now.value answer.now.bytes) }
 {
-    match message.form {
-        Form::ReceiveByte | Form::ReadByte | Form::Alert => 1,
-        Form::ReadWord | Form::ProcessCall => 2,
-        Form::BlockRead | Form::BlockProcessCall => answer.bytes.len() + 1,
-        _ => 0,
+    match parts_of(message.form).returned {
+        Returned::Nothing => 0,
+        Returned::Byte => 1,
+        Returned::Word => 2,
+        Returned::Block => answer.bytes.len() + 1,
     }
 }
 

@@ -9,6 +9,7 @@ mod law;
 mod message;
 mod observer;
 mod observing;
+mod parts;
 mod slots;
 mod text;
 mod word;

@@ -1,9 +1,8 @@
-ghost use Rattle.std.specs.Prelude.{◌≡◌, ◌≢◌, ◌≤◌, if◌then◌else◌, ◌∷◌, ◌++◌, [], List, length};
-ghost use Rattle.std.specs.Prelude.{IfOk};
-ghost use Rattle.std.specs.Prelude.{IfErr, IsTrue, OnOk, MatchOption, MatchResult, MatchBool};
+ghost use Rattle.std.specs.Prelude.{◌≡◌, ◌≢◌, ◌++◌, ◌∷◌, [], List, length};
+ghost use Rattle.std.specs.Prelude.{IfOk, IfErr, OnOk, MatchBool, MatchOption};
 ghost use Rattle.smbus.specs.Shown.{Shown};
 ghost use Rattle.smbus.specs.Frames.{AreFrames, FaultIs};
-ghost use Rattle.smbus.specs.Machine.{byte_of, reading_of, risen, run, start, step};
+ghost use Rattle.smbus.specs.Machine.{byte_of, state_of, reading_of, opened, risen, run, start, step};
 ghost use Rattle.smbus.specs.Control.{control_after};
 ghost use Rattle.smbus.specs.declared.control.Control.TheVariants.{Free};
 ghost use Rattle.smbus.specs.declared.fault.ObserveFault.TheVariants.{Memory};
@@ -14,21 +13,20 @@ use std::alloc::{AllocError, Global};
 use std::mem;
 use wires::Event;
 
-/// What was read so far: the frames, and the beginning of the next.
+/// The beginning of a frame: its segments before the last, and of the last one the bytes and the
+/// bits after them.
 #[derive(Drop)]
-struct Reading {
-    frames: Vec<Frame>,
-    is_open: bool,
+struct OpenFrame {
     segments: Vec<Segment>,
     bytes: Vec<(u8, bool)>,
     bits: Vec<bool>,
 }
 
-fn weighed(bit: bool, weight: u8) -> u8
-    ensures value { result ≡ (if bit then weight else 0) }
-    ensures bound { result ≤ weight }
-{
-    if bit { weight } else { 0 }
+/// What was read so far.
+#[derive(Drop)]
+struct Reading {
+    frames: Vec<Frame>,
+    open_frame: Option<OpenFrame>,
 }
 
 /// Eight bits, and the ninth, which is low for an acknowledge.
@@ -36,21 +34,18 @@ fn byte_from(bits: &[bool]) -> (u8, bool)
     requires { length bits.now ≡ 9 }
     ensures { result ≡ byte_of bits.now }
 {
-    let high = weighed(bits[0], 128)
-        + weighed(bits[1], 64)
-        + weighed(bits[2], 32)
-        + weighed(bits[3], 16);
-    let low = weighed(bits[4], 8) + weighed(bits[5], 4) + weighed(bits[6], 2) + weighed(bits[7], 1);
-    (high + low, !bits[8])
+    let mut byte = 0;
+    for bit in &bits[..8] {
+        byte = 2 * byte + u8::from(*bit);
+    }
+    (byte, !bits[8])
 }
 
-impl Reading {
-    fn new(alloc: Global) -> Reading
-        ensures { reading_of result ≡ start }
+impl OpenFrame {
+    fn new(alloc: Global) -> OpenFrame
+        ensures { (frames : List Shown) → state_of frames (Some result) ≡ opened frames }
     {
-        Reading {
-            frames: Vec::new(alloc),
-            is_open: false,
+        OpenFrame {
             segments: Vec::new(alloc),
             bytes: Vec::new(alloc),
             bits: Vec::new(alloc),
@@ -58,7 +53,8 @@ impl Reading {
     }
 
     fn rise(&mut self, bit: bool) -> Result<(), AllocError>
-        ensures { OnOk result (reading_of self.new ≡ risen bit (reading_of self.old)) }
+        ensures { OnOk result ((frames : List Shown) → state_of frames (Some self.new)
+            ≡ risen bit (state_of frames (Some self.old))) }
     {
         if self.bits.len() == 9 {
             let byte = byte_from(&self.bits);
@@ -69,14 +65,13 @@ impl Reading {
         Ok(())
     }
 
-    fn start(&mut self, alloc: Global) -> Result<bool, AllocError>
-        ensures { IfOk result (λ taken. MatchBool taken (step (reading_of self.old) Event.Start
-            ≡ Some (reading_of self.new)) (step (reading_of self.old) Event.Start ≡ None)) }
+    /// Takes a repeated START, and answers whether one may stand here.
+    fn start_again(&mut self, alloc: Global) -> Result<bool, AllocError>
+        ensures { IfOk result (λ taken. (frames : List Shown) → MatchBool taken
+            (step (state_of frames (Some self.old)) Event.Start
+            ≡ Some (state_of frames (Some self.new)))
+            (step (state_of frames (Some self.old)) Event.Start ≡ None)) }
     {
-        if !self.is_open {
-            self.is_open = true;
-            return Ok(true);
-        }
         if self.bits.len() != 1 {
             return Ok(false);
         }
@@ -85,29 +80,54 @@ impl Reading {
         }
         let bytes = mem::replace(&mut self.bytes, Vec::new(alloc));
         self.segments.push(Segment { bytes })?;
-        self.bits = Vec::new(alloc);
+        self.bits.clear();
         Ok(true)
     }
 
-    fn stop(&mut self, alloc: Global) -> Result<bool, AllocError>
+    /// The frame that a STOP ends, if one may stand here.
+    fn ended(self) -> Result<Option<Frame>, AllocError>
+        ensures { IfOk result (λ frame. (frames : List Shown) → MatchOption frame
+            (step (state_of frames (Some self)) Event.Stop ≡ None)
+            (λ frame. step (state_of frames (Some self)) Event.Stop
+            ≡ Some (state_of (frames ++ frame ∷ []) None))) }
+    {
+        let OpenFrame {
+            mut segments,
+            bytes,
+            bits: mut tail,
+        } = self;
+        let Some(last) = tail.pop() else {
+            return Ok(None);
+        };
+        if last {
+            return Ok(None);
+        }
+        segments.push(Segment { bytes })?;
+        Ok(Some(Frame { segments, tail }))
+    }
+}
+
+impl Reading {
+    fn new(alloc: Global) -> Reading
+        ensures { reading_of result ≡ start }
+    {
+        Reading {
+            frames: Vec::new(alloc),
+            open_frame: None,
+        }
+    }
+
+    fn stop(&mut self) -> Result<bool, AllocError>
         ensures { IfOk result (λ taken. MatchBool taken (step (reading_of self.old) Event.Stop
             ≡ Some (reading_of self.new)) (step (reading_of self.old) Event.Stop ≡ None)) }
     {
-        if !self.is_open {
-            return Ok(false);
-        }
-        let Some(last) = self.bits.pop() else {
+        let Some(begun) = self.open_frame.take() else {
             return Ok(false);
         };
-        if last {
+        let Some(frame) = begun.ended()? else {
             return Ok(false);
-        }
-        let bytes = mem::replace(&mut self.bytes, Vec::new(alloc));
-        self.segments.push(Segment { bytes })?;
-        let segments = mem::replace(&mut self.segments, Vec::new(alloc));
-        let tail = mem::replace(&mut self.bits, Vec::new(alloc));
-        self.frames.push(Frame { segments, tail })?;
-        self.is_open = false;
+        };
+        self.frames.push(frame)?;
         Ok(true)
     }
 
@@ -116,15 +136,21 @@ impl Reading {
             ≡ Some (reading_of self.new)) (step (reading_of self.old) event ≡ None)) }
     {
         match event {
-            Event::Start => self.start(alloc),
-            Event::Stop => self.stop(alloc),
-            Event::Rise(bit) => {
-                if !self.is_open {
-                    return Ok(false);
+            Event::Start => match &mut self.open_frame {
+                Some(frame) => frame.start_again(alloc),
+                None => {
+                    self.open_frame = Some(OpenFrame::new(alloc));
+                    Ok(true)
                 }
-                self.rise(bit)?;
-                Ok(true)
-            }
+            },
+            Event::Rise(bit) => match &mut self.open_frame {
+                Some(frame) => {
+                    frame.rise(bit)?;
+                    Ok(true)
+                }
+                None => Ok(false),
+            },
+            Event::Stop => self.stop(),
         }
     }
 
@@ -177,7 +203,7 @@ pub fn observe(alloc: Global, events: &[Event]) -> Result<Vec<Frame>, ObserveFau
             return Err(ObserveFault::NotFrames(place));
         }
     }
-    if reading.is_open {
+    if reading.open_frame.is_some() {
         return Err(ObserveFault::NotFrames(events.len()));
     }
     Ok(reading.frames)

@@ -1,4 +1,4 @@
-ghost use Rattle.std.specs.Prelude.{◌≡◌, ◌<◌, ◌^◌, ◌++◌, ◌↔◌, false, is_none, length, take};
+ghost use Rattle.std.specs.Prelude.{◌≡◌, ◌<◌, ◌++◌, ◌↔◌, false, is_none, length, take};
 ghost use Rattle.std.specs.Prelude.{slice_index, IfOk, OnOk, IfSome, IfNone, IsTrue, IsErrOf};
 ghost use Rattle.smbus.specs.Protocol.{sent, got, byte_marks, marks_of, HasLength, AreGoodCounts};
 ghost use Rattle.smbus.specs.Protocol.{low, high, sent_count, whole, IsNumbered};
@@ -9,6 +9,7 @@ ghost use Rattle.smbus.specs.Slots.{marks_sent, slots_of, IsGoodData, IsGoodBloc
 use crate::counting::sent_count;
 use crate::fault::SmbusFault;
 use crate::message::{Answer, Form, Message};
+use crate::parts::{Returned, Written, parts_of};
 use bit_bus::Slot;
 use std::alloc::{AllocError, Global};
 
@@ -18,39 +19,21 @@ fn first_bytes(alloc: Global, message: &Message) -> Result<Vec<u8>, AllocError>
     ensures { IfOk result (λ bytes. bytes.items ≡ first_bytes message.now) }
 {
     let to_write = 2 * message.address;
-    let to_read = to_write + 1;
     let mut bytes = Vec::new(alloc);
-    match message.form {
-        Form::Quick(is_read) => bytes.push(to_write + u8::from(is_read))?,
-        Form::ReceiveByte | Form::Alert => bytes.push(to_read)?,
-        Form::SendByte | Form::ReadByte | Form::ReadWord | Form::BlockRead => {
-            bytes.extend_from_slice(&[to_write, message.code])?;
-        }
-        Form::WriteByte | Form::WriteWord | Form::ProcessCall => {
+    match parts_of(message.form).written {
+        Written::Nothing(is_read) => bytes.push(to_write + u8::from(is_read))?,
+        Written::Code => bytes.extend_from_slice(&[to_write, message.code])?,
+        Written::Data(_) => {
             bytes.extend_from_slice(&[to_write, message.code])?;
             bytes.extend_from_slice(&message.out)?;
         }
-        Form::BlockWrite | Form::BlockProcessCall => {
+        Written::Block => {
             let count = message.out.len() as u8;
             bytes.extend_from_slice(&[to_write, message.code, count])?;
             bytes.extend_from_slice(&message.out)?;
         }
     }
     Ok(bytes)
-}
-
-/// Whether a form has a repeated START.
-pub(crate) fn has_repeat(form: Form) -> bool
-    ensures { result ≡ has_repeat form }
-{
-    match form {
-        Form::ReadByte
-        | Form::ReadWord
-        | Form::ProcessCall
-        | Form::BlockRead
-        | Form::BlockProcessCall => true,
-        _ => false,
-    }
 }
 
 /// The bytes that a target sends.
@@ -66,14 +49,14 @@ fn returned_bytes(
     let low = (value % 256) as u8;
     let high = (value / 256) as u8;
     let mut bytes = Vec::new(alloc);
-    match form {
-        Form::ReceiveByte | Form::ReadByte | Form::Alert => bytes.push(low)?,
-        Form::ReadWord | Form::ProcessCall => bytes.extend_from_slice(&[low, high])?,
-        Form::BlockRead | Form::BlockProcessCall => {
+    match parts_of(form).returned {
+        Returned::Nothing => {}
+        Returned::Byte => bytes.push(low)?,
+        Returned::Word => bytes.extend_from_slice(&[low, high])?,
+        Returned::Block => {
             bytes.push(block.len() as u8)?;
             bytes.extend_from_slice(block)?;
         }
-        _ => {}
     }
     Ok(bytes)
 }
@@ -83,17 +66,11 @@ fn returned_bytes(
 fn push_byte(slots: &mut Vec<Slot>, byte: u8, acknowledged: bool) -> Result<(), AllocError>
     ensures { OnOk result (slots.new.items ≡ slots.old.items ++ byte_marks byte acknowledged) }
 {
-    slots.extend_from_slice(&[
-        Slot::Bit(byte / 128 % 2 == 1),
-        Slot::Bit(byte / 64 % 2 == 1),
-        Slot::Bit(byte / 32 % 2 == 1),
-        Slot::Bit(byte / 16 % 2 == 1),
-        Slot::Bit(byte / 8 % 2 == 1),
-        Slot::Bit(byte / 4 % 2 == 1),
-        Slot::Bit(byte / 2 % 2 == 1),
-        Slot::Bit(byte / 1 % 2 == 1),
-        Slot::Bit(!acknowledged),
-    ])
+    for place in (0..8u8).rev() {
+        slots.push(Slot::Bit(byte >> place & 1 == 1))?;
+    }
+    slots.push(Slot::Bit(!acknowledged))?;
+    Ok(())
 }
 
 fn push_sent(slots: &mut Vec<Slot>, bytes: &[u8]) -> Result<(), AllocError>
@@ -151,7 +128,7 @@ fn push_rest(
         (rest_of (has_repeat message.now.form) (is_none answer.now.refuse) message.now.address
         (returned_bytes message.now.form answer.now.value answer.now.bytes))) }
 {
-    if has_repeat(message.form) {
+    if parts_of(message.form).has_repeat() {
         let is_accepted = answer.refuse.is_none();
         slots.push(Slot::Again)?;
         push_byte(slots, 2 * message.address + 1, is_accepted)?;
@@ -190,11 +167,10 @@ fn push_frame(
 fn has_length(form: Form, count: usize) -> bool
     ensures { IsTrue result ↔ HasLength form count }
 {
-    match form {
-        Form::WriteByte => count == 1,
-        Form::WriteWord | Form::ProcessCall => count == 2,
-        Form::BlockWrite | Form::BlockProcessCall => true,
-        _ => count == 0,
+    match parts_of(form).written {
+        Written::Nothing(_) | Written::Code => count == 0,
+        Written::Data(length) => count == length,
+        Written::Block => true,
     }
 }
 
@@ -216,12 +192,13 @@ fn is_good_data(message: &Message, answer: &Answer) -> bool
 fn is_good_block(form: Form, written: usize, returned: usize) -> bool
     ensures { IsTrue result ↔ AreGoodCounts form written returned }
 {
-    match form {
-        Form::BlockWrite => (1..=255).contains(&written),
-        Form::BlockRead => (1..=255).contains(&returned),
-        Form::BlockProcessCall => {
+    let parts = parts_of(form);
+    match (parts.written, parts.returned) {
+        (Written::Block, Returned::Block) => {
             0 < written && 0 < returned && written <= 255 && returned <= 255 - written
         }
+        (Written::Block, _) => (1..=255).contains(&written),
+        (_, Returned::Block) => (1..=255).contains(&returned),
         _ => true,
     }
 }

@@ -1,3 +1,4 @@
+use Rattle.std.proofs.Common.{◌∙◌, sym}
 use Rattle.std.proofs.lemmas.Bool.{MatchBool-at_true, MatchBool-at_false}
 use Rattle.smbus.specs.Machine.{reading_of}
 use Rattle.smbus.proofs.EventByEvent.{read_on, read_all, fails_here, fails_open, frames_read}
@@ -24,21 +25,21 @@ returns-then-not-branch-clause-none c known frames are =
     (returns-then-not-branch-clause-fault c)
 
 -- a frame hasn't ended
-pub returns-then-reading-clause-fault : goal.returns-then-reading-clause-fault
-returns-then-reading-clause-fault c =
+pub returns-then-is_some-clause-fault : goal.returns-then-is_some-clause-fault
+returns-then-is_some-clause-fault c =
     fails_open c.args.events.now (reading_of c.loop-place.reading)
     (read_all c.args.events.now c.loop-place.place _ c.loop-place-test.false c.loop-place.invariant)
-    c.if-reading.true
+    (sym c.is_some.ensures ∙ c.if-is_some.true)
 
-pub returns-then-reading-clause-none : goal.returns-then-reading-clause-none
-returns-then-reading-clause-none c known frames are =
-    never_fails c.args.events.now frames _ are (returns-then-reading-clause-fault c)
+pub returns-then-is_some-clause-none : goal.returns-then-is_some-clause-none
+returns-then-is_some-clause-none c known frames are =
+    never_fails c.args.events.now frames _ are (returns-then-is_some-clause-fault c)
 
 pub returns-clause-frames : goal.returns-clause-frames
 returns-clause-frames c =
     frames_read c.args.events.now (reading_of c.loop-place.reading)
     (read_all c.args.events.now c.loop-place.place _ c.loop-place-test.false c.loop-place.invariant)
-    c.if-reading.false
+    (sym c.is_some.ensures ∙ c.if-is_some.false)
 
 pub returns-clause-only : goal.returns-clause-only
 returns-clause-only c =

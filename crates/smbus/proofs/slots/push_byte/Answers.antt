@@ -1,0 +1,11 @@
+use Rattle.std.proofs.Common.{ℕ, ◌-◌, ◌==◌, ap}
+use Rattle.std.proofs.lemmas.Nat.Bits.{shr_and_one}
+use Rattle.smbus.proofs.Bytes.{next_bit}
+use Rattle.smbus.proofs.slots.push_byte.Goals as goal
+
+pub loop-place-preserved : goal.loop-place-preserved
+loop-place-preserved c =
+    next_bit c.loop-place.place c.args.byte _ c.loop-place.slots.items c.push.new.self.items _
+    c.loop-place-test.true
+    (ap (λ (n : ℕ). n == 1) (shr_and_one c.args.byte (c.loop-place.place - 1)))
+    c.in_ok-push.ensures.items c.loop-place.invariant

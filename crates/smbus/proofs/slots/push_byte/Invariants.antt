@@ -1,0 +1,9 @@
+use Rattle.std.proofs.Common.{◌≡◌, ◌++◌}
+use Rattle.wires.specs.Bits.{bits_of}
+use Rattle.smbus.specs.Protocol.{bit_marks}
+use Rattle.smbus.proofs.slots.push_byte.Given as goal
+
+abbrev pub invariant-loop-place : goal.invariant-loop-place
+invariant-loop-place l =
+    l.slots.items ++ bit_marks (bits_of l.place l.byte)
+    ≡ l.fn.slots.items ++ bit_marks (bits_of 8 l.byte)
