@@ -12,7 +12,7 @@ ghost use Rattle.board.specs.Rails.{drafts_of, need_of, needs_of, rails_of};
 ghost use Rattle.board.specs.DraftViews.{draft_view, drafts_view};
 
 use crate::fault::BoardFault;
-use crate::fields::{items_at, number_at, text_at};
+use crate::fields::{byte_at, items_at, number_at, text_at};
 use crate::keys::{Key, Kind, Sort, check_keys};
 use crate::named::Named;
 use crate::names::place_of;
@@ -59,7 +59,7 @@ fn target_at(targets: &IndexSet<String>, table: &Table) -> Option<usize>
 fn page_of(table: &Table, target: &Target) -> Option<u8>
     ensures { result ≡ page_of (table_view table.now) target.now }
 {
-    let page = number_at(0, 255, "page", table)? as u8;
+    let page = byte_at(0, 255, "page", table)?;
     if page < target.pages() {
         Some(page)
     } else {
