@@ -38,8 +38,7 @@ pub(crate) fn word_in(low: u16, high: u16, value: &Value) -> Option<u16>
 }
 
 pub(crate) fn number_at(low: u32, high: u32, key: &str, table: &Table) -> Option<u32>
-    ensures value { result ≡ number_at low high key.now (table_view table.now) }
-    ensures within { IfSome result (λ n. (low ≤ n) × (n ≤ high)) }
+    ensures { result ≡ number_at low high key.now (table_view table.now) }
 {
     number_in(low, high, value_at(table, key)?)
 }

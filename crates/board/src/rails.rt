@@ -1,7 +1,6 @@
 //! Reading rails.
 
-ghost use Rattle.std.specs.Prelude.{◌≡◌, ◌==◌, ◌&&◌, [], false, map, OnOk, IfOk, IfErr};
-ghost use Rattle.std.specs.List.{list_any};
+ghost use Rattle.std.specs.Prelude.{◌≡◌, [], false, map, OnOk, IfOk, IfErr};
 ghost use Rattle.toml.specs.View.{view, table_view, items_view};
 ghost use Rattle.board.specs.declared.fault.BoardFault.TheVariants.{Memory};
 ghost use Rattle.board.specs.Reading.{Gives};
@@ -75,12 +74,6 @@ fn page_at(targets: &[Target], place: usize, table: &Table) -> Option<u8>
 
 fn has_page(target: usize, page: u8, drafts: &[RailDraft<'_>]) -> bool
     ensures { result ≡ has_page target page (map draft_view drafts.now) }
-{
-    is_taken(target, page, drafts)
-}
-
-fn is_taken(target: usize, page: u8, drafts: &[RailDraft<'_>]) -> bool
-    ensures { result ≡ list_any (λ s. s.target == target && s.page == page) drafts.now }
 {
     drafts
         .iter()
