@@ -14,7 +14,7 @@ ghost use Rattle.board.specs.Entries.{entries_of};
 use crate::allow_list::AllowList;
 use crate::entry::{Allow, Range};
 use crate::fault::BoardFault;
-use crate::fields::{number_in, text_at};
+use crate::fields::{text_at, word_in};
 use crate::keys::{Key, Kind, Sort, check_keys, value_at};
 use pmbus_table::{Command, by_name};
 use smbus::{Form, carries_code, form_named};
@@ -122,12 +122,9 @@ fn range_in(full: Range, values: &[Value]) -> Option<Range>
     let [low, high] = values else {
         return None;
     };
-    let low = number_in(u32::from(full.low), u32::from(full.high), low)?;
-    let high = number_in(low, u32::from(full.high), high)?;
-    Some(Range {
-        low: low as u16,
-        high: high as u16,
-    })
+    let low = word_in(full.low, full.high, low)?;
+    let high = word_in(low, full.high, high)?;
+    Some(Range { low, high })
 }
 
 /// The full range where the key is missing.

@@ -20,11 +20,39 @@ pub(crate) fn number_in(low: u32, high: u32, value: &Value) -> Option<u32>
     }
 }
 
-pub(crate) fn number_at(low: u32, high: u32, key: &str, table: &Table) -> Option<u32>
-    ensures value { result ≡ number_at low high key.now (table_view table.now) }
+/// A byte of a range.
+pub(crate) fn byte_in(low: u8, high: u8, value: &Value) -> Option<u8>
+    ensures { result ≡ number_in low high (view value.now) }
+{
+    let number = number_in(u32::from(low), u32::from(high), value)?;
+    Some(number as u8)
+}
+
+/// An integer of 16 bits of a range.
+pub(crate) fn word_in(low: u16, high: u16, value: &Value) -> Option<u16>
+    ensures value { result ≡ number_in low high (view value.now) }
     ensures within { IfSome result (λ n. (low ≤ n) × (n ≤ high)) }
 {
+    let number = number_in(u32::from(low), u32::from(high), value)?;
+    Some(number as u16)
+}
+
+pub(crate) fn number_at(low: u32, high: u32, key: &str, table: &Table) -> Option<u32>
+    ensures { result ≡ number_at low high key.now (table_view table.now) }
+{
     number_in(low, high, value_at(table, key)?)
+}
+
+pub(crate) fn byte_at(low: u8, high: u8, key: &str, table: &Table) -> Option<u8>
+    ensures { result ≡ number_at low high key.now (table_view table.now) }
+{
+    byte_in(low, high, value_at(table, key)?)
+}
+
+pub(crate) fn word_at(low: u16, high: u16, key: &str, table: &Table) -> Option<u16>
+    ensures { result ≡ number_at low high key.now (table_view table.now) }
+{
+    word_in(low, high, value_at(table, key)?)
 }
 
 pub(crate) fn text_at<'a>(key: &str, table: &'a Table) -> Option<&'a str>

@@ -1,9 +1,7 @@
 //! The keys of a table: which ones it may have, what stands at each, and which ones it needs.
 
-ghost use Rattle.std.specs.Prelude.{◌≡◌, ◌||◌, option_map, string_bytes};
-ghost use Rattle.std.specs.List.{list_all, list_any};
-ghost use Rattle.std.specs.Str.{bytes_eq};
-ghost use Rattle.std.specs.BTreeMap.{keys};
+ghost use Rattle.std.specs.Prelude.{◌≡◌, option_map};
+ghost use Rattle.std.specs.List.{list_all};
 ghost use Rattle.toml.specs.Data.{get_member};
 ghost use Rattle.toml.specs.View.{view, table_view, items_view};
 ghost use Rattle.board.specs.Reading.{Gives};
@@ -113,25 +111,12 @@ fn are_there(keys: &[Key], table: &Table) -> bool
 fn is_known(keys: &[Key], name: &str) -> bool
     ensures { result ≡ is_known (key_views keys.now) name.now }
 {
-    has_key(keys, name)
-}
-
-fn has_key(keys: &[Key], name: &str) -> bool
-    ensures { result ≡ list_any (λ k. bytes_eq k.0.now name.now) keys.now }
-{
     keys.iter().any(|(known, _)| *known == name)
 }
 
 fn all_known(needed: &[Key], optional: &[Key], table: &Table) -> bool
     ensures { result
         ≡ all_known (key_views needed.now) (key_views optional.now) (table_view table.now) }
-{
-    are_known(needed, optional, table)
-}
-
-fn are_known(needed: &[Key], optional: &[Key], table: &Table) -> bool
-    ensures { result ≡ list_all (λ k. is_known (key_views needed.now) (string_bytes k)
-        || is_known (key_views optional.now) (string_bytes k)) (keys table.now) }
 {
     table.keys().all(|name| is_known(needed, name.as_str()) || is_known(optional, name.as_str()))
 }

@@ -1,7 +1,6 @@
 //! Reading rails.
 
-ghost use Rattle.std.specs.Prelude.{◌≡◌, ◌==◌, ◌&&◌, [], false, map, OnOk, IfOk, IfErr};
-ghost use Rattle.std.specs.List.{list_any};
+ghost use Rattle.std.specs.Prelude.{◌≡◌, [], false, map, OnOk, IfOk, IfErr};
 ghost use Rattle.toml.specs.View.{view, table_view, items_view};
 ghost use Rattle.board.specs.declared.fault.BoardFault.TheVariants.{Memory};
 ghost use Rattle.board.specs.Reading.{Gives};
@@ -12,7 +11,7 @@ ghost use Rattle.board.specs.Rails.{drafts_of, need_of, needs_of, rails_of};
 ghost use Rattle.board.specs.DraftViews.{draft_view, drafts_view};
 
 use crate::fault::BoardFault;
-use crate::fields::{items_at, number_at, text_at};
+use crate::fields::{byte_at, items_at, number_at, text_at};
 use crate::keys::{Key, Kind, Sort, check_keys};
 use crate::named::Named;
 use crate::names::place_of;
@@ -59,7 +58,7 @@ fn target_at(targets: &IndexSet<String>, table: &Table) -> Option<usize>
 fn page_of(table: &Table, target: &Target) -> Option<u8>
     ensures { result ≡ page_of (table_view table.now) target.now }
 {
-    let page = number_at(0, 255, "page", table)? as u8;
+    let page = byte_at(0, 255, "page", table)?;
     if page < target.pages() {
         Some(page)
     } else {
@@ -75,12 +74,6 @@ fn page_at(targets: &[Target], place: usize, table: &Table) -> Option<u8>
 
 fn has_page(target: usize, page: u8, drafts: &[RailDraft<'_>]) -> bool
     ensures { result ≡ has_page target page (map draft_view drafts.now) }
-{
-    is_taken(target, page, drafts)
-}
-
-fn is_taken(target: usize, page: u8, drafts: &[RailDraft<'_>]) -> bool
-    ensures { result ≡ list_any (λ s. s.target == target && s.page == page) drafts.now }
 {
     drafts
         .iter()

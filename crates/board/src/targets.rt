@@ -14,7 +14,7 @@ ghost use Rattle.board.specs.Targets.{start_protects_of, target_with, target_fro
 
 use crate::entries::entries_of;
 use crate::fault::BoardFault;
-use crate::fields::{flag_at, items_at, number_at, number_in, text_at};
+use crate::fields::{byte_at, byte_in, flag_at, items_at, text_at, word_at};
 use crate::keys::{Key, Kind, Sort, check_keys, value_at};
 use crate::named::Named;
 use crate::names::has_name;
@@ -76,7 +76,7 @@ fn is_target_address(address: u8) -> bool
 fn address_at(table: &Table) -> Option<u8>
     ensures { result ≡ address_at (table_view table.now) }
 {
-    let address = number_at(0, 127, "address", table)? as u8;
+    let address = byte_at(0, 127, "address", table)?;
     if is_target_address(address) {
         Some(address)
     } else {
@@ -117,13 +117,13 @@ fn exponent_at(table: &Table) -> Option<i8>
 fn numbers_of(table: &Table) -> Result<Numbers, BoardFault>
     ensures { Gives (λ n. n) result (numbers_of (table_view table.now)) }
 {
-    let pages = number_at(1, 32, "pages", table).ok_or(BoardFault::TooMany)?;
+    let pages = byte_at(1, 32, "pages", table).ok_or(BoardFault::TooMany)?;
     let exponent = exponent_at(table).ok_or(BoardFault::BadExponent)?;
-    let stretch = number_at(0, 6999, "stretch", table).ok_or(BoardFault::BadStretch)?;
+    let stretch = word_at(0, 6999, "stretch", table).ok_or(BoardFault::BadStretch)?;
     Ok(Numbers {
-        pages: pages as u8,
+        pages,
         exponent,
-        stretch: stretch as u16,
+        stretch,
     })
 }
 
@@ -132,8 +132,8 @@ fn bytes_of(alloc: Global, values: &[Value]) -> Result<Vec<u8>, BoardFault>
 {
     let mut bytes = Vec::new(alloc);
     for value in values {
-        let byte = number_in(0, 255, value).ok_or(BoardFault::BadStart)?;
-        bytes.push(byte as u8)?;
+        let byte = byte_in(0, 255, value).ok_or(BoardFault::BadStart)?;
+        bytes.push(byte)?;
     }
     Ok(bytes)
 }

@@ -3,6 +3,9 @@ ghost use Rattle.pmbus_table.specs.Table.{row_of, row_named};
 ghost use Rattle.pmbus_table.specs.Rows.{row_view, find_code, find_name};
 
 use smbus::Form;
+use smbus::Form::{
+    BlockProcessCall, BlockRead, ReadByte, ReadWord, SendByte, WriteByte, WriteWord,
+};
 
 /// How a command goes over the bus, and whether PAGE selects what it is about.
 #[derive(Clone, Copy)]
@@ -16,233 +19,49 @@ pub(crate) struct Row {
 /// A command of the table and its name.
 type Named = (&'static str, Row);
 
-const TABLE: [Named; 25] = [
-    (
-        "PAGE",
-        Row {
-            code: 0x00,
-            written: Some(Form::WriteByte),
-            read: Some(Form::ReadByte),
-            is_paged: false,
-        },
-    ),
-    (
-        "OPERATION",
-        Row {
-            code: 0x01,
-            written: Some(Form::WriteByte),
-            read: Some(Form::ReadByte),
-            is_paged: true,
-        },
-    ),
-    (
-        "CLEAR_FAULTS",
-        Row {
-            code: 0x03,
-            written: Some(Form::SendByte),
-            read: None,
-            is_paged: true,
-        },
-    ),
-    (
-        "WRITE_PROTECT",
-        Row {
-            code: 0x10,
-            written: Some(Form::WriteByte),
-            read: Some(Form::ReadByte),
-            is_paged: false,
-        },
-    ),
-    (
-        "CAPABILITY",
-        Row {
-            code: 0x19,
-            written: None,
-            read: Some(Form::ReadByte),
-            is_paged: false,
-        },
-    ),
-    (
-        "QUERY",
-        Row {
-            code: 0x1A,
-            written: None,
-            read: Some(Form::BlockProcessCall),
-            is_paged: false,
-        },
-    ),
-    (
-        "VOUT_MODE",
-        Row {
-            code: 0x20,
-            written: None,
-            read: Some(Form::ReadByte),
-            is_paged: true,
-        },
-    ),
-    (
-        "VOUT_COMMAND",
-        Row {
-            code: 0x21,
-            written: Some(Form::WriteWord),
-            read: Some(Form::ReadWord),
-            is_paged: true,
-        },
-    ),
-    (
-        "VOUT_MAX",
-        Row {
-            code: 0x24,
-            written: Some(Form::WriteWord),
-            read: Some(Form::ReadWord),
-            is_paged: true,
-        },
-    ),
-    (
-        "VOUT_MARGIN_HIGH",
-        Row {
-            code: 0x25,
-            written: Some(Form::WriteWord),
-            read: Some(Form::ReadWord),
-            is_paged: true,
-        },
-    ),
-    (
-        "VOUT_MARGIN_LOW",
-        Row {
-            code: 0x26,
-            written: Some(Form::WriteWord),
-            read: Some(Form::ReadWord),
-            is_paged: true,
-        },
-    ),
-    (
-        "VOUT_OV_FAULT_LIMIT",
-        Row {
-            code: 0x40,
-            written: Some(Form::WriteWord),
-            read: Some(Form::ReadWord),
-            is_paged: true,
-        },
-    ),
-    (
-        "VOUT_OV_WARN_LIMIT",
-        Row {
-            code: 0x42,
-            written: Some(Form::WriteWord),
-            read: Some(Form::ReadWord),
-            is_paged: true,
-        },
-    ),
-    (
-        "VOUT_UV_WARN_LIMIT",
-        Row {
-            code: 0x43,
-            written: Some(Form::WriteWord),
-            read: Some(Form::ReadWord),
-            is_paged: true,
-        },
-    ),
-    (
-        "VOUT_UV_FAULT_LIMIT",
-        Row {
-            code: 0x44,
-            written: Some(Form::WriteWord),
-            read: Some(Form::ReadWord),
-            is_paged: true,
-        },
-    ),
-    (
-        "STATUS_BYTE",
-        Row {
-            code: 0x78,
-            written: None,
-            read: Some(Form::ReadByte),
-            is_paged: true,
-        },
-    ),
-    (
-        "STATUS_WORD",
-        Row {
-            code: 0x79,
-            written: None,
-            read: Some(Form::ReadWord),
-            is_paged: true,
-        },
-    ),
-    (
-        "STATUS_VOUT",
-        Row {
-            code: 0x7A,
-            written: None,
-            read: Some(Form::ReadByte),
-            is_paged: true,
-        },
-    ),
-    (
-        "STATUS_CML",
-        Row {
-            code: 0x7E,
-            written: None,
-            read: Some(Form::ReadByte),
-            is_paged: true,
-        },
-    ),
-    (
-        "READ_VIN",
-        Row {
-            code: 0x88,
-            written: None,
-            read: Some(Form::ReadWord),
-            is_paged: false,
-        },
-    ),
-    (
-        "READ_VOUT",
-        Row {
-            code: 0x8B,
-            written: None,
-            read: Some(Form::ReadWord),
-            is_paged: true,
-        },
-    ),
-    (
-        "READ_IOUT",
-        Row {
-            code: 0x8C,
-            written: None,
-            read: Some(Form::ReadWord),
-            is_paged: true,
-        },
-    ),
-    (
-        "READ_TEMPERATURE_1",
-        Row {
-            code: 0x8D,
-            written: None,
-            read: Some(Form::ReadWord),
-            is_paged: true,
-        },
-    ),
-    (
-        "PMBUS_REVISION",
-        Row {
-            code: 0x98,
-            written: None,
-            read: Some(Form::ReadByte),
-            is_paged: false,
-        },
-    ),
-    (
-        "MFR_ID",
-        Row {
-            code: 0x99,
-            written: None,
-            read: Some(Form::BlockRead),
-            is_paged: false,
-        },
-    ),
-];
+/// Rows of the table, one a line.
+macro_rules! rows {
+    ($($name:literal, $code:literal, $written:expr, $read:expr, $is_paged:literal;)*) => {
+        [$((
+            $name,
+            Row {
+                code: $code,
+                written: $written,
+                read: $read,
+                is_paged: $is_paged,
+            },
+        )),*]
+    };
+}
+
+const TABLE: [Named; 25] = rows! {
+    // name, code, the form that writes it, the form that reads it, whether it is paged
+    "PAGE", 0x00, Some(WriteByte), Some(ReadByte), false;
+    "OPERATION", 0x01, Some(WriteByte), Some(ReadByte), true;
+    "CLEAR_FAULTS", 0x03, Some(SendByte), None, true;
+    "WRITE_PROTECT", 0x10, Some(WriteByte), Some(ReadByte), false;
+    "CAPABILITY", 0x19, None, Some(ReadByte), false;
+    "QUERY", 0x1A, None, Some(BlockProcessCall), false;
+    "VOUT_MODE", 0x20, None, Some(ReadByte), true;
+    "VOUT_COMMAND", 0x21, Some(WriteWord), Some(ReadWord), true;
+    "VOUT_MAX", 0x24, Some(WriteWord), Some(ReadWord), true;
+    "VOUT_MARGIN_HIGH", 0x25, Some(WriteWord), Some(ReadWord), true;
+    "VOUT_MARGIN_LOW", 0x26, Some(WriteWord), Some(ReadWord), true;
+    "VOUT_OV_FAULT_LIMIT", 0x40, Some(WriteWord), Some(ReadWord), true;
+    "VOUT_OV_WARN_LIMIT", 0x42, Some(WriteWord), Some(ReadWord), true;
+    "VOUT_UV_WARN_LIMIT", 0x43, Some(WriteWord), Some(ReadWord), true;
+    "VOUT_UV_FAULT_LIMIT", 0x44, Some(WriteWord), Some(ReadWord), true;
+    "STATUS_BYTE", 0x78, None, Some(ReadByte), true;
+    "STATUS_WORD", 0x79, None, Some(ReadWord), true;
+    "STATUS_VOUT", 0x7A, None, Some(ReadByte), true;
+    "STATUS_CML", 0x7E, None, Some(ReadByte), true;
+    "READ_VIN", 0x88, None, Some(ReadWord), false;
+    "READ_VOUT", 0x8B, None, Some(ReadWord), true;
+    "READ_IOUT", 0x8C, None, Some(ReadWord), true;
+    "READ_TEMPERATURE_1", 0x8D, None, Some(ReadWord), true;
+    "PMBUS_REVISION", 0x98, None, Some(ReadByte), false;
+    "MFR_ID", 0x99, None, Some(BlockRead), false;
+};
 
 #[tactic(auto, unfolding(crate::specs::Rows::find_code))]
 fn find_code(rows: &[Named], code: u8) -> Option<&Named>

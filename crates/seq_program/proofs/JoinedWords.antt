@@ -1,6 +1,6 @@
 -- Words joined by spaces, and lines ended by LF, are cut there again.
 use Rattle.std.proofs.Common.{◌≡◌, ℕ, ◌<◌, Bool, true, false, ◌||◌, nat_lt, ◌==◌, List}
-use Rattle.std.proofs.Common.{[], ◌∷◌, ◌++◌, length, filter, take, map, refl, ap, ◌∙◌, All}
+use Rattle.std.proofs.Common.{[], ◌∷◌, ◌++◌, length, filter, take, refl, ap, ◌∙◌, All}
 use Rattle.std.proofs.Common.{arith}
 use Rattle.std.specs.List.{list_all, slice_split, join_with_byte, flat_map, position_or_len}
 use Rattle.std.proofs.lemmas.Bool.{and_parts, and_from, lt-ltb, ltb-true}

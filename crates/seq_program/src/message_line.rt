@@ -13,7 +13,9 @@ ghost use Rattle.seq_program.specs.MessageLines.{block_read_of, block_call_of, a
 use crate::command::{command_in, sized_in};
 use crate::fault::ProgramFault;
 use crate::instr::{Instr, Register, Width, Written};
-use crate::operand::{block_of, direction_of, number_within, register_of};
+use crate::operand::{
+    block_of, byte_within, direction_of, number_within, register_of, word_within,
+};
 use board::Board;
 use smbus::Form;
 use std::alloc::Global;
@@ -44,14 +46,27 @@ pub(crate) fn number_in(line: usize, low: u32, high: u32, word: &str) -> Result<
     number_within(low, high, word).ok_or(ProgramFault::BadNumber(line))
 }
 
+/// A number of 16 bits of a range.
+#[tactic(auto, unfolding(crate::specs::MessageLines::number_in))]
+pub(crate) fn word_between(
+    line: usize,
+    low: u16,
+    high: u16,
+    word: &str,
+) -> Result<u16, ProgramFault>
+    ensures value { Gives (λ n. n) result (number_in line low high word.now) }
+    ensures within { IfOk result (λ n. (low ≤ n) × (n ≤ high)) }
+{
+    word_within(low, high, word).ok_or(ProgramFault::BadNumber(line))
+}
+
 /// A number of 16 bits.
 #[tactic(auto, unfolding(crate::specs::MessageLines::word_in))]
 pub(crate) fn word_in(line: usize, word: &str) -> Result<u16, ProgramFault>
     ensures value { Gives (λ n. n) result (word_in line word.now) }
     ensures within { IfOk result (λ n. n ≤ 65535) }
 {
-    let number = number_in(line, 0, 65_535, word)?;
-    Ok(number as u16)
+    word_between(line, 0, u16::MAX, word)
 }
 
 #[tactic(auto, unfolding(crate::specs::MessageLines::quick_of))]
@@ -142,14 +157,8 @@ fn written_of(width: Width, source: Option<Register>, value: &str) -> Option<Wri
 {
     match (source, width) {
         (Some(register), _) => Some(Written::Register(register)),
-        (None, Width::Byte) => {
-            let number = number_within(0, 255, value)?;
-            Some(Written::Byte(number as u8))
-        }
-        (None, Width::Word) => {
-            let number = number_within(0, 65_535, value)?;
-            Some(Written::Word(number as u16))
-        }
+        (None, Width::Byte) => Some(Written::Byte(byte_within(0, u8::MAX, value)?)),
+        (None, Width::Word) => Some(Written::Word(word_within(0, u16::MAX, value)?)),
     }
 }
 

@@ -108,6 +108,23 @@ pub fn number_within(low: u32, high: u32, word: &str) -> Option<u32>
     }
 }
 
+/// A byte of a range.
+pub(crate) fn byte_within(low: u8, high: u8, word: &str) -> Option<u8>
+    ensures { result ≡ number_within low high word.now }
+{
+    let number = number_within(u32::from(low), u32::from(high), word)?;
+    Some(number as u8)
+}
+
+/// A number of 16 bits of a range.
+pub(crate) fn word_within(low: u16, high: u16, word: &str) -> Option<u16>
+    ensures value { result ≡ number_within low high word.now }
+    ensures within { IfSome result (λ n. (low ≤ n) × (n ≤ high)) }
+{
+    let number = number_within(u32::from(low), u32::from(high), word)?;
+    Some(number as u16)
+}
+
 /// As many bytes as pairs of digits spell, one at least.
 pub fn block_of(alloc: Global, most: usize, word: &str) -> Result<Option<Block>, AllocError>
     requires { most ≤ 255 }

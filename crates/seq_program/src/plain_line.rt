@@ -7,7 +7,7 @@ ghost use Rattle.seq_program.specs.PlainLines.{set_of, add_of, count_of, wait_of
 
 use crate::fault::ProgramFault;
 use crate::instr::Instr;
-use crate::message_line::{Parsed, number_in, word_in};
+use crate::message_line::{Parsed, number_in, word_between, word_in};
 use crate::operand::{counter_of, register_of};
 
 #[tactic(auto, unfolding(crate::specs::PlainLines::set_of))]
@@ -51,7 +51,7 @@ pub(crate) fn count_of(line: usize, words: &[&str]) -> Parsed
         return Err(ProgramFault::BadOperand(line));
     };
     let counter = counter_of(counter).ok_or(ProgramFault::BadOperand(line))?;
-    let value = number_in(line, 0, 1000, value)? as u16;
+    let value = word_between(line, 0, 1000, value)?;
     Ok(Instr::Count { counter, value })
 }
 
