@@ -3,9 +3,8 @@ ghost use Rattle.std.specs.Prelude.{length, string_bytes};
 ghost use Rattle.wires.specs.Events.{events_of};
 ghost use Rattle.wires.specs.Runs.{most_samples};
 ghost use Rattle.bit_bus.specs.Levels.{idle};
-ghost use Rattle.smbus.specs.Shown.{Shown};
 ghost use Rattle.smbus.specs.Slots.{slots_of};
-ghost use Rattle.smbus.specs.OneFrame.{IsOnlyFrame, CanBeSent};
+ghost use Rattle.smbus.specs.OneFrame.{CanBeSent};
 ghost use Rattle.session.specs.Replies.{reply_view};
 ghost use Rattle.session.specs.FrameReplies.{IsFrameText, IsFrameReply};
 
@@ -14,8 +13,7 @@ use crate::outcome::outcome_line;
 use crate::reply::{Reply, Status, refused};
 use bit_bus::{Plan, Slot, drive};
 use smbus::{
-    Answer, Frame, Message, ObserveFault, SmbusFault, frame_slots, frame_text, observe,
-    slots_are_one_frame,
+    Answer, Message, SmbusFault, frame_slots, frame_text, only_frame, slots_are_one_frame,
 };
 use std::alloc::{AllocError, Global};
 use wires::{Event, Runs, Sample, events_of};
@@ -37,21 +35,6 @@ fn events_behind_idle(alloc: Global, samples: &Runs) -> Result<Vec<Event>, Alloc
     events_of(alloc, &Runs::joined(alloc, &before, samples)?)
 }
 
-/// The one frame of these events.
-fn only_frame(alloc: Global, events: &[Event]) -> Result<Frame, AllocError>
-    requires { (frame : Shown) × IsOnlyFrame events.now frame }
-    ensures { IfOk result (IsOnlyFrame events.now) }
-{
-    match observe(alloc, events) {
-        Ok(mut frames) => match frames.pop() {
-            Some(frame) => Ok(frame),
-            None => unreachable!(),
-        },
-        Err(ObserveFault::Memory) => Err(AllocError),
-        Err(ObserveFault::NotFrames(_)) => unreachable!(),
-    }
-}
-
 /// The lines of a message that can be sent.
 fn shown(
     alloc: Global,
@@ -69,7 +52,9 @@ fn shown(
     };
     let driven = drive(alloc, &plan, true)?;
     let events = events_behind_idle(alloc, &driven.samples)?;
-    let frame = only_frame(alloc, &events)?;
+    let Some(frame) = only_frame(alloc, &events)? else {
+        unreachable!()
+    };
     let frame = frame_text(alloc, &frame)?;
     let count = driven.samples.total();
     let outcome = outcome_line(alloc, message, answer, driven.cut)?;

@@ -1,22 +1,15 @@
 //! The text of a trace.
 
-ghost use Rattle.std.specs.Prelude.{◌≡◌, ◌++◌, [], IfOk, OnOk, string_bytes};
-ghost use Rattle.wires.specs.Events.{events_of};
-ghost use Rattle.smbus.specs.Frames.{AreFrames};
-ghost use Rattle.smbus.specs.OneFrame.{IsOnlyFrame};
-ghost use Rattle.smbus.specs.Shown.{Shown};
-ghost use Rattle.simulator.specs.Steps.{total_ticks};
+ghost use Rattle.std.specs.Prelude.{◌≡◌, IfOk, OnOk, string_bytes};
 ghost use Rattle.simulator.specs.Traces.{HasItsFrame};
 ghost use Rattle.simulator.specs.TraceTexts.{outcome_text, ending_text, last_line, IsLineMore};
-ghost use Rattle.simulator.specs.TraceTexts.{AreLines, IsTraceText};
 
 use crate::machine::{Ending, Entry};
-use crate::running::Trace;
-use smbus::{Frame, ObserveFault, frame_text, observe};
+use smbus::{frame_text, only_frame};
 use std::alloc::{AllocError, Global};
 use targets::Outcome;
 use texts::push_word;
-use wires::{Runs, events_of};
+use wires::events_of;
 
 /// How a message ended, as text: `done` with what it returned, `nak` or `timeout`.
 pub fn outcome_text(alloc: Global, outcome: Outcome) -> Result<String, AllocError>
@@ -33,22 +26,6 @@ pub fn outcome_text(alloc: Global, outcome: Outcome) -> Result<String, AllocErro
     }
 }
 
-/// The one frame of these samples.
-fn only_frame(alloc: Global, samples: &Runs) -> Result<Frame, AllocError>
-    requires { (frame : Shown) × IsOnlyFrame (events_of samples.now) frame }
-    ensures { IfOk result (IsOnlyFrame (events_of samples.now)) }
-{
-    let events = events_of(alloc, samples)?;
-    match observe(alloc, &events) {
-        Ok(mut frames) => match frames.pop() {
-            Some(frame) => Ok(frame),
-            None => unreachable!(),
-        },
-        Err(ObserveFault::Memory) => Err(AllocError),
-        Err(ObserveFault::NotFrames(_)) => unreachable!(),
-    }
-}
-
 /// Appends the line of a step: its place, its ticks, the frame that is read from its samples and
 /// how the message ended, `-` and `-` without one.
 pub fn push_line(alloc: Global, text: &mut String, entry: &Entry) -> Result<(), AllocError>
@@ -60,7 +37,10 @@ pub fn push_line(alloc: Global, text: &mut String, entry: &Entry) -> Result<(), 
     let Some(outcome) = entry.outcome else {
         return write!(text, "{place} {ticks} - -\n");
     };
-    let frame = only_frame(alloc, &entry.samples)?;
+    let events = events_of(alloc, &entry.samples)?;
+    let Some(frame) = only_frame(alloc, &events)? else {
+        unreachable!()
+    };
     let frame = frame_text(alloc, &frame)?;
     let outcome = outcome_text(alloc, outcome)?;
     write!(text, "{place} {ticks} {frame} {outcome}\n")
