@@ -3,7 +3,8 @@ ghost use Rattle.std.specs.Prelude.{length};
 ghost use Rattle.wires.specs.Events.{events_of};
 ghost use Rattle.wires.specs.Runs.{most_samples};
 ghost use Rattle.bit_bus.specs.Planned.{IsPlan};
-ghost use Rattle.bit_bus.specs.Levels.{idle, low_run, whole_levels, cut_levels, levels, first_cut, is_cut};
+ghost use Rattle.bit_bus.specs.Levels.{idle, low_run, whole_levels, cut_levels};
+ghost use Rattle.bit_bus.specs.Levels.{levels, first_cut, is_cut};
 ghost use Rattle.bit_bus.specs.Levels.{EndsHigh};
 ghost use Rattle.bit_bus.specs.SampleCounts.{most_driven};
 ghost use Rattle.bit_bus.specs.Word.{event_word};
@@ -21,6 +22,7 @@ pub struct Driven {
 
 /// Levels of SDA.
 const HIGH: bool = true;
+
 const LOW: bool = false;
 
 /// The longest low period of the clock, in ticks, that isn't a timeout: 25 ms (SMBus 3.2,

@@ -1,6 +1,7 @@
 ghost use Rattle.simulator.specs.Does.{EntriesDoAsAsked};
 ghost use Rattle.simulator.specs.EntryLaws.{EntriesReadBack, IdleReadsBack, JoinedReadBack};
-ghost use Rattle.simulator.specs.RunLaws.{RunsAreOne, RunsAreSeen, RunsGoOn, StepsAreOne, TicksAddUp};
+ghost use Rattle.simulator.specs.RunLaws.{RunsAreOne, RunsAreSeen, RunsGoOn};
+ghost use Rattle.simulator.specs.RunLaws.{StepsAreOne, TicksAddUp};
 ghost use Rattle.simulator.specs.SafeLaws.{AllowedFramesAreSeen, SafeStepsAreSafeRuns};
 ghost use Rattle.simulator.specs.SmallPrograms.{EndingIsSafe, ListedSendIsSafe, ClearingIsSafe};
 ghost use Rattle.simulator.specs.SmallPrograms.{VoltageWithinLimitIsSafe};

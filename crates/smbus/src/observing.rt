@@ -2,7 +2,8 @@ ghost use Rattle.std.specs.Prelude.{◌≡◌, ◌≢◌, ◌++◌, ◌∷◌, [
 ghost use Rattle.std.specs.Prelude.{IfOk, IfErr, OnOk, MatchBool, MatchOption};
 ghost use Rattle.smbus.specs.Shown.{Shown};
 ghost use Rattle.smbus.specs.Frames.{AreFrames, FaultIs};
-ghost use Rattle.smbus.specs.Machine.{byte_of, state_of, reading_of, opened, risen, run, start, step};
+ghost use Rattle.smbus.specs.Machine.{byte_of, state_of, reading_of, opened, risen};
+ghost use Rattle.smbus.specs.Machine.{run, start, step};
 ghost use Rattle.smbus.specs.Control.{control_after};
 ghost use Rattle.smbus.specs.declared.control.Control.TheVariants.{Free};
 ghost use Rattle.smbus.specs.declared.fault.ObserveFault.TheVariants.{Memory};

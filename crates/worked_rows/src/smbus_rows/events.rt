@@ -2,8 +2,8 @@
 
 use super::{observed, reads};
 use crate::expected::same;
-use smbus::{Form, ObserveFault, Segment, carries_code, form_named, observe};
-use std::alloc::Global;
+use smbus::{Form, ObserveFault, Segment, carries_code, form_named, observe, only_frame};
+use std::alloc::{AllocError, Global};
 use std::process::Abort;
 use std::test::*;
 use wires::Event;
@@ -96,4 +96,14 @@ fn form_words(rt: HostRuntime) {
 fn forms_with_a_code(rt: HostRuntime) {
     same(&rt, carries_code(Form::SendByte), true);
     same(&rt, carries_code(Form::ReceiveByte), false);
+}
+
+fn is_one_frame(alloc: Global, events: &[Event]) -> Result<bool, AllocError> {
+    Ok(only_frame(alloc, events)?.is_some())
+}
+
+#[test]
+fn events_of_one_frame(rt: HostRuntime) {
+    same(&rt, is_one_frame(rt.alloc(), &BARE), Ok(true));
+    same(&rt, is_one_frame(rt.alloc(), &[]), Ok(false));
 }
