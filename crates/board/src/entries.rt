@@ -3,7 +3,6 @@
 ghost use Rattle.std.specs.Prelude.{◌≡◌, [], false, IfOk, unwrap_or};
 ghost use Rattle.toml.specs.View.{view, table_view, items_view};
 ghost use Rattle.board.specs.Boards.{has_entry, IsCommandFor};
-ghost use Rattle.board.specs.Valid.{full_values};
 ghost use Rattle.board.specs.Reading.{Gives};
 ghost use Rattle.board.specs.KeyViews.{key_views};
 ghost use Rattle.board.specs.Entries.{check_entry_keys, needed_by, optional_for, form_at};
@@ -12,7 +11,7 @@ ghost use Rattle.board.specs.Entries.{command_for, range_in, range_at, allow_of,
 ghost use Rattle.board.specs.Entries.{entries_of};
 
 use crate::allow_list::AllowList;
-use crate::entry::{Allow, Range};
+use crate::entry::{Allow, Range, full_length, full_values};
 use crate::fault::BoardFault;
 use crate::fields::{text_at, word_in};
 use crate::keys::{Key, Kind, Sort, check_keys, value_at};
@@ -20,9 +19,6 @@ use pmbus_table::{Command, by_name};
 use smbus::{Form, carries_code, form_named};
 use std::alloc::Global;
 use toml::{Table, Value};
-
-/// All lengths of a block.
-const LENGTHS: Range = Range { low: 1, high: 255 };
 
 const FORM: Key = ("form", Kind::One(Sort::Text));
 
@@ -103,18 +99,6 @@ fn code_of(command: &Option<Command>) -> u8
     }
 }
 
-fn full_values(form: Form) -> Range
-    ensures { result ≡ full_values form }
-{
-    match form {
-        Form::WriteWord | Form::ReadWord | Form::ProcessCall => Range {
-            low: 0,
-            high: 65535,
-        },
-        _ => Range { low: 0, high: 255 },
-    }
-}
-
 /// Two integers in order, within the full range.
 fn range_in(full: Range, values: &[Value]) -> Option<Range>
     ensures { result ≡ range_in full (items_view values.now) }
@@ -146,7 +130,7 @@ fn allow_of(form: Form, command: Option<Command>, table: &Table) -> Result<Allow
     ensures code { IfOk result (λ a. a.code ≡ unwrap_or command 0) }
 {
     let values = range_at(full_values(form), "values", table).ok_or(BoardFault::BadRange)?;
-    let length = range_at(LENGTHS, "length", table).ok_or(BoardFault::BadRange)?;
+    let length = range_at(full_length(), "length", table).ok_or(BoardFault::BadRange)?;
     Ok(Allow::new(form, command, values, length))
 }
 

@@ -1,5 +1,6 @@
 ghost use Rattle.std.specs.Prelude.{◌≡◌, unwrap_or};
 ghost use Rattle.board.specs.Boards.{command_of, code_in, IsCommandFor};
+ghost use Rattle.board.specs.Valid.{full_values, full_length};
 
 use pmbus_table::Command;
 use smbus::Form;
@@ -10,6 +11,24 @@ use std::marker::Model;
 pub struct Range {
     pub low: u16,
     pub high: u16,
+}
+
+/// All values of a form: of bytes, or of words.
+pub fn full_values(form: Form) -> Range
+    ensures { result ≡ full_values form }
+{
+    let high = match form {
+        Form::WriteWord | Form::ReadWord | Form::ProcessCall => 65535,
+        _ => 255,
+    };
+    Range { low: 0, high }
+}
+
+/// All lengths of a block.
+pub fn full_length() -> Range
+    ensures { result ≡ full_length }
+{
+    Range { low: 1, high: 255 }
 }
 
 /// An entry of an allow list: a form, its command and the ranges of its data.

@@ -18,7 +18,7 @@ mod target;
 mod targets;
 
 pub use board::Board;
-pub use entry::{Allow, Range};
+pub use entry::{Allow, Range, full_length, full_values};
 pub use fault::BoardFault;
 pub use file::read_board;
 pub use law::{board_is_valid, lists_are_read_in_order};

@@ -8,7 +8,7 @@ ghost use Rattle.facts.specs.Headings.{IsHeadingOf, longest_read};
 ghost use Rattle.facts.specs.Ticks.{frame_ticks, other_ticks, worst_ticks};
 
 use crate::heading::{Heading, code_of, heading_of};
-use board::Board;
+use board::{Board, full_length};
 use seq_program::Instr;
 use smbus::{Form, most_slots};
 
@@ -39,9 +39,9 @@ fn longest_block(board: &Board, heading: &Heading) -> u16
     match board.target(heading.target) {
         Some(device) => match device.entry(heading.form, code_of(heading)) {
             Some(entry) => entry.length().high,
-            None => 255,
+            None => full_length().high,
         },
-        None => 255,
+        None => full_length().high,
     }
 }
 

@@ -2,14 +2,13 @@ ghost use Rattle.std.specs.Prelude.{◌≡◌, ◌≢◌, ◌≤◌, ◌↔◌, 
 ghost use Rattle.smbus.specs.Protocol.{sent_count, whole, IsNumbered};
 ghost use Rattle.smbus.specs.Slots.{slots_of};
 ghost use Rattle.board.specs.Boards.{largest_stretch};
-ghost use Rattle.board.specs.Valid.{full_values, full_length};
 ghost use Rattle.targets.specs.Fitting.{IsIn, entry_for, values_for, lengths_for, place_of};
 ghost use Rattle.targets.specs.Fitting.{target_of, IsStoredBy, FitsRead, FitsBlock, FitsAlert};
 ghost use Rattle.targets.specs.Fitting.{ReadsNothing, FitsForm, Fits, FitsSilence, FitsStep};
 
 use crate::alerting::{alert_byte, may_all_alert};
 use crate::state::BusState;
-use board::{Allow, Board, Range};
+use board::{Allow, Board, Range, full_length, full_values};
 use pmbus_table::code::{PAGE, WRITE_PROTECT};
 use smbus::{Answer, Form, Message, sent_count, slot_count};
 
@@ -28,16 +27,6 @@ fn entry_for<'a>(board: &'a Board, message: &Message) -> Option<&'a Allow>
     target.entry(message.form, message.code)
 }
 
-fn full_values(form: Form) -> Range
-    ensures { result ≡ full_values form }
-{
-    let high = match form {
-        Form::WriteWord | Form::ReadWord | Form::ProcessCall => 65535,
-        _ => 255,
-    };
-    Range { low: 0, high }
-}
-
 fn values_for(board: &Board, message: &Message) -> Range
     ensures { result ≡ values_for board.now message.now }
 {
@@ -52,7 +41,7 @@ fn lengths_for(board: &Board, message: &Message) -> Range
 {
     match entry_for(board, message) {
         Some(entry) => entry.length(),
-        None => Range { low: 1, high: 255 },
+        None => full_length(),
     }
 }
 

@@ -1,6 +1,6 @@
 use crate::boards::{TWO, alert_board, two_board};
 use crate::expected::{same, says};
-use board::{Board, BoardFault, Range, is_page_value, read_board};
+use board::{Board, BoardFault, Range, full_length, full_values, is_page_value, read_board};
 use pmbus_table::{Command, by_name};
 use smbus::Form;
 use std::alloc::Global;
@@ -232,6 +232,13 @@ fn each_is_page_value(rt: &impl Abort, rows: &[(u8, bool)]) {
 #[test]
 fn page_values(rt: HostRuntime) {
     each_is_page_value(&rt, &PAGE_VALUES);
+}
+
+#[test]
+fn full_ranges(rt: HostRuntime) {
+    same(&rt, full_values(Form::ReadByte).high, 0xFF);
+    same(&rt, full_values(Form::ProcessCall).high, 0xFFFF);
+    same(&rt, full_length(), Range { low: 1, high: 255 });
 }
 
 #[test]
