@@ -1,7 +1,6 @@
 ghost use Rattle.std.specs.Prelude.{◌≡◌, ◌≢◌, ◌<◌, ◌⊎◌, ◌↔◌, ℕ, false, Some, IfOk, IfSome, IsTrue};
 ghost use Rattle.std.specs.Prelude.{option_map};
 ghost use Rattle.wires.specs.Bits.{bit};
-ghost use Rattle.board.specs.Valid.{IsBoard};
 ghost use Rattle.targets.specs.Outcomes.{outcome_of};
 ghost use Rattle.targets.specs.Effects.{StopsAlerting, IsAfter};
 ghost use Rattle.targets.specs.Stored.{with_write};
@@ -10,7 +9,7 @@ use crate::alerting::alert_winner;
 use crate::effect::{Register, is_done, register_write};
 use crate::outcome::{Outcome, outcome_of};
 use crate::state::BusState;
-use board::Board;
+use board::{Board, board_is_valid};
 use smbus::{Answer, Form, Message};
 use std::alloc::{AllocError, Global};
 
@@ -73,11 +72,11 @@ fn stops_alerting(
         → StopsAlerting board.now state.now (option_map (λ m. m.now) message.entry) answer.now i
         → result ≡ Some i }
     ensures few { IfSome result (λ index. index < 16) }
-    ensures board { IsBoard board.now }
 {
-    let winner = alert_winner(board, state);
     match message {
-        Some(message) if message.form == Form::Alert && is_done(message, answer) => winner,
+        Some(message) if message.form == Form::Alert && is_done(message, answer) => {
+            alert_winner(board, state)
+        }
         _ => None,
     }
 }
@@ -95,6 +94,7 @@ pub fn after_in(
     ensures outcome { IfOk result
         (λ r. r.1 ≡ outcome_of (option_map (λ m. m.now) message.entry) answer.now) }
 {
+    board_is_valid(board);
     let stops = stops_alerting(board, state, message, answer);
     let page_write = register_write(Register::Page, board, state, message, answer);
     let protect_write = register_write(Register::Protect, board, state, message, answer);

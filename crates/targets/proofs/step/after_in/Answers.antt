@@ -14,7 +14,7 @@ returns-clause-state c =
     let s = c.args.state.now in
     let m : Option Asked = option_map (λ (m : Bor Asked). m.now) c.args.message in
     let a = c.args.answer.now in
-    let is = c.stops_alerting-stops.ensures.board in
+    let is = c.board_is_valid.ensures in
     let page = stored_after (WritesPage b s m a) c.deref.result.now s.page
     c.in_ok-with_write.field-0.items c.register_write-page_write.result
     (c.deref.ensures.value ∙ ap (λ (s : BusState). s.page) c.state.view_is)
