@@ -1,10 +1,12 @@
 -- What a board is: targets with what they may be sent, and the rails that they drive.
 use Rattle.std.specs.Prelude.{◌≡◌, unwrap_or, ℕ, ℤ, List, [], ◌∷◌, Bool, ◌==◌, ◌&&◌, Option, Some}
-use Rattle.std.specs.Prelude.{None, max, map, find, position, if◌then◌else◌}
+use Rattle.std.specs.Prelude.{None, max, map, find, position, slice_get, option_and_then}
+use Rattle.std.specs.Prelude.{if◌then◌else◌}
 use Rattle.std.specs.List.{list_any}
 use Rattle.std.specs.Str.{bytes_eq}
 use Rattle.smbus.specs.declared.message.Form.{Form}
 use Rattle.smbus.specs.FormWords.{carries_code}
+use Rattle.smbus.specs.Asked.{Asked}
 use Rattle.pmbus_table.specs.Forms.{form_number}
 use Rattle.board.specs.declared.entry.Range.{Range}
 
@@ -70,6 +72,22 @@ place_of_name name names = position (bytes_eq name) names
 
 abbrev pub place_of_address : ℕ → List Target → Option ℕ
 place_of_address address targets = position (λ t. t.address == address) targets
+
+-- the entry of a form and a code, of the target of an index
+abbrev pub entry_at : Board → ℕ → Form → ℕ → Option Allow
+entry_at b index form code =
+    option_and_then (λ t. entry_of form code t.allow) (slice_get b.targets index)
+
+-- the index of the target that a message goes to, the target, and the entry that allows the
+-- message, if one does
+abbrev pub place_of : Board → Asked → Option ℕ
+place_of b m = place_of_address m.address b.targets
+
+abbrev pub target_of : Board → Asked → Option Target
+target_of b m = option_and_then (slice_get b.targets) (place_of b m)
+
+abbrev pub entry_for : Board → Asked → Option Allow
+entry_for b m = option_and_then (λ t. entry_of m.form m.code t.allow) (target_of b m)
 
 abbrev pub largest : List ℕ → ℕ
 largest [] = 0

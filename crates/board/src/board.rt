@@ -1,13 +1,16 @@
 ghost use Rattle.std.specs.Prelude.{◌≡◌, ◌<◌, length, option_map, slice_get, IfSome};
-ghost use Rattle.board.specs.Boards.{place_of_name, place_of_address, largest_stretch};
+ghost use Rattle.board.specs.Boards.{place_of_name, place_of_address, entry_at, entry_for};
+ghost use Rattle.board.specs.Boards.{largest_stretch};
 ghost use Rattle.board.specs.Valid.{IsBoard};
 ghost use Rattle.board.specs.Named.{named_view};
 ghost use Rattle.board.specs.Files.{board_from};
 
+use crate::entry::Allow;
 use crate::named::Named;
 use crate::names::{name_at, place_of};
 use crate::rail::Rail;
 use crate::target::Target;
+use smbus::{Form, Message};
 use std::marker::Model;
 
 /// The targets of a bus and their rails, each by its name, in the order of the file.
@@ -77,6 +80,22 @@ impl Board {
             .items
             .iter()
             .position(|target| target.address() == address)
+    }
+
+    /// The entry of a form and a command code, of the target of an index. The code isn't looked at
+    /// for a form that carries none.
+    pub fn entry_at(&self, index: usize, form: Form, code: u8) -> Option<&Allow>
+        ensures { option_map (λ e. e.now) result ≡ entry_at self.now index form code }
+    {
+        self.target(index)?.entry(form, code)
+    }
+
+    /// The entry that allows a message, if one does.
+    pub fn entry_for(&self, message: &Message) -> Option<&Allow>
+        ensures { option_map (λ e. e.now) result ≡ entry_for self.now message.now }
+    {
+        let index = self.target_at(message.address)?;
+        self.entry_at(index, message.form, message.code)
     }
 
     /// The greatest of the targets' stretches.

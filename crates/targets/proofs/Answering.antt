@@ -12,10 +12,10 @@ use Rattle.smbus.specs.declared.message.Form.TheVariants as form
 use Rattle.smbus.specs.Asked.{Asked}
 use Rattle.pmbus_table.specs.Forms.{form_number}
 use Rattle.board.specs.declared.entry.Range.{Range}
-use Rattle.board.specs.Boards.{Allow, Board, is_for, entry_of}
+use Rattle.board.specs.Boards.{Allow, Board, is_for, entry_of, place_of, target_of, entry_for}
 use Rattle.board.specs.Valid.{IsWithin, IsEntry, IsTarget, IsBoard, has_words, full_values}
 use Rattle.board.specs.Valid.{full_length}
-use Rattle.targets.specs.Fitting.{place_of, target_of, entry_for, values_for, lengths_for}
+use Rattle.targets.specs.Fitting.{values_for, lengths_for}
 
 -- forms with one number have the same values
 abbrev words_at : ℕ → Bool

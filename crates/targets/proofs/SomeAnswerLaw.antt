@@ -22,12 +22,12 @@ use Rattle.smbus.specs.Protocol.{whole, sent_count, IsNumbered}
 use Rattle.pmbus_table.specs.Codes.{page_code, write_protect_code}
 use Rattle.pmbus_table.specs.Protect.{is_protection}
 use Rattle.board.specs.declared.entry.Range.{Range}
-use Rattle.board.specs.Boards.{Target, Board, largest_stretch}
+use Rattle.board.specs.Boards.{Target, Board, place_of, largest_stretch}
 use Rattle.board.specs.Valid.{IsTarget, IsBoard, IsWithin, is_page_value, full_values, full_length}
 use Rattle.board.specs.Valid.{has_words}
 use Rattle.targets.specs.States.{BusState, Belongs, IsTargetAt}
 use Rattle.targets.specs.Alerting.{alert_bytes, MayAllAlert}
-use Rattle.targets.specs.Fitting.{IsIn, place_of, values_for, lengths_for, IsStoredBy, FitsBlock}
+use Rattle.targets.specs.Fitting.{IsIn, values_for, lengths_for, IsStoredBy, FitsBlock}
 use Rattle.targets.specs.Fitting.{FitsAlert, FitsForm}
 use Rattle.targets.specs.SomeAnswer.{IsMessage, IsAnswer, HasAnswer, MessagesHaveAnswers}
 use Rattle.targets.proofs.AlertBytes.{wire_small}

@@ -17,11 +17,11 @@ use Rattle.wires.specs.Arbitration.{wire_byte}
 use Rattle.pmbus_table.specs.Codes.{page_code, write_protect_code}
 use Rattle.pmbus_table.specs.Protect.{is_protection}
 use Rattle.board.specs.declared.entry.Range.{Range}
-use Rattle.board.specs.Boards.{Target, Board}
+use Rattle.board.specs.Boards.{Target, Board, place_of}
 use Rattle.board.specs.Valid.{has_words, full_values, is_page_value, IsTarget, IsBoard}
 use Rattle.targets.specs.States.{BusState, Belongs}
 use Rattle.targets.specs.Alerting.{alert_bytes}
-use Rattle.targets.specs.Fitting.{IsIn, values_for, place_of, IsStoredBy, FitsRead, FitsBlock}
+use Rattle.targets.specs.Fitting.{IsIn, values_for, IsStoredBy, FitsRead, FitsBlock}
 use Rattle.targets.specs.Fitting.{FitsAlert, ReadsNothing, FitsForm}
 use Rattle.targets.specs.WireLaws.{IsOnWire, FittingBytesAreOnWire}
 use Rattle.targets.proofs.Answering.{values_within}

@@ -13,7 +13,7 @@ use Rattle.smbus.specs.Slots.{slots_of}
 use Rattle.wires.specs.Arbitration.{wire_byte}
 use Rattle.pmbus_table.specs.Codes.{page_code, write_protect_code}
 use Rattle.board.specs.declared.entry.Range.{Range}
-use Rattle.board.specs.Boards.{Allow, Target, Board, entry_of, place_of_address, largest_stretch}
+use Rattle.board.specs.Boards.{Board, place_of, entry_for, largest_stretch}
 use Rattle.board.specs.Valid.{full_values, full_length}
 use Rattle.targets.specs.States.{BusState}
 use Rattle.targets.specs.Alerting.{alert_bytes, MayAllAlert}
@@ -21,17 +21,6 @@ use Rattle.targets.specs.Alerting.{alert_bytes, MayAllAlert}
 pub record IsIn (r : Range) (n : ℕ) : Type 0 where
   pub above : r.low ≤ n
   pub below : n ≤ r.high
-
--- the index of the target that a message goes to, and the target
-abbrev pub place_of : Board → Asked → Option ℕ
-place_of b m = place_of_address m.address b.targets
-
-abbrev pub target_of : Board → Asked → Option Target
-target_of b m = option_and_then (slice_get b.targets) (place_of b m)
-
--- the entry that allows the message, if one does
-abbrev pub entry_for : Board → Asked → Option Allow
-entry_for b m = option_and_then (λ t. entry_of m.form m.code t.allow) (target_of b m)
 
 -- what may be read: the entry's ranges, or all that the form has
 abbrev pub values_for : Board → Asked → Range

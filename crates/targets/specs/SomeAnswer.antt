@@ -4,10 +4,10 @@ use Rattle.smbus.specs.declared.message.Form.TheVariants.{Alert}
 use Rattle.smbus.specs.Asked.{Asked}
 use Rattle.smbus.specs.Answered.{Answered}
 use Rattle.smbus.specs.Protocol.{AreGoodCounts, IsNumbered}
-use Rattle.board.specs.Boards.{Board}
+use Rattle.board.specs.Boards.{Board, place_of}
 use Rattle.board.specs.Valid.{IsBoard}
 use Rattle.targets.specs.States.{BusState, IsStart, Belongs}
-use Rattle.targets.specs.Fitting.{place_of, lengths_for, FitsStep}
+use Rattle.targets.specs.Fitting.{lengths_for, FitsStep}
 
 -- An alert response, or a message to a target of the board, whose block leaves room for the
 -- shortest one that the target may return: both have at most 255 bytes together.

@@ -1,14 +1,13 @@
-ghost use Rattle.std.specs.Prelude.{◌≡◌, ◌≢◌, ◌≤◌, ◌↔◌, ℕ, [], All, IsTrue, length, option_map};
-ghost use Rattle.smbus.specs.Protocol.{sent_count, whole, IsNumbered};
-ghost use Rattle.smbus.specs.Slots.{slots_of};
+ghost use Rattle.std.specs.Prelude.{◌≡◌, ◌≤◌, ◌↔◌, All, IsTrue, length, option_map};
+ghost use Rattle.smbus.specs.Protocol.{sent_count, IsNumbered};
 ghost use Rattle.board.specs.Boards.{largest_stretch};
-ghost use Rattle.targets.specs.Fitting.{IsIn, entry_for, values_for, lengths_for, place_of};
-ghost use Rattle.targets.specs.Fitting.{target_of, IsStoredBy, FitsRead, FitsBlock, FitsAlert};
-ghost use Rattle.targets.specs.Fitting.{ReadsNothing, FitsForm, Fits, FitsSilence, FitsStep};
+ghost use Rattle.targets.specs.Fitting.{IsIn, values_for, lengths_for, IsStoredBy, FitsRead};
+ghost use Rattle.targets.specs.Fitting.{FitsBlock, FitsAlert, ReadsNothing, FitsForm, Fits};
+ghost use Rattle.targets.specs.Fitting.{FitsSilence, FitsStep};
 
 use crate::alerting::{alert_byte, may_all_alert};
 use crate::state::BusState;
-use board::{Allow, Board, Range, full_length, full_values};
+use board::{Board, Range, full_length, full_values};
 use pmbus_table::code::{PAGE, WRITE_PROTECT};
 use smbus::{Answer, Form, Message, sent_count, slot_count};
 
@@ -18,19 +17,10 @@ fn is_in(range: Range, number: u16) -> bool
     (range.low..=range.high).contains(&number)
 }
 
-/// The entry that allows a message, if one does.
-fn entry_for<'a>(board: &'a Board, message: &Message) -> Option<&'a Allow>
-    ensures { option_map (λ e. e.now) result ≡ entry_for board.now message.now }
-{
-    let index = board.target_at(message.address)?;
-    let target = board.target(index)?;
-    target.entry(message.form, message.code)
-}
-
 fn values_for(board: &Board, message: &Message) -> Range
     ensures { result ≡ values_for board.now message.now }
 {
-    match entry_for(board, message) {
+    match board.entry_for(message) {
         Some(entry) => entry.values(),
         None => full_values(message.form),
     }
@@ -39,7 +29,7 @@ fn values_for(board: &Board, message: &Message) -> Range
 fn lengths_for(board: &Board, message: &Message) -> Range
     ensures { result ≡ lengths_for board.now message.now }
 {
-    match entry_for(board, message) {
+    match board.entry_for(message) {
         Some(entry) => entry.length(),
         None => full_length(),
     }
