@@ -1,8 +1,6 @@
 //! Items in the order of the file, each with a name of its own.
 
-ghost use Rattle.std.specs.Prelude.{◌≡◌, ◌++◌, ◌∷◌, [], false, option_map, slice_get, OnOk, IfErr};
-ghost use Rattle.std.specs.Prelude.{string_bytes};
-ghost use Rattle.board.specs.Boards.{place_of_name};
+ghost use Rattle.std.specs.Prelude.{◌≡◌, false, OnOk, IfErr};
 ghost use Rattle.board.specs.Named.{named_view, names, is_named, with_item, no_named};
 ghost use Rattle.board.specs.declared.fault.BoardFault.TheVariants.{Memory};
 

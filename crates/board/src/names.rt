@@ -1,9 +1,7 @@
 //! Sets of names, in the order in which they came.
 
-ghost use Rattle.std.specs.Prelude.{◌≡◌, ◌++◌, ◌∷◌, [], false, length, option_map, slice_get, OnOk};
+ghost use Rattle.std.specs.Prelude.{◌≡◌, ◌++◌, ◌∷◌, [], false, option_map, slice_get, OnOk};
 ghost use Rattle.std.specs.Prelude.{IfErr};
-ghost use Rattle.std.specs.List.{list_any};
-ghost use Rattle.std.specs.Str.{bytes_eq};
 ghost use Rattle.board.specs.Boards.{place_of_name};
 ghost use Rattle.board.specs.Named.{names, is_named};
 ghost use Rattle.board.specs.declared.fault.BoardFault.TheVariants.{Memory};

@@ -1,6 +1,6 @@
 //! What a message does to PAGE and WRITE_PROTECT of the target that it goes to.
 
-ghost use Rattle.std.specs.Prelude.{◌≡◌, ◌↔◌, ◌&&◌, ℕ, ◌∷◌, [], Some, IfSome, IfNone, IsTrue};
+ghost use Rattle.std.specs.Prelude.{◌≡◌, ◌↔◌, ◌&&◌, ℕ, Some, IfSome, IfNone, IsTrue};
 ghost use Rattle.std.specs.Prelude.{option_map};
 ghost use Rattle.board.specs.Boards.{Target};
 ghost use Rattle.board.specs.Valid.{IsBoard};
