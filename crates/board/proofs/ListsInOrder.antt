@@ -1,10 +1,10 @@
 -- Each list of a board file is read in order.
 use Rattle.std.proofs.Common.{◌≡◌, ◌↔◌, ◌∙◌, ℕ, pos, List, [], ◌∷◌, ◌++◌, length, Result, Ok, Err}
 use Rattle.std.proofs.Common.{refl, sym, ap, subst}
-use Rattle.toml.specs.Data.{integer, Items, no_items, item, as_table}
+use Rattle.toml.specs.Data.{integer, Items, no_items, item, Members}
 use Rattle.smbus.specs.FormWords.{form_named}
-use Rattle.texts.specs.Reading.{◌>>=◌, some_or}
-use Rattle.board.specs.declared.fault.BoardFault.TheVariants.{SameName, BadKey}
+use Rattle.texts.specs.Reading.{◌>>=◌}
+use Rattle.board.specs.declared.fault.BoardFault.TheVariants.{SameName}
 use Rattle.board.specs.Keys.{check_keys}
 use Rattle.board.specs.Boards.{Target, Rail, Allow}
 use Rattle.board.specs.Named.{Named, with_item, named_of}
@@ -13,7 +13,7 @@ use Rattle.board.specs.Entries.{allow_of, entry_from, entries_of}
 use Rattle.board.specs.Targets.{bytes_of, target_from, targets_of}
 use Rattle.board.specs.Rails.{RailDraft, draft_from, drafts_of, need_of, needs_of, rail_with}
 use Rattle.board.specs.Rails.{rails_of}
-use Rattle.board.specs.OrderLaws.{list_of, byte_after, entry_after, target_after, draft_after}
+use Rattle.board.specs.OrderLaws.{list_of, byte_after, target_after, draft_after}
 use Rattle.board.specs.OrderLaws.{need_after, rail_after, receive_table, SomeListsInOrder}
 use Rattle.board.specs.OrderLaws.{TargetsInOrder, EntriesInOrder, BytesInOrder, DraftsInOrder}
 use Rattle.board.specs.OrderLaws.{NeedsInOrder, RailsInOrder}
@@ -34,15 +34,15 @@ bind_twice : {M B C Y F : Type 0} (seen : Result C F → Result Y F) (o : Result
 bind_twice seen (Ok m) f g h keeps e = bind_once seen (f m) g h keeps e
 bind_twice seen (Err fault) f g h keeps e = sym (keeps fault)
 
-entries_read : (done : List Allow) (items : Items)
-    → entries_of done items ≡ reads entry_after done (list_of items)
-entries_read done no_items = refl
-entries_read done (item d ds) =
-    bind_twice (λ r. r) (some_or BadKey (as_table d)) (entry_from done) _ _ (λ fault. refl)
-    (λ a. entries_read (done ++ a ∷ []) ds)
+entries_read : (done : List Allow) (tables : List Members)
+    → entries_of done tables ≡ reads entry_from done tables
+entries_read done [] = refl
+entries_read done (ms ∷ tables) =
+    bind_once (λ r. r) (entry_from done ms) _ _ (λ fault. refl)
+    (λ a. entries_read (done ++ a ∷ []) tables)
 
 pub entries_in_order : EntriesInOrder
-entries_in_order items r = rw (entries_read []) (reads_in_order entry_after (list_of items) r)
+entries_in_order tables r = rw (entries_read []) (reads_in_order entry_from tables r)
 
 bytes_read : (done : List ℕ) (items : Items)
     → bytes_of done items ≡ reads byte_after done (list_of items)
@@ -53,16 +53,16 @@ bytes_read done (item d ds) =
 pub bytes_in_order : BytesInOrder
 bytes_in_order items r = rw (bytes_read []) (reads_in_order byte_after (list_of items) r)
 
-needs_read : (names : List (List ℕ)) (rail : ℕ) (done : List ℕ) (items : Items)
-    → needs_of names rail done items ≡ reads (need_after names rail) done (list_of items)
-needs_read names rail done no_items = refl
-needs_read names rail done (item d ds) =
-    bind_once (λ r. r) (need_of names rail d) _ _ (λ fault. refl)
-    (λ n. needs_read names rail (done ++ n ∷ []) ds)
+needs_read : (names : List (List ℕ)) (rail : ℕ) (done : List ℕ) (needs : List (List ℕ))
+    → needs_of names rail done needs ≡ reads (need_after names rail) done needs
+needs_read names rail done [] = refl
+needs_read names rail done (name ∷ needs) =
+    bind_once (λ r. r) (need_of names rail name) _ _ (λ fault. refl)
+    (λ n. needs_read names rail (done ++ n ∷ []) needs)
 
 pub needs_in_order : NeedsInOrder
-needs_in_order names rail items r =
-    rw (needs_read names rail []) (reads_in_order (need_after names rail) (list_of items) r)
+needs_in_order names rail needs r =
+    rw (needs_read names rail []) (reads_in_order (need_after names rail) needs r)
 
 rails_read : (names : List (List ℕ)) (done : List Rail) (drafts : List RailDraft)
     → rails_of names done drafts ≡ reads (rail_after names) done drafts
@@ -105,32 +105,30 @@ named_in_order {D = D} {A = A} {F = F} read ds r = (
         ap in_names ((reads_in_order read ds (Ok a.pairs)).1 a.values) ∙ ap Ok (sym a.is)
     unseen (Err fault) f = ap in_names ((reads_in_order read ds (Err fault)).1 f)
 
-targets_read : (done : List (List ℕ × Target)) (items : Items)
-    → targets_of (named_of done) items ≡ in_names (reads target_after done (list_of items))
-targets_read done no_items = refl
-targets_read done (item d ds) =
-    bind_twice in_names (some_or BadKey (as_table d)) (target_from (named_of done)) _ _
-    (λ fault. refl)
-    (λ t. rw (named_of-push done t) (targets_read (done ++ t ∷ []) ds))
+targets_read : (done : List (List ℕ × Target)) (tables : List Members)
+    → targets_of (named_of done) tables ≡ in_names (reads target_after done tables)
+targets_read done [] = refl
+targets_read done (ms ∷ tables) =
+    bind_once in_names (target_from (named_of done) ms) _ _ (λ fault. refl)
+    (λ t. rw (named_of-push done t) (targets_read (done ++ t ∷ []) tables))
 
 pub targets_in_order : TargetsInOrder
-targets_in_order items r = rw (targets_read []) (named_in_order target_after (list_of items) r)
+targets_in_order tables r = rw (targets_read []) (named_in_order target_after tables r)
 
-drafts_read : (targets : Named Target) (done : List (List ℕ × RailDraft)) (items : Items)
-    → drafts_of targets (named_of done) items
-    ≡ in_names (reads (draft_after targets) done (list_of items))
-drafts_read targets done no_items = refl
-drafts_read targets done (item d ds) =
-    bind_twice in_names (some_or BadKey (as_table d)) (draft_from targets (named_of done)) _ _
-    (λ fault. refl)
-    (λ s. rw (named_of-push done s) (drafts_read targets (done ++ s ∷ []) ds))
+drafts_read : (targets : Named Target) (done : List (List ℕ × RailDraft)) (tables : List Members)
+    → drafts_of targets (named_of done) tables
+    ≡ in_names (reads (draft_after targets) done tables)
+drafts_read targets done [] = refl
+drafts_read targets done (ms ∷ tables) =
+    bind_once in_names (draft_from targets (named_of done) ms) _ _ (λ fault. refl)
+    (λ s. rw (named_of-push done s) (drafts_read targets (done ++ s ∷ []) tables))
 
 pub drafts_in_order : DraftsInOrder
-drafts_in_order targets items r =
-    rw (drafts_read targets []) (named_in_order (draft_after targets) (list_of items) r)
+drafts_in_order targets tables r =
+    rw (drafts_read targets []) (named_in_order (draft_after targets) tables r)
 
 -- the second of two equal entries has a name that was there
-same_entry_twice : entries_of [] (item receive_table (item receive_table no_items)) ≡ Err SameName
+same_entry_twice : entries_of [] (receive_table ∷ receive_table ∷ []) ≡ Err SameName
 unfolding entry_from check_keys allow_of form_named
 same_entry_twice = refl
 
@@ -140,6 +138,5 @@ some_lists_in_order = record {
       (bytes_in_order (item (integer (pos 7)) (item (integer (pos 9)) no_items))
       (Ok (7 ∷ 9 ∷ []))).0 refl;
   entries =
-      (entries_in_order (item receive_table (item receive_table no_items)) (Err SameName)).0
-      same_entry_twice;
+      (entries_in_order (receive_table ∷ receive_table ∷ []) (Err SameName)).0 same_entry_twice;
 }

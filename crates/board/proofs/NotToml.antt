@@ -1,7 +1,7 @@
 -- The fault Toml comes from the text alone, and never from the tree of a text that was read.
 use Rattle.std.proofs.Common.{◌≡◌, ◌≢◌, ℕ, List, [], ◌∷◌, ◌++◌, Bool, true, false, cond, rules}
 use Rattle.std.proofs.Common.{Option, Some, None, option_map, Result, Ok, Err}
-use Rattle.toml.specs.Data.{Data, Items, no_items, item, Members}
+use Rattle.toml.specs.Data.{Items, no_items, item, Members}
 use Rattle.texts.specs.Reading.{◌>>=◌, some_or, value_if}
 use Rattle.smbus.specs.declared.message.Form.{Form}
 use Rattle.smbus.specs.FormWords.{carries_code}
@@ -105,16 +105,15 @@ unfolding entry_from
 entry_not done ms =
     search (rules, then, ok, or, if, keys_not, command_not, allow_not, unknown_command, same_name)
 
-entries_not : (done : List Allow) (ds : Items) → NotToml (entries_of done ds)
-entries_not done no_items = ok done
-entries_not done (item d ds) =
-    let more : (x : Allow) → NotToml (entries_of (done ++ x ∷ []) ds) = λ x.
-    entries_not (done ++ x ∷ []) ds in
-    search (rules, then, or, bad_key, entry_not, more)
+entries_not : (done : List Allow) (tables : List Members) → NotToml (entries_of done tables)
+entries_not done [] = ok done
+entries_not done (ms ∷ tables) =
+    let more : (x : Allow) → NotToml (entries_of (done ++ x ∷ []) tables) = λ x.
+    entries_not (done ++ x ∷ []) tables in
+    search (rules, then, entry_not, more)
 
 name_not : (names : List (List ℕ)) (ms : Members) → NotToml (new_name names ms)
-unfolding new_name
-name_not names ms = search (rules, then, or, if, missing_key, same_name)
+name_not names ms = search (rules, if, same_name)
 
 address_not : (done : List Target) (ms : Members) → NotToml (new_address done ms)
 unfolding new_address
@@ -150,12 +149,12 @@ unfolding target_from
 target_not done ms =
     search (rules, then, ok, or, if, keys_not, name_not, address_not, numbers_not, rest_not)
 
-targets_not : (done : Named Target) (ds : Items) → NotToml (targets_of done ds)
-targets_not done no_items = ok done
-targets_not done (item d ds) =
-    let more : (x : List ℕ × Target) → NotToml (targets_of (with_item x.0 x.1 done) ds) = λ x.
-    targets_not (with_item x.0 x.1 done) ds in
-    search (rules, then, or, bad_key, target_not, more)
+targets_not : (done : Named Target) (tables : List Members) → NotToml (targets_of done tables)
+targets_not done [] = ok done
+targets_not done (ms ∷ tables) =
+    let more : (x : List ℕ × Target) → NotToml (targets_of (with_item x.0 x.1 done) tables) = λ x.
+    targets_not (with_item x.0 x.1 done) tables in
+    search (rules, then, target_not, more)
 
 draft_not : (targets : Named Target) (done : Named RailDraft) (ms : Members)
     → NotToml (draft_from targets done ms)
@@ -163,25 +162,25 @@ unfolding draft_from
 draft_not targets done ms =
     search (rules, then, ok, or, if, keys_not, name_not, bad_rail, bad_range)
 
-drafts_not : (targets : Named Target) (done : Named RailDraft) (ds : Items)
-    → NotToml (drafts_of targets done ds)
-drafts_not targets done no_items = ok done
-drafts_not targets done (item d ds) =
+drafts_not : (targets : Named Target) (done : Named RailDraft) (tables : List Members)
+    → NotToml (drafts_of targets done tables)
+drafts_not targets done [] = ok done
+drafts_not targets done (ms ∷ tables) =
     let more : (x : List ℕ × RailDraft)
-    → NotToml (drafts_of targets (with_item x.0 x.1 done) ds) = λ x.
-    drafts_not targets (with_item x.0 x.1 done) ds in
-    search (rules, then, or, bad_key, draft_not, more)
+    → NotToml (drafts_of targets (with_item x.0 x.1 done) tables) = λ x.
+    drafts_not targets (with_item x.0 x.1 done) tables in
+    search (rules, then, draft_not, more)
 
-need_not : (names : List (List ℕ)) (rail : ℕ) (d : Data) → NotToml (need_of names rail d)
+need_not : (names : List (List ℕ)) (rail : ℕ) (name : List ℕ) → NotToml (need_of names rail name)
 unfolding need_of
-need_not names rail d = search (rules, then, or, if, unknown_need, self_need)
+need_not names rail name = search (rules, then, or, if, unknown_need, self_need)
 
-needs_not : (names : List (List ℕ)) (rail : ℕ) (done : List ℕ) (ds : Items)
-    → NotToml (needs_of names rail done ds)
-needs_not names rail done no_items = ok done
-needs_not names rail done (item d ds) =
-    let more : (x : ℕ) → NotToml (needs_of names rail (done ++ x ∷ []) ds) = λ x.
-    needs_not names rail (done ++ x ∷ []) ds in
+needs_not : (names : List (List ℕ)) (rail : ℕ) (done : List ℕ) (needs : List (List ℕ))
+    → NotToml (needs_of names rail done needs)
+needs_not names rail done [] = ok done
+needs_not names rail done (name ∷ needs) =
+    let more : (x : ℕ) → NotToml (needs_of names rail (done ++ x ∷ []) needs) = λ x.
+    needs_not names rail (done ++ x ∷ []) needs in
     search (rules, then, need_not, more)
 
 rails_not : (names : List (List ℕ)) (done : List Rail) (drafts : List RailDraft)

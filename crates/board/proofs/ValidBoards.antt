@@ -9,11 +9,11 @@ use Rattle.toml.specs.Data.{Members}
 use Rattle.texts.specs.Reading.{value_if}
 use Rattle.board.specs.declared.fault.BoardFault.TheVariants.{MissingKey, TooMany}
 use Rattle.board.specs.Boards.{Target, Rail, Board}
-use Rattle.board.specs.Fields.{items_at}
+use Rattle.board.specs.Fields.{tables_at}
 use Rattle.board.specs.Named.{Named, no_named}
 use Rattle.board.specs.Targets.{targets_of}
 use Rattle.board.specs.Rails.{RailDraft, drafts_of, rails_of}
-use Rattle.board.specs.Files.{item_count, check_top_keys, check_size, board_from, board_of}
+use Rattle.board.specs.Files.{check_top_keys, check_size, board_from, board_of}
 use Rattle.board.specs.Valid.{IsBoard, IsRail, DifferInPage}
 use Rattle.board.proofs.Steps.{bind_ok, if_ok, ok_is}
 use Rattle.board.proofs.Apart.{All-unmap, AllPairs-unmap}
@@ -23,18 +23,18 @@ use Rattle.board.proofs.ValidRails.{drafts_count}
 use Rattle.board.proofs.ValidNeeds.{HaveNeeds, no_rails, bare, rails_ok, rails_bare, rails_count}
 
 record AreFew (k : Members) : Type 0 where
-  pub one_target : 1 ≤ item_count (items_at (codes "target") k)
-  pub few_targets : item_count (items_at (codes "target") k) ≤ 16
-  pub few_rails : item_count (items_at (codes "rail") k) ≤ 64
+  pub one_target : 1 ≤ length (tables_at (codes "target") k)
+  pub few_targets : length (tables_at (codes "target") k) ≤ 16
+  pub few_rails : length (tables_at (codes "rail") k) ≤ 64
 
 size_ok : (ms k : Members) → check_size ms ≡ Ok k → AreFew k
 unfolding check_size
 size_ok ms k e =
     let a = bind_ok (check_top_keys ms) _ k e in
     let b =
-    bind_ok (value_if MissingKey (nat_lt 0 (item_count (items_at (codes "target") a.0))) a.0) _ k
+    bind_ok (value_if MissingKey (nat_lt 0 (length (tables_at (codes "target") a.0))) a.0) _ k
     a.2 in
-    let c = bind_ok (value_if TooMany (nat_le (item_count (items_at (codes "target") b.0)) 16) b.0)
+    let c = bind_ok (value_if TooMany (nat_le (length (tables_at (codes "target") b.0)) 16) b.0)
     _ k b.2 in
     let some = if_ok MissingKey _ a.0 b.0 b.1 in
     let few = if_ok TooMany _ b.0 c.0 c.1 in
@@ -43,11 +43,11 @@ size_ok ms k e =
     let second : b.0 ≡ k = cc in
     record {
       one_target =
-          subst (λ m. 1 ≤ item_count (items_at (codes "target") m)) first (ltb-true 0 _ some.0);
+          subst (λ m. 1 ≤ length (tables_at (codes "target") m)) first (ltb-true 0 _ some.0);
       few_targets =
-          subst (λ m. item_count (items_at (codes "target") m) ≤ 16) second (leb-true _ 16 few.0);
+          subst (λ m. length (tables_at (codes "target") m) ≤ 16) second (leb-true _ 16 few.0);
       few_rails =
-          subst (λ m. item_count (items_at (codes "rail") m) ≤ 64) rails.1 (leb-true _ 64 rails.0);
+          subst (λ m. length (tables_at (codes "rail") m) ≤ 64) rails.1 (leb-true _ 64 rails.0);
     }
 
 -- a board of valid targets and rails
@@ -114,20 +114,20 @@ pub board_valid : (ms : Members) (b : Board) → board_of ms ≡ Ok b → IsBoar
 unfolding board_of
 board_valid ms b e =
     let k = bind_ok (check_size ms) _ b e in
-    let t = bind_ok (targets_of no_named (items_at (codes "target") k.0)) _ b k.2 in
-    let s = bind_ok (drafts_of t.0 no_named (items_at (codes "rail") k.0)) _ b t.2 in
+    let t = bind_ok (targets_of no_named (tables_at (codes "target") k.0)) _ b k.2 in
+    let s = bind_ok (drafts_of t.0 no_named (tables_at (codes "rail") k.0)) _ b t.2 in
     let r = bind_ok (rails_of s.0.names [] s.0.items) _ b s.2 in
     let few = size_ok ms k.0 k.1 in
-    let targets = targets_count no_named (items_at (codes "target") k.0) t.0 t.1 in
-    let drafts = drafts_count t.0 no_named (items_at (codes "rail") k.0) s.0 s.1 in
+    let targets = targets_count no_named (tables_at (codes "target") k.0) t.0 t.1 in
+    let drafts = drafts_count t.0 no_named (tables_at (codes "rail") k.0) s.0 s.1 in
     let rails = rails_count s.0.names [] s.0.items r.0 r.1 in
     let made : Board = board_from t.0 (record { names = s.0.names; items = r.0 }) in
     subst IsBoard (ok_is made b r.2) (parts_valid t.0 s.0 r.0 (record {
-      good_targets = targets_valid no_named (items_at (codes "target") k.0) t.0 t.1 no_targets;
+      good_targets = targets_valid no_named (tables_at (codes "target") k.0) t.0 t.1 no_targets;
       one_target = omega (arith, few.one_target, targets);
       few_targets = omega (arith, few.few_targets, targets);
       good_drafts =
-          drafts_valid t.0 no_named (items_at (codes "rail") k.0) s.0 s.1 (no_drafts t.0.items);
+          drafts_valid t.0 no_named (tables_at (codes "rail") k.0) s.0 s.1 (no_drafts t.0.items);
       few_rails = omega (arith, few.few_rails, drafts);
       count = omega (arith, rails);
       same = rails_bare s.0.names [] s.0.items r.0 r.1;

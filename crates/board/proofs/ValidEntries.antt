@@ -6,13 +6,12 @@ use Rattle.std.proofs.lemmas.Bool.{eq-eqb}
 use Rattle.std.specs.List.{All, AllPairs}
 use Rattle.std.proofs.lemmas.List.Elements.{All-push}
 use Rattle.std.proofs.lemmas.List.Quantifiers.{all_pairs_push}
-use Rattle.toml.specs.Data.{Items, no_items, item, Members, as_table}
+use Rattle.toml.specs.Data.{Members}
 use Rattle.smbus.specs.declared.message.Form.{Form}
 use Rattle.smbus.specs.FormWords.{carries_code}
 use Rattle.texts.specs.Reading.{some_or, value_if}
 use Rattle.pmbus_table.specs.Forms.{form_number}
 use Rattle.board.specs.declared.fault.BoardFault.TheVariants.{SameName, BadRange, UnknownCommand}
-use Rattle.board.specs.declared.fault.BoardFault.TheVariants.{BadKey}
 use Rattle.board.specs.Boards.{Allow, code_in, is_for, has_entry}
 use Rattle.board.specs.Keys.{check_keys}
 use Rattle.board.specs.Entries.{check_entry_keys, needed_by, optional_for, form_at, command_for}
@@ -86,14 +85,14 @@ differs done a v e k d h f c =
     let used = used_before (get_or done k d) a.form a.code f (c ∙ own_code a v) in
     cc
 
-pub entries_valid : (done : List Allow) (ds : Items) (xs : List Allow) → entries_of done ds ≡ Ok xs
+pub entries_valid : (done : List Allow) (tables : List Members) (xs : List Allow)
+    → entries_of done tables ≡ Ok xs
     → All IsEntry done → AllPairs DifferInUse done → All IsEntry xs × AllPairs DifferInUse xs
-entries_valid done no_items xs e a p =
+entries_valid done [] xs e a p =
     let same = ok_is done xs e in
     (subst (All IsEntry) same a, subst (AllPairs DifferInUse) same p)
-entries_valid done (item d ds) xs e a p =
-    let m = bind_ok (some_or BadKey (as_table d)) _ xs e in
-    let n = bind_ok (entry_from done m.0) _ xs m.2 in
-    let v = entry_valid done m.0 n.0 n.1 in
-    entries_valid (done ++ n.0 ∷ []) ds xs n.2 (All-push IsEntry done n.0 a v.entry)
+entries_valid done (ms ∷ tables) xs e a p =
+    let n = bind_ok (entry_from done ms) _ xs e in
+    let v = entry_valid done ms n.0 n.1 in
+    entries_valid (done ++ n.0 ∷ []) tables xs n.2 (All-push IsEntry done n.0 a v.entry)
     (all_pairs_push DifferInUse done n.0 p (differs done n.0 v.entry v.new))

@@ -1,24 +1,24 @@
 -- The name of a table whose keys are good.
-use Rattle.std.proofs.Common.{◌≡◌, ℕ, List, ◌∷◌, true, false, Option, Some, None, option_and_then}
-use Rattle.std.proofs.Common.{codes, Ok, subst}
+use Rattle.std.proofs.Common.{◌≡◌, ℕ, List, [], ◌∷◌, true, false, Option, Some, None, is_some}
+use Rattle.std.proofs.Common.{option_and_then, unwrap_or, codes, Ok, subst}
 use Rattle.std.proofs.lemmas.Bool.{and_parts}
 use Rattle.std.specs.List.{list_all}
 use Rattle.std.specs.Option.{option_map_or}
 use Rattle.toml.specs.Data.{Data, Members, get_member, as_str}
 use Rattle.texts.specs.Names.{is_name}
-use Rattle.texts.specs.Reading.{some_or, value_if}
+use Rattle.texts.specs.Reading.{value_if}
 use Rattle.board.specs.declared.fault.BoardFault.TheVariants.{MissingKey, SameName, BadKey}
 use Rattle.board.specs.declared.keys.Kind.TheVariants as kind
-use Rattle.board.specs.Keys.{Key, all_known, is_good_at, is_of, check_keys}
-use Rattle.board.specs.Fields.{text_at}
+use Rattle.board.specs.Keys.{Key, all_known, is_good_at, is_there, is_of, check_keys}
 use Rattle.board.specs.Named.{is_named}
-use Rattle.board.specs.Targets.{new_name}
-use Rattle.board.proofs.Steps.{bind_ok, some_ok, if_ok, not_false}
+use Rattle.board.specs.Targets.{name_in, new_name}
+use Rattle.board.proofs.Steps.{bind_ok, if_ok, not_false}
 
 -- the table is the one that was given, and its needed keys are good
 pub record HasKeys (needed : List Key) (ms k : Members) : Type 0 where
   pub same : ms ≡ k
   pub good : list_all (is_good_at k) needed ≡ true
+  pub there : list_all (is_there k) needed ≡ true
 
 pub keys_ok : (needed optional : List Key) (ms k : Members) → check_keys needed optional ms ≡ Ok k
     → HasKeys needed ms k
@@ -35,42 +35,35 @@ keys_ok needed optional ms k e =
     record {
       same = cc;
       good = subst (λ m. list_all (is_good_at m) needed ≡ true) last good.0;
+      there = subst (λ m. list_all (is_there m) needed ≡ true) there.1 there.0;
     }
 
-name_of_text : (o : Option (List ℕ)) (n : List ℕ) → option_map_or is_name o false ≡ true
-    → o ≡ Some n → is_name n ≡ true
-name_of_text None n g e = absurd cc
-name_of_text (Some s) n g e =
-    let same : s ≡ n = cc in
-    rw (← same) g
+name_of_text : (o : Option (List ℕ)) → option_map_or is_name o false ≡ true
+    → is_name (unwrap_or o []) ≡ true
+name_of_text None g = absurd cc
+name_of_text (Some s) g = g
 
-name_of_data : (o : Option Data) (n : List ℕ) → option_map_or (is_of kind.Name) o true ≡ true
-    → option_and_then as_str o ≡ Some n → is_name n ≡ true
-name_of_data None n g e = absurd cc
-name_of_data (Some d) n g e = name_of_text (as_str d) n g e
+name_of_data : (o : Option Data) → option_map_or (is_of kind.Name) o true ≡ true
+    → is_some o ≡ true → is_name (unwrap_or (option_and_then as_str o) []) ≡ true
+name_of_data None g there = absurd cc
+name_of_data (Some d) g there = name_of_text (as_str d) g
 
 -- where a name is needed, what stands there is a good one
-pub good_name : (rest optional : List Key) (ms k : Members) (n : List ℕ)
-    → check_keys ((codes "name", kind.Name) ∷ rest) optional ms ≡ Ok k
-    → text_at (codes "name") k ≡ Some n → is_name n ≡ true
-good_name rest optional ms k n e t =
-    let ok = keys_ok ((codes "name", kind.Name) ∷ rest) optional ms k e in
-    let first =
-    and_parts (is_good_at k (codes "name", kind.Name)) (list_all (is_good_at k) rest) ok.good in
-    name_of_data (get_member (codes "name") k) n first.0 t
+pub good_name : (rest optional : List Key) (ms k : Members)
+    → check_keys ((codes "name", kind.Name) ∷ rest) optional ms ≡ Ok k → is_name (name_in k) ≡ true
+good_name rest optional ms k e =
+    let name : Key = (codes "name", kind.Name) in
+    let ok = keys_ok (name ∷ rest) optional ms k e in
+    let good = and_parts (is_good_at k name) (list_all (is_good_at k) rest) ok.good in
+    let there = and_parts (is_there k name) (list_all (is_there k) rest) ok.there in
+    name_of_data (get_member (codes "name") k) good.0 there.0
 
 pub record IsNew (names : List (List ℕ)) (k : Members) (n : List ℕ) : Type 0 where
-  pub text : text_at (codes "name") k ≡ Some n
+  pub text : name_in k ≡ n
   pub new : is_named n names ≡ false
 
 pub new_name_ok : (names : List (List ℕ)) (k : Members) (n : List ℕ) → new_name names k ≡ Ok n
     → IsNew names k n
-unfolding new_name
 new_name_ok names k n e =
-    let a = bind_ok (some_or MissingKey (text_at (codes "name") k)) _ n e in
-    let b = if_ok SameName _ a.0 n a.2 in
-    let text = some_ok MissingKey (text_at (codes "name") k) a.0 a.1 in
-    record {
-      text = rw (← b.1) text;
-      new = rw (← b.1) (not_false (is_named a.0 names) b.0);
-    }
+    let b = if_ok SameName _ (name_in k) n e in
+    record { text = b.1; new = rw (← b.1) (not_false (is_named (name_in k) names) b.0) }

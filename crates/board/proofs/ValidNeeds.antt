@@ -1,6 +1,6 @@
 -- The rails with their needs.
 use Rattle.std.proofs.Common.{◌≡◌, ◌≢◌, ℕ, ◌+◌, ◌<◌, Bool, true, false, not, eqb, List, [], ◌∷◌}
-use Rattle.std.proofs.Common.{◌++◌, length, map, slice_get, Option, Some, None, option_and_then, Ok}
+use Rattle.std.proofs.Common.{◌++◌, length, map, slice_get, Some, Ok}
 use Rattle.std.proofs.Common.{ap, subst, ◌∙◌, append_assoc, arith, inl, inr}
 use Rattle.std.specs.Str.{bytes_eq}
 use Rattle.std.specs.List.{All}
@@ -8,7 +8,6 @@ use Rattle.std.proofs.lemmas.Bool.{eq-eqb}
 use Rattle.std.proofs.lemmas.List.{length_push, append-nil}
 use Rattle.std.proofs.lemmas.List.Elements.{All-push}
 use Rattle.std.proofs.lemmas.List.Quantifiers.{position-Some}
-use Rattle.toml.specs.Data.{Data, Items, no_items, item, as_str}
 use Rattle.texts.specs.Reading.{some_or}
 use Rattle.board.specs.declared.fault.BoardFault.TheVariants.{UnknownNeed, SelfNeed}
 use Rattle.board.specs.Boards.{Rail, place_of_name}
@@ -24,37 +23,31 @@ pub record IsNeed (rails rail n : ℕ) : Type 0 where
   pub there : n < rails
   pub other : n ≢ rail
 
-place_there : (names : List (List ℕ)) (o : Option (List ℕ)) (n : ℕ)
-    → option_and_then (λ name. place_of_name name names) o ≡ Some n → n < length names
-place_there names None n e = absurd cc
-place_there names (Some name) n e = (position-Some (bytes_eq name) names n [] e).0
-
-need_ok : (names : List (List ℕ)) (rail : ℕ) (d : Data) (n : ℕ) → need_of names rail d ≡ Ok n
-    → IsNeed (length names) rail n
+need_ok : (names : List (List ℕ)) (rail : ℕ) (name : List ℕ) (n : ℕ)
+    → need_of names rail name ≡ Ok n → IsNeed (length names) rail n
 unfolding need_of
-need_ok names rail d n e =
-    let a =
-    bind_ok (some_or UnknownNeed (option_and_then (λ name. place_of_name name names) (as_str d))) _
-    n e in
+need_ok names rail name n e =
+    let a = bind_ok (some_or UnknownNeed (place_of_name name names)) _ n e in
     let b = if_ok SelfNeed (not (eqb a.0 rail)) a.0 n a.2 in
-    let there = place_there names (as_str d) a.0 (some_ok UnknownNeed _ a.0 a.1) in
+    let place = some_ok UnknownNeed _ a.0 a.1 in
     rw (← b.1) (record {
-      there = there;
+      there = (position-Some (bytes_eq name) names a.0 [] place).0;
       other = λ s. differs (eqb a.0 rail) (not_false (eqb a.0 rail) b.0) (eq-eqb a.0 rail s);
     })
   where
     differs : (b : Bool) → b ≡ false → b ≡ true → ⊥
     differs b f t = cc
 
-needs_ok : (names : List (List ℕ)) (rail : ℕ) (done : List ℕ) (ds : Items) (ns : List ℕ)
-    → needs_of names rail done ds ≡ Ok ns → All (IsNeed (length names) rail) done
+needs_ok : (names : List (List ℕ)) (rail : ℕ) (done : List ℕ) (needs : List (List ℕ))
+    (ns : List ℕ)
+    → needs_of names rail done needs ≡ Ok ns → All (IsNeed (length names) rail) done
     → All (IsNeed (length names) rail) ns
-needs_ok names rail done no_items ns e a =
+needs_ok names rail done [] ns e a =
     subst (All (IsNeed (length names) rail)) (ok_is done ns e) a
-needs_ok names rail done (item d ds) ns e a =
-    let n = bind_ok (need_of names rail d) _ ns e in
-    needs_ok names rail (done ++ n.0 ∷ []) ds ns n.2
-    (All-push (IsNeed (length names) rail) done n.0 a (need_ok names rail d n.0 n.1))
+needs_ok names rail done (name ∷ needs) ns e a =
+    let n = bind_ok (need_of names rail name) _ ns e in
+    needs_ok names rail (done ++ n.0 ∷ []) needs ns n.2
+    (All-push (IsNeed (length names) rail) done n.0 a (need_ok names rail name n.0 n.1))
 
 -- each rail's needs
 pub record HaveNeeds (count : ℕ) (rails : List Rail) : Type 0 where

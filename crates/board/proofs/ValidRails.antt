@@ -1,24 +1,23 @@
 -- The rails that are read, before their needs are.
 use Rattle.std.proofs.Common.{◌≡◌, ℕ, ◌+◌, ◌<◌, ◌≤◌, Bool, true, false, cond, not, ◌&&◌, eqb, ltb}
-use Rattle.std.proofs.Common.{List, [], length, get_or, map, slice_get, Option, Some, None}
+use Rattle.std.proofs.Common.{List, [], ◌∷◌, length, get_or, map, slice_get, Option, Some, None}
 use Rattle.std.proofs.Common.{option_and_then, codes, Ok, refl, ap, subst, ◌∙◌, arith}
 use Rattle.std.specs.List.{list_any, All, AllPairs}
 use Rattle.std.proofs.lemmas.Bool.{ltb-true, eq-eqb}
 use Rattle.std.proofs.lemmas.List.Elements.{All-push}
 use Rattle.std.proofs.lemmas.List.{length_push}
 use Rattle.std.proofs.lemmas.List.Quantifiers.{all_pairs_push}
-use Rattle.toml.specs.Data.{Items, no_items, item, Members, as_table}
+use Rattle.toml.specs.Data.{Members}
 use Rattle.texts.specs.Names.{is_name}
 use Rattle.texts.specs.Reading.{some_or, value_if}
-use Rattle.board.specs.declared.fault.BoardFault.TheVariants.{BadRail, BadRange, BadKey}
+use Rattle.board.specs.declared.fault.BoardFault.TheVariants.{BadRail, BadRange}
 use Rattle.board.specs.Boards.{Target, Rail}
-use Rattle.board.specs.Fields.{number_at, items_at}
+use Rattle.board.specs.Fields.{number_at, texts_at}
 use Rattle.board.specs.Named.{Named, is_named, no_named, with_item}
 use Rattle.board.specs.Targets.{new_name}
 use Rattle.board.specs.Rails.{RailDraft, check_rail_keys, target_at, page_of, page_at, has_page}
 use Rattle.board.specs.Rails.{draft_from}
 use Rattle.board.specs.Rails.{drafts_of, rail_with}
-use Rattle.board.specs.Files.{item_count}
 use Rattle.board.specs.Valid.{DifferInPage}
 use Rattle.board.proofs.Steps.{bind_ok, some_ok, if_ok, ok_is, not_false, chosen_some}
 use Rattle.board.proofs.Lists.{list_any-map, map-push}
@@ -83,7 +82,7 @@ draft_ok targets done ms x e =
       target = t.0;
       page = f.0;
       limit_uv = l.0;
-      needs = items_at (codes "needs") k.0;
+      needs = texts_at (codes "needs") k.0;
     } in
     subst (λ y. IsNextDraft targets.items done y.0 y.1) (ok_is (n.0, made) x l.2) (record {
       placed = record {
@@ -91,7 +90,7 @@ draft_ok targets done ms x e =
         least_limit = limit.0;
         most_limit = limit.1;
       };
-      good = good_name _ _ ms k.0 n.0 k.1 name.text;
+      good = rw (← name.text) (good_name _ _ ms k.0 k.1);
       new = name.new;
       free = rw (← free.1) (not_false (has_page t.0 p.0 done.items) free.0);
     })
@@ -136,24 +135,23 @@ more_drafts targets n name s a x = record {
       (without_needs s) a.apart (pages_differ n.items s x.free));
 }
 
-pub drafts_valid : (targets : Named Target) (done : Named RailDraft) (ds : Items)
+pub drafts_valid : (targets : Named Target) (done : Named RailDraft) (tables : List Members)
     (n : Named RailDraft)
-    → drafts_of targets done ds ≡ Ok n → AreDrafts targets.items done → AreDrafts targets.items n
-drafts_valid targets done no_items n e a = subst (AreDrafts targets.items) (ok_is done n e) a
-drafts_valid targets done (item d ds) n e a =
-    let m = bind_ok (some_or BadKey (as_table d)) _ n e in
-    let s = bind_ok (draft_from targets done m.0) _ n m.2 in
-    drafts_valid targets (with_item s.0.0 s.0.1 done) ds n s.2
-    (more_drafts targets.items done s.0.0 s.0.1 a (draft_ok targets done m.0 s.0 s.1))
+    → drafts_of targets done tables ≡ Ok n → AreDrafts targets.items done
+    → AreDrafts targets.items n
+drafts_valid targets done [] n e a = subst (AreDrafts targets.items) (ok_is done n e) a
+drafts_valid targets done (ms ∷ tables) n e a =
+    let s = bind_ok (draft_from targets done ms) _ n e in
+    drafts_valid targets (with_item s.0.0 s.0.1 done) tables n s.2
+    (more_drafts targets.items done s.0.0 s.0.1 a (draft_ok targets done ms s.0 s.1))
 
-pub drafts_count : (targets : Named Target) (done : Named RailDraft) (ds : Items)
+pub drafts_count : (targets : Named Target) (done : Named RailDraft) (tables : List Members)
     (n : Named RailDraft)
-    → drafts_of targets done ds ≡ Ok n → length n.items ≡ length done.items + item_count ds
-drafts_count targets done no_items n e =
+    → drafts_of targets done tables ≡ Ok n → length n.items ≡ length done.items + length tables
+drafts_count targets done [] n e =
     let same = ap (λ (x : Named RailDraft). length x.items) (ok_is done n e) in
     omega (arith, same)
-drafts_count targets done (item d ds) n e =
-    let m = bind_ok (some_or BadKey (as_table d)) _ n e in
-    let s = bind_ok (draft_from targets done m.0) _ n m.2 in
-    let rest = drafts_count targets (with_item s.0.0 s.0.1 done) ds n s.2 in
+drafts_count targets done (ms ∷ tables) n e =
+    let s = bind_ok (draft_from targets done ms) _ n e in
+    let rest = drafts_count targets (with_item s.0.0 s.0.1 done) tables n s.2 in
     omega (arith, rest, length_push done.items s.0.1)

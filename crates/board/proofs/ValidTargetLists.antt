@@ -1,19 +1,16 @@
 -- The lists of targets that are read.
-use Rattle.std.proofs.Common.{◌≡◌, ◌≢◌, ℕ, ◌+◌, ◌<◌, true, false, eqb, List, [], length, get_or, Ok}
-use Rattle.std.proofs.Common.{refl, ap, subst, arith}
+use Rattle.std.proofs.Common.{◌≡◌, ◌≢◌, ℕ, ◌+◌, ◌<◌, true, false, eqb, List, [], ◌∷◌, length}
+use Rattle.std.proofs.Common.{get_or, Ok, refl, ap, subst, arith}
 use Rattle.std.specs.List.{All, AllPairs, AllPass}
 use Rattle.std.proofs.lemmas.Bool.{eq-eqb}
 use Rattle.std.proofs.lemmas.List.{length_push}
 use Rattle.std.proofs.lemmas.List.Elements.{All-push}
 use Rattle.std.proofs.lemmas.List.Quantifiers.{all_pairs_push}
-use Rattle.toml.specs.Data.{Items, no_items, item, as_table}
+use Rattle.toml.specs.Data.{Members}
 use Rattle.texts.specs.Names.{is_name}
-use Rattle.texts.specs.Reading.{some_or}
-use Rattle.board.specs.declared.fault.BoardFault.TheVariants.{BadKey}
 use Rattle.board.specs.Boards.{Target}
 use Rattle.board.specs.Named.{Named, is_named, no_named, with_item}
 use Rattle.board.specs.Targets.{has_address, target_from, targets_of}
-use Rattle.board.specs.Files.{item_count}
 use Rattle.board.specs.Valid.{IsTarget}
 use Rattle.board.proofs.Steps.{bind_ok, ok_is}
 use Rattle.board.proofs.Apart.{fails_at, names_differ}
@@ -72,22 +69,20 @@ more_targets n name t a x = record {
       (addresses_differ n.items t x.free);
 }
 
-pub targets_valid : (done : Named Target) (ds : Items) (n : Named Target)
-    → targets_of done ds ≡ Ok n → AreTargets done → AreTargets n
-targets_valid done no_items n e a = subst AreTargets (ok_is done n e) a
-targets_valid done (item d ds) n e a =
-    let m = bind_ok (some_or BadKey (as_table d)) _ n e in
-    let t = bind_ok (target_from done m.0) _ n m.2 in
-    targets_valid (with_item t.0.0 t.0.1 done) ds n t.2
-    (more_targets done t.0.0 t.0.1 a (target_ok done m.0 t.0 t.1))
+pub targets_valid : (done : Named Target) (tables : List Members) (n : Named Target)
+    → targets_of done tables ≡ Ok n → AreTargets done → AreTargets n
+targets_valid done [] n e a = subst AreTargets (ok_is done n e) a
+targets_valid done (ms ∷ tables) n e a =
+    let t = bind_ok (target_from done ms) _ n e in
+    targets_valid (with_item t.0.0 t.0.1 done) tables n t.2
+    (more_targets done t.0.0 t.0.1 a (target_ok done ms t.0 t.1))
 
-pub targets_count : (done : Named Target) (ds : Items) (n : Named Target)
-    → targets_of done ds ≡ Ok n → length n.items ≡ length done.items + item_count ds
-targets_count done no_items n e =
+pub targets_count : (done : Named Target) (tables : List Members) (n : Named Target)
+    → targets_of done tables ≡ Ok n → length n.items ≡ length done.items + length tables
+targets_count done [] n e =
     let same = ap (λ (x : Named Target). length x.items) (ok_is done n e) in
     omega (arith, same)
-targets_count done (item d ds) n e =
-    let m = bind_ok (some_or BadKey (as_table d)) _ n e in
-    let t = bind_ok (target_from done m.0) _ n m.2 in
-    let rest = targets_count (with_item t.0.0 t.0.1 done) ds n t.2 in
+targets_count done (ms ∷ tables) n e =
+    let t = bind_ok (target_from done ms) _ n e in
+    let rest = targets_count (with_item t.0.0 t.0.1 done) tables n t.2 in
     omega (arith, rest, length_push done.items t.0.1)

@@ -15,7 +15,7 @@ use Rattle.board.specs.declared.fault.BoardFault.TheVariants.{BadAddress, SameAd
 use Rattle.board.specs.declared.fault.BoardFault.TheVariants.{BadExponent, BadStretch, BadStart}
 use Rattle.board.specs.declared.targets.Numbers.{Numbers}
 use Rattle.board.specs.Boards.{Target}
-use Rattle.board.specs.Fields.{number_at, items_at}
+use Rattle.board.specs.Fields.{number_at, items_at, tables_at}
 use Rattle.board.specs.Named.{Named, is_named}
 use Rattle.board.specs.Entries.{entries_of}
 use Rattle.board.specs.Targets.{check_target_keys, new_name, address_at, has_address, new_address}
@@ -144,11 +144,11 @@ unfolding target_with
 rest_ok address n ms t a m e =
     let p = bind_ok (start_pages_of n.pages ms) _ t e in
     let w = bind_ok (start_protects_of ms) _ t p.2 in
-    let l = bind_ok (entries_of [] (items_at (codes "allow") ms)) _ t w.2 in
+    let l = bind_ok (entries_of [] (tables_at (codes "allow") ms)) _ t w.2 in
     let pages = start_pages_ok n.pages ms p.0 p.1 in
     let protects = start_protects_ok ms w.0 w.1 in
     let allow =
-    entries_valid [] (items_at (codes "allow") ms) l.0 l.1 (all_none IsEntry) no_entries in
+    entries_valid [] (tables_at (codes "allow") ms) l.0 l.1 (all_none IsEntry) no_entries in
     let made : Target = record {
       address = address;
       pages = n.pages;
@@ -198,7 +198,7 @@ target_ok done ms x e =
     let made = rest_ok a.0 m.0 k.0 t.0 address.fits (numbers_ok k.0 m.0 m.1) t.1 in
     subst (λ y. IsNextTarget done y.0 y.1) (ok_is (n.0, t.0) x t.2) (record {
       target = made.target;
-      good = good_name _ _ ms k.0 n.0 k.1 name.text;
+      good = rw (← name.text) (good_name _ _ ms k.0 k.1);
       new = name.new;
       free = rw (← made.same) address.new;
     })

@@ -1,8 +1,8 @@
 -- The code's rails whose needs aren't judged yet.
 use Rattle.std.specs.Prelude.{map}
-use Rattle.toml.specs.View.{items_view}
 use Rattle.board.specs.declared.named.Named.{Named as CodeNamed}
 use Rattle.board.specs.declared.rails.RailDraft.{RailDraft as CodeDraft}
+use Rattle.board.specs.Elements.{texts_left}
 use Rattle.board.specs.Named.{Named, names}
 use Rattle.board.specs.Rails.{RailDraft}
 
@@ -11,7 +11,7 @@ draft_view s = record {
   target = s.target;
   page = s.page;
   limit_uv = s.limit_uv;
-  needs = items_view s.needs.now;
+  needs = texts_left s.needs;
 }
 
 abbrev pub drafts_view : CodeNamed CodeDraft → Named RailDraft

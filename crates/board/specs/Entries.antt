@@ -2,7 +2,7 @@
 use Rattle.std.specs.Prelude.{ℕ, List, [], ◌∷◌, ◌++◌, not, codes, Option, Some, None, option_map}
 use Rattle.std.specs.Prelude.{option_and_then, unwrap_or, Result, Ok, if◌then◌else◌}
 use Rattle.std.specs.Option.{option_map_or}
-use Rattle.toml.specs.Data.{Items, no_items, item, Members, get_member, as_array, as_table}
+use Rattle.toml.specs.Data.{Items, no_items, item, Members, get_member, as_array}
 use Rattle.smbus.specs.declared.message.Form.{Form}
 use Rattle.smbus.specs.declared.message.Form.TheVariants as form
 use Rattle.smbus.specs.FormWords.{form_named, carries_code}
@@ -10,7 +10,6 @@ use Rattle.texts.specs.Reading.{◌>>=◌, some_or, value_if}
 use Rattle.pmbus_table.specs.Commands.{command_named, takes_form}
 use Rattle.board.specs.declared.fault.BoardFault.{BoardFault}
 use Rattle.board.specs.declared.fault.BoardFault.TheVariants.{SameName, BadRange, UnknownCommand}
-use Rattle.board.specs.declared.fault.BoardFault.TheVariants.{BadKey}
 use Rattle.board.specs.declared.entry.Range.{Range}
 use Rattle.board.specs.declared.keys.Sort.TheVariants as sort
 use Rattle.board.specs.declared.keys.Kind.TheVariants as kind
@@ -92,7 +91,6 @@ entry_from done ms = do
   allow_of f new keys
 
 -- the entries in order, after those that are done
-abbrev pub entries_of : List Allow → Items → Result (List Allow) BoardFault
-entries_of done no_items = Ok done
-entries_of done (item d ds) =
-    some_or BadKey (as_table d) >>= λ ms. entry_from done ms >>= λ a. entries_of (done ++ a ∷ []) ds
+abbrev pub entries_of : List Allow → List Members → Result (List Allow) BoardFault
+entries_of done [] = Ok done
+entries_of done (ms ∷ tables) = entry_from done ms >>= λ a. entries_of (done ++ a ∷ []) tables

@@ -7,6 +7,7 @@ pub mod Reading
 pub mod Keys
 pub mod KeyViews
 pub mod Fields
+pub mod Elements
 pub mod Entries
 pub mod Targets
 pub mod Rails

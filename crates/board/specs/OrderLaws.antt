@@ -1,10 +1,10 @@
 -- Each list of a board file is read in order.
 use Rattle.std.specs.Prelude.{◌≡◌, ◌↔◌, ℕ, pos, List, [], ◌∷◌, length, codes, Result, Ok, Err}
-use Rattle.toml.specs.Data.{Data, string, integer, table, Items, no_items, item, no_members, member}
-use Rattle.toml.specs.Data.{as_table}
+use Rattle.toml.specs.Data.{Data, string, integer, Items, no_items, item, Members, no_members}
+use Rattle.toml.specs.Data.{member}
 use Rattle.texts.specs.Reading.{◌>>=◌, some_or}
 use Rattle.board.specs.declared.fault.BoardFault.{BoardFault}
-use Rattle.board.specs.declared.fault.BoardFault.TheVariants.{SameName, BadStart, BadKey}
+use Rattle.board.specs.declared.fault.BoardFault.TheVariants.{SameName, BadStart}
 use Rattle.board.specs.Boards.{Target, Rail, Allow}
 use Rattle.board.specs.Named.{Named, no_named, named_of}
 use Rattle.board.specs.Fields.{number_in}
@@ -19,13 +19,10 @@ abbrev pub list_of : Items → List Data
 list_of no_items = []
 list_of (item d ds) = d ∷ list_of ds
 
--- a table's entry, after the entries before it
-abbrev pub entry_after : List Allow → Data → Result Allow BoardFault
-entry_after before d = some_or BadKey (as_table d) >>= entry_from before
-
+-- a table's entry is read after the entries before it
 abbrev pub EntriesInOrder : Type 0
-EntriesInOrder = (items : Items) (r : Result (List Allow) BoardFault)
-    → (entries_of [] items ≡ r) ↔ InOrder entry_after (list_of items) r
+EntriesInOrder = (tables : List Members) (r : Result (List Allow) BoardFault)
+    → (entries_of [] tables ≡ r) ↔ InOrder entry_from tables r
 
 -- a byte, whatever stands before it
 abbrev pub byte_after : List ℕ → Data → Result ℕ BoardFault
@@ -36,29 +33,31 @@ BytesInOrder = (items : Items) (r : Result (List ℕ) BoardFault)
     → (bytes_of [] items ≡ r) ↔ InOrder byte_after (list_of items) r
 
 -- a table's target with its name, after those before it
-abbrev pub target_after : List (List ℕ × Target) → Data → Result (List ℕ × Target) BoardFault
-target_after before d = some_or BadKey (as_table d) >>= target_from (named_of before)
+abbrev pub target_after : List (List ℕ × Target) → Members → Result (List ℕ × Target) BoardFault
+target_after before ms = target_from (named_of before) ms
 
 abbrev pub TargetsInOrder : Type 0
-TargetsInOrder = (items : Items) (r : Result (Named Target) BoardFault)
-    → (targets_of no_named items ≡ r) ↔ NamedInOrder target_after (list_of items) r
+TargetsInOrder = (tables : List Members) (r : Result (Named Target) BoardFault)
+    → (targets_of no_named tables ≡ r) ↔ NamedInOrder target_after tables r
 
 -- a table's rail with its name, after those before it; its needs aren't judged yet
-abbrev pub draft_after : Named Target → List (List ℕ × RailDraft) → Data
+abbrev pub draft_after : Named Target → List (List ℕ × RailDraft) → Members
     → Result (List ℕ × RailDraft) BoardFault
-draft_after targets before d = some_or BadKey (as_table d) >>= draft_from targets (named_of before)
+draft_after targets before ms = draft_from targets (named_of before) ms
 
 abbrev pub DraftsInOrder : Type 0
-DraftsInOrder = (targets : Named Target) (items : Items) (r : Result (Named RailDraft) BoardFault)
-    → (drafts_of targets no_named items ≡ r) ↔ NamedInOrder (draft_after targets) (list_of items) r
+DraftsInOrder = (targets : Named Target) (tables : List Members)
+    (r : Result (Named RailDraft) BoardFault)
+    → (drafts_of targets no_named tables ≡ r) ↔ NamedInOrder (draft_after targets) tables r
 
 -- a need of the rail at a place, whatever stands before it
-abbrev pub need_after : List (List ℕ) → ℕ → List ℕ → Data → Result ℕ BoardFault
-need_after names rail before d = need_of names rail d
+abbrev pub need_after : List (List ℕ) → ℕ → List ℕ → List ℕ → Result ℕ BoardFault
+need_after names rail before name = need_of names rail name
 
 abbrev pub NeedsInOrder : Type 0
-NeedsInOrder = (names : List (List ℕ)) (rail : ℕ) (items : Items) (r : Result (List ℕ) BoardFault)
-    → (needs_of names rail [] items ≡ r) ↔ InOrder (need_after names rail) (list_of items) r
+NeedsInOrder = (names : List (List ℕ)) (rail : ℕ) (needs : List (List ℕ))
+    (r : Result (List ℕ) BoardFault)
+    → (needs_of names rail [] needs ≡ r) ↔ InOrder (need_after names rail) needs r
 
 -- a rail with its needs; its place is the count of those before it
 abbrev pub rail_after : List (List ℕ) → List Rail → RailDraft → Result Rail BoardFault
@@ -70,10 +69,10 @@ RailsInOrder = (names : List (List ℕ)) (drafts : List RailDraft) (r : Result (
     → (rails_of names [] drafts ≡ r) ↔ InOrder (rail_after names) drafts r
 
 -- a table that allows the form `receive`
-abbrev pub receive_table : Data
-receive_table = table (member (codes "form") (string (codes "receive")) no_members)
+abbrev pub receive_table : Members
+receive_table = member (codes "form") (string (codes "receive")) no_members
 
 -- two bytes are read, and of two equal entries the second is at fault
 pub record SomeListsInOrder : Type 0 where
   pub bytes : InOrder byte_after (integer (pos 7) ∷ integer (pos 9) ∷ []) (Ok (7 ∷ 9 ∷ []))
-  pub entries : InOrder entry_after (receive_table ∷ receive_table ∷ []) (Err SameName)
+  pub entries : InOrder entry_from (receive_table ∷ receive_table ∷ []) (Err SameName)

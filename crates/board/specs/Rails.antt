@@ -4,15 +4,15 @@ use Rattle.std.specs.Prelude.{ℕ, List, [], ◌∷◌, ◌++◌, length, slice_
 use Rattle.std.specs.Prelude.{nat_lt, codes, Option, Some, None, option_and_then, Result, Ok}
 use Rattle.std.specs.Prelude.{if◌then◌else◌}
 use Rattle.std.specs.List.{list_any}
-use Rattle.toml.specs.Data.{Data, Items, no_items, item, Members, as_str, as_table}
+use Rattle.toml.specs.Data.{Members}
 use Rattle.texts.specs.Reading.{◌>>=◌, some_or, value_if}
 use Rattle.board.specs.declared.fault.BoardFault.{BoardFault}
 use Rattle.board.specs.declared.fault.BoardFault.TheVariants.{BadRail, BadRange, UnknownNeed}
-use Rattle.board.specs.declared.fault.BoardFault.TheVariants.{SelfNeed, BadKey}
+use Rattle.board.specs.declared.fault.BoardFault.TheVariants.{SelfNeed}
 use Rattle.board.specs.declared.keys.Sort.TheVariants as sort
 use Rattle.board.specs.declared.keys.Kind.TheVariants as kind
 use Rattle.board.specs.Keys.{check_keys}
-use Rattle.board.specs.Fields.{number_at, text_at, items_at}
+use Rattle.board.specs.Fields.{number_at, text_at, texts_at}
 use Rattle.board.specs.Boards.{Target, Rail, place_of_name}
 use Rattle.board.specs.Named.{Named, with_item}
 use Rattle.board.specs.Targets.{new_name, integer_key}
@@ -22,7 +22,7 @@ pub record RailDraft : Type 0 where
   pub target : ℕ
   pub page : ℕ
   pub limit_uv : ℕ
-  pub needs : Items
+  pub needs : List (List ℕ)
 
 abbrev pub check_rail_keys : Members → Result Members BoardFault
 check_rail_keys ms =
@@ -64,29 +64,28 @@ draft_from targets done ms = do
       target = target;
       page = free;
       limit_uv = limit;
-      needs = items_at (codes "needs") keys;
+      needs = texts_at (codes "needs") keys;
     },
   )
 
 -- the rails in order, after those that are done
-abbrev pub drafts_of : Named Target → Named RailDraft → Items → Result (Named RailDraft) BoardFault
-drafts_of targets done no_items = Ok done
-drafts_of targets done (item d ds) =
-    some_or BadKey (as_table d) >>= λ ms.
-    draft_from targets done ms >>= λ s.
-    drafts_of targets (with_item s.0 s.1 done) ds
+abbrev pub drafts_of : Named Target → Named RailDraft → List Members
+    → Result (Named RailDraft) BoardFault
+drafts_of targets done [] = Ok done
+drafts_of targets done (ms ∷ tables) =
+    draft_from targets done ms >>= λ s. drafts_of targets (with_item s.0 s.1 done) tables
 
 -- the rail that is needed, which isn't the one that needs it
-unfoldable pub need_of : List (List ℕ) → ℕ → Data → Result ℕ BoardFault
-need_of names rail d = do
-  needed ← some_or UnknownNeed (option_and_then (λ name. place_of_name name names) (as_str d))
+unfoldable pub need_of : List (List ℕ) → ℕ → List ℕ → Result ℕ BoardFault
+need_of names rail name = do
+  needed ← some_or UnknownNeed (place_of_name name names)
   value_if SelfNeed (not (needed == rail)) needed
 
 -- a rail's needs in order, after those that are done
-abbrev pub needs_of : List (List ℕ) → ℕ → List ℕ → Items → Result (List ℕ) BoardFault
-needs_of names rail done no_items = Ok done
-needs_of names rail done (item d ds) = need_of names rail d >>= λ n.
-    needs_of names rail (done ++ n ∷ []) ds
+abbrev pub needs_of : List (List ℕ) → ℕ → List ℕ → List (List ℕ) → Result (List ℕ) BoardFault
+needs_of names rail done [] = Ok done
+needs_of names rail done (name ∷ needs) =
+    need_of names rail name >>= λ n. needs_of names rail (done ++ n ∷ []) needs
 
 abbrev pub rail_with : RailDraft → List ℕ → Rail
 rail_with s needs =

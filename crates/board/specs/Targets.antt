@@ -1,20 +1,20 @@
 -- A target, as its table says: its name and the target, or its first fault.
 use Rattle.std.specs.Prelude.{ℕ, ℤ, pos, negsuc, int_le, List, [], ◌∷◌, ◌++◌, length, Bool, ◌&&◌}
-use Rattle.std.specs.Prelude.{◌==◌, not, nat_lt, codes, Option, Some, None, option_and_then, Result}
-use Rattle.std.specs.Prelude.{Ok, if◌then◌else◌}
+use Rattle.std.specs.Prelude.{◌==◌, not, nat_lt, codes, Option, Some, None, unwrap_or, Result}
+use Rattle.std.specs.Prelude.{Ok, option_and_then, if◌then◌else◌}
 use Rattle.std.specs.List.{list_any, list_all}
-use Rattle.toml.specs.Data.{Items, no_items, item, Members, get_member, as_integer, as_table}
+use Rattle.toml.specs.Data.{Items, no_items, item, Members, get_member, as_integer}
 use Rattle.texts.specs.Reading.{◌>>=◌, some_or, value_if}
 use Rattle.pmbus_table.specs.Protect.{is_protection}
 use Rattle.board.specs.declared.fault.BoardFault.{BoardFault}
-use Rattle.board.specs.declared.fault.BoardFault.TheVariants.{MissingKey, SameName, BadAddress}
+use Rattle.board.specs.declared.fault.BoardFault.TheVariants.{SameName, BadAddress}
 use Rattle.board.specs.declared.fault.BoardFault.TheVariants.{SameAddress, TooMany, BadExponent}
-use Rattle.board.specs.declared.fault.BoardFault.TheVariants.{BadStretch, BadStart, BadKey}
+use Rattle.board.specs.declared.fault.BoardFault.TheVariants.{BadStretch, BadStart}
 use Rattle.board.specs.declared.keys.Sort.TheVariants as sort
 use Rattle.board.specs.declared.keys.Kind.TheVariants as kind
 use Rattle.board.specs.declared.targets.Numbers.{Numbers}
 use Rattle.board.specs.Keys.{Key, check_keys}
-use Rattle.board.specs.Fields.{number_in, number_at, text_at, flag_at, items_at}
+use Rattle.board.specs.Fields.{number_in, number_at, text_at, flag_at, items_at, tables_at}
 use Rattle.board.specs.Boards.{Target}
 use Rattle.board.specs.Valid.{is_target_address, is_page_value}
 use Rattle.board.specs.Named.{Named, is_named, with_item}
@@ -34,11 +34,13 @@ check_target_keys ms =
     ∷ integers_key (codes "start_pages") ∷ integers_key (codes "start_protects") ∷ [])
     ((codes "alerts", kind.One sort.Flag) ∷ (codes "allow", kind.ListOf sort.Table) ∷ []) ms
 
+-- the name that a table has
+abbrev pub name_in : Members → List ℕ
+name_in ms = unwrap_or (text_at (codes "name") ms) []
+
 -- a name that nothing before it has
-unfoldable pub new_name : List (List ℕ) → Members → Result (List ℕ) BoardFault
-new_name names ms = do
-  name ← some_or MissingKey (text_at (codes "name") ms)
-  value_if SameName (not (is_named name names)) name
+abbrev pub new_name : List (List ℕ) → Members → Result (List ℕ) BoardFault
+new_name names ms = value_if SameName (not (is_named (name_in ms) names)) (name_in ms)
 
 abbrev pub address_at : Members → Option ℕ
 address_at ms =
@@ -92,7 +94,7 @@ unfoldable pub target_with : ℕ → Numbers → Members → Result Target Board
 target_with address numbers ms = do
   start_pages ← start_pages_of numbers.pages ms
   start_protects ← start_protects_of ms
-  allow ← entries_of [] (items_at (codes "allow") ms)
+  allow ← entries_of [] (tables_at (codes "allow") ms)
   Ok (record {
     address = address;
     pages = numbers.pages;
@@ -115,9 +117,7 @@ target_from done ms = do
   Ok (name, target)
 
 -- the targets in order, after those that are done
-abbrev pub targets_of : Named Target → Items → Result (Named Target) BoardFault
-targets_of done no_items = Ok done
-targets_of done (item d ds) =
-    some_or BadKey (as_table d) >>= λ ms.
-    target_from done ms >>= λ t.
-    targets_of (with_item t.0 t.1 done) ds
+abbrev pub targets_of : Named Target → List Members → Result (Named Target) BoardFault
+targets_of done [] = Ok done
+targets_of done (ms ∷ tables) =
+    target_from done ms >>= λ t. targets_of (with_item t.0 t.1 done) tables

@@ -1,16 +1,18 @@
 //! Reading the entries of an allow list.
 
 ghost use Rattle.std.specs.Prelude.{◌≡◌, [], false, IfOk, unwrap_or};
-ghost use Rattle.toml.specs.View.{view, table_view, items_view};
+ghost use Rattle.toml.specs.View.{table_view, items_view};
 ghost use Rattle.board.specs.Boards.{has_entry, IsCommandFor};
 ghost use Rattle.board.specs.Reading.{Gives};
 ghost use Rattle.board.specs.KeyViews.{key_views};
+ghost use Rattle.board.specs.Elements.{tables_left};
 ghost use Rattle.board.specs.Entries.{check_entry_keys, needed_by, optional_for, form_at};
 ghost use Rattle.board.specs.Entries.{command_at};
 ghost use Rattle.board.specs.Entries.{command_for, range_in, range_at, allow_of, entry_from};
 ghost use Rattle.board.specs.Entries.{entries_of};
 
 use crate::allow_list::AllowList;
+use crate::elements::Tables;
 use crate::entry::{Allow, Range, full_length, full_values};
 use crate::fault::BoardFault;
 use crate::fields::{text_at, word_in};
@@ -152,12 +154,11 @@ fn entry_from(done: &AllowList, table: &Table) -> Result<Allow, BoardFault>
 }
 
 /// The entries of a list, in order.
-pub(crate) fn entries_of(alloc: Global, values: &[Value]) -> Result<AllowList, BoardFault>
-    ensures { Gives (λ l. l) result (entries_of [] (items_view values.now)) }
+pub(crate) fn entries_of(alloc: Global, tables: Tables<'_>) -> Result<AllowList, BoardFault>
+    ensures { Gives (λ l. l) result (entries_of [] (tables_left tables.entry)) }
 {
     let mut entries = AllowList::new(alloc);
-    for value in values {
-        let table = value.as_table().ok_or(BoardFault::BadKey)?;
+    for table in tables {
         let entry = entry_from(&entries, table)?;
         entries = entries.with(entry)?;
     }

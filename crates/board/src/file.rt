@@ -9,8 +9,8 @@ ghost use Rattle.board.specs.Named.{named_view};
 ghost use Rattle.board.specs.Files.{check_size, board_from, board_of, read_of};
 
 use crate::board::Board;
+use crate::elements::tables_at;
 use crate::fault::BoardFault;
-use crate::fields::items_at;
 use crate::keys::{Kind, Sort, check_keys};
 use crate::named::Named;
 use crate::rail::Rail;
@@ -21,20 +21,20 @@ use std::alloc::Global;
 use toml::Table;
 
 /// Refuses a file without targets, or with too many targets or rails.
-#[tactic(auto, using(crate::proofs::Counts::is_length), unfolding(crate::specs::Files::check_size))]
+#[tactic(auto, unfolding(crate::specs::Files::check_size))]
 fn check_size(table: &Table) -> Result<(), BoardFault>
     ensures { Gives (λ u. table_view table.now) result (check_size (table_view table.now)) }
 {
     let tables = Kind::ListOf(Sort::Table);
     check_keys(&[("target", tables)], &[("rail", tables)], table)?;
-    let targets = items_at("target", table).len();
+    let targets = tables_at("target", table).count();
     if targets == 0 {
         return Err(BoardFault::MissingKey);
     }
     if targets > 16 {
         return Err(BoardFault::TooMany);
     }
-    if items_at("rail", table).len() > 64 {
+    if tables_at("rail", table).count() > 64 {
         return Err(BoardFault::TooMany);
     }
     Ok(())
@@ -46,8 +46,8 @@ fn parts_of(alloc: Global, table: &Table) -> Result<(Named<Target>, Named<Rail>)
         (board_of (table_view table.now)) }
 {
     check_size(table)?;
-    let targets = targets_of(alloc, items_at("target", table))?;
-    let drafts = drafts_of(alloc, &targets, items_at("rail", table))?;
+    let targets = targets_of(alloc, tables_at("target", table))?;
+    let drafts = drafts_of(alloc, &targets, tables_at("rail", table))?;
     let items = rails_of(alloc, &drafts)?;
     let rails = Named {
         names: drafts.names,

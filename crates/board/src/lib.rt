@@ -3,6 +3,7 @@
 
 mod allow_list;
 mod board;
+mod elements;
 mod entries;
 mod entry;
 mod fault;

@@ -1,17 +1,19 @@
 //! Reading rails.
 
 ghost use Rattle.std.specs.Prelude.{◌≡◌, [], false, map, OnOk, IfOk, IfErr};
-ghost use Rattle.toml.specs.View.{view, table_view, items_view};
+ghost use Rattle.toml.specs.View.{table_view};
 ghost use Rattle.board.specs.declared.fault.BoardFault.TheVariants.{Memory};
 ghost use Rattle.board.specs.Reading.{Gives};
 ghost use Rattle.board.specs.Named.{named_view, names, is_named, with_item, no_named};
+ghost use Rattle.board.specs.Elements.{tables_left, texts_left};
 ghost use Rattle.board.specs.Rails.{check_rail_keys, target_at, page_of, page_at, has_page};
 ghost use Rattle.board.specs.Rails.{draft_from};
 ghost use Rattle.board.specs.Rails.{drafts_of, need_of, needs_of, rails_of};
 ghost use Rattle.board.specs.DraftViews.{draft_view, drafts_view};
 
+use crate::elements::{Tables, Texts, texts_at};
 use crate::fault::BoardFault;
-use crate::fields::{byte_at, items_at, number_at, text_at};
+use crate::fields::{byte_at, number_at, text_at};
 use crate::keys::{Key, Kind, Sort, check_keys};
 use crate::named::Named;
 use crate::names::place_of;
@@ -20,7 +22,7 @@ use crate::target::Target;
 use crate::targets::new_name;
 use indexmap::IndexSet;
 use std::alloc::Global;
-use toml::{Table, Value};
+use toml::Table;
 
 const NEEDED: [Key; 4] = [
     ("name", Kind::Name),
@@ -37,7 +39,7 @@ pub(crate) struct RailDraft<'a> {
     target: usize,
     page: u8,
     limit_uv: u32,
-    needs: &'a [Value],
+    needs: Texts<'a>,
 }
 
 /// Refuses a table that is no rail.
@@ -105,7 +107,7 @@ fn draft_from<'a>(
             target,
             page,
             limit_uv,
-            needs: items_at("needs", table),
+            needs: texts_at("needs", table),
         },
     ))
 }
@@ -131,14 +133,13 @@ fn push_draft<'a>(
 pub(crate) fn drafts_of<'a>(
     alloc: Global,
     targets: &Named<Target>,
-    values: &'a [Value],
+    tables: Tables<'a>,
 ) -> Result<Named<RailDraft<'a>>, BoardFault>
     ensures { Gives drafts_view result
-        (drafts_of (named_view targets.now) no_named (items_view values.now)) }
+        (drafts_of (named_view targets.now) no_named (tables_left tables.entry)) }
 {
     let mut drafts = Named::new(alloc);
-    for value in values {
-        let table = value.as_table().ok_or(BoardFault::BadKey)?;
+    for table in tables {
         let (name, draft) = draft_from(targets, &drafts, table)?;
         push_draft(alloc, &mut drafts, name, draft)?;
     }
@@ -147,10 +148,9 @@ pub(crate) fn drafts_of<'a>(
 
 /// The index of the rail that is needed, which isn't the one that needs it.
 #[tactic(auto, unfolding(crate::specs::Rails::need_of))]
-fn need_of(rails: &IndexSet<String>, rail: usize, value: &Value) -> Result<usize, BoardFault>
-    ensures { Gives (λ n. n) result (need_of (names rails.now) rail (view value.now)) }
+fn need_of(rails: &IndexSet<String>, rail: usize, name: &str) -> Result<usize, BoardFault>
+    ensures { Gives (λ n. n) result (need_of (names rails.now) rail name.now) }
 {
-    let name = value.as_str().ok_or(BoardFault::UnknownNeed)?;
     let needed = place_of(rails, name).ok_or(BoardFault::UnknownNeed)?;
     if needed == rail {
         return Err(BoardFault::SelfNeed);
@@ -162,14 +162,14 @@ fn needs_of(
     alloc: Global,
     rails: &IndexSet<String>,
     rail: usize,
-    values: &[Value],
+    texts: Texts<'_>,
 ) -> Result<Vec<usize>, BoardFault>
     ensures { Gives (λ v. v.items) result
-        (needs_of (names rails.now) rail [] (items_view values.now)) }
+        (needs_of (names rails.now) rail [] (texts_left texts.entry)) }
 {
     let mut needs = Vec::new(alloc);
-    for value in values {
-        needs.push(need_of(rails, rail, value)?)?;
+    for name in texts {
+        needs.push(need_of(rails, rail, name)?)?;
     }
     Ok(needs)
 }

@@ -1,17 +1,19 @@
 //! Reading targets.
 
-ghost use Rattle.std.specs.Prelude.{◌≡◌, ◌==◌, [], false, option_map, OnOk, IfOk};
-ghost use Rattle.std.specs.List.{list_any, list_all};
+ghost use Rattle.std.specs.Prelude.{◌≡◌, ◌==◌, [], false, IfOk};
+ghost use Rattle.std.specs.List.{list_all};
 ghost use Rattle.pmbus_table.specs.Protect.{is_protection};
-ghost use Rattle.toml.specs.View.{view, table_view, items_view};
+ghost use Rattle.toml.specs.View.{table_view, items_view};
 ghost use Rattle.board.specs.Reading.{Gives};
 ghost use Rattle.board.specs.Valid.{is_target_address, is_page_value};
 ghost use Rattle.board.specs.Named.{named_view, names, is_named, no_named};
-ghost use Rattle.board.specs.Targets.{check_target_keys, new_name, address_at, has_address};
-ghost use Rattle.board.specs.Targets.{new_address};
-ghost use Rattle.board.specs.Targets.{exponent_at, numbers_of, bytes_of, start_pages_of};
+ghost use Rattle.board.specs.Elements.{tables_left};
+ghost use Rattle.board.specs.Targets.{check_target_keys, name_in, new_name, address_at};
+ghost use Rattle.board.specs.Targets.{has_address, new_address, exponent_at, numbers_of};
+ghost use Rattle.board.specs.Targets.{bytes_of, start_pages_of};
 ghost use Rattle.board.specs.Targets.{start_protects_of, target_with, target_from, targets_of};
 
+use crate::elements::{Tables, tables_at};
 use crate::entries::entries_of;
 use crate::fault::BoardFault;
 use crate::fields::{byte_at, byte_in, flag_at, items_at, text_at, word_at};
@@ -54,13 +56,19 @@ fn check_target_keys(table: &Table) -> Result<(), BoardFault>
     check_keys(&NEEDED, &OPTIONAL, table)
 }
 
+/// The name that a table has.
+fn name_in(table: &Table) -> &str
+    ensures { result.now ≡ name_in (table_view table.now) }
+{
+    text_at("name", table).unwrap_or("")
+}
+
 /// A name that nothing before it has.
-#[tactic(auto, unfolding(crate::specs::Targets::new_name))]
 pub(crate) fn new_name<'a>(done: &IndexSet<String>, table: &'a Table) -> Result<&'a str, BoardFault>
     ensures value { Gives (λ n. n.now) result (new_name (names done.now) (table_view table.now)) }
     ensures new { IfOk result (λ n. is_named n.now (names done.now) ≡ false) }
 {
-    let name = text_at("name", table).ok_or(BoardFault::MissingKey)?;
+    let name = name_in(table);
     if has_name(done, name) {
         return Err(BoardFault::SameName);
     }
@@ -190,7 +198,7 @@ fn target_with(
 {
     let start_pages = start_pages_of(alloc, numbers.pages, table)?;
     let start_protects = start_protects_of(alloc, table)?;
-    let allow = entries_of(alloc, items_at("allow", table))?;
+    let allow = entries_of(alloc, tables_at("allow", table))?;
     Ok(Target {
         address,
         pages: numbers.pages,
@@ -223,12 +231,11 @@ fn target_from<'a>(
 }
 
 /// The targets of a list, in order.
-pub(crate) fn targets_of(alloc: Global, values: &[Value]) -> Result<Named<Target>, BoardFault>
-    ensures { Gives named_view result (targets_of no_named (items_view values.now)) }
+pub(crate) fn targets_of(alloc: Global, tables: Tables<'_>) -> Result<Named<Target>, BoardFault>
+    ensures { Gives named_view result (targets_of no_named (tables_left tables.entry)) }
 {
     let mut targets = Named::new(alloc);
-    for value in values {
-        let table = value.as_table().ok_or(BoardFault::BadKey)?;
+    for table in tables {
         let (name, target) = target_from(alloc, &targets, table)?;
         targets.push(alloc, name, target)?;
     }

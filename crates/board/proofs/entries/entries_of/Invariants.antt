@@ -1,9 +1,8 @@
-use Rattle.std.proofs.Common.{◌≡◌, [], drop}
-use Rattle.toml.specs.View.{items_view}
+use Rattle.std.proofs.Common.{◌≡◌, []}
+use Rattle.board.specs.Elements.{tables_left}
 use Rattle.board.specs.Entries.{entries_of}
 use Rattle.board.proofs.entries.entries_of.Given as goal
 
-abbrev pub invariant-loop-value : goal.invariant-loop-value
-invariant-loop-value l =
-    entries_of l.entries (items_view (drop l.value-index l.values))
-    ≡ entries_of [] (items_view l.values)
+abbrev pub invariant-loop-table : goal.invariant-loop-table
+invariant-loop-table l =
+    entries_of l.entries (tables_left l.table-iterator) ≡ entries_of [] (tables_left l.fn.tables)

@@ -1,10 +1,10 @@
-use Rattle.std.proofs.Common.{◌≡◌, drop}
-use Rattle.toml.specs.View.{items_view}
+use Rattle.std.proofs.Common.{◌≡◌}
+use Rattle.board.specs.Elements.{tables_left}
 use Rattle.board.specs.Named.{named_view, no_named}
 use Rattle.board.specs.Targets.{targets_of}
 use Rattle.board.proofs.targets.targets_of.Given as goal
 
-abbrev pub invariant-loop-value : goal.invariant-loop-value
-invariant-loop-value l =
-    targets_of (named_view l.targets) (items_view (drop l.value-index l.values))
-    ≡ targets_of no_named (items_view l.values)
+abbrev pub invariant-loop-table : goal.invariant-loop-table
+invariant-loop-table l =
+    targets_of (named_view l.targets) (tables_left l.table-iterator)
+    ≡ targets_of no_named (tables_left l.fn.tables)
