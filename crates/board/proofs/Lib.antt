@@ -14,6 +14,7 @@ pub mod ValidForms
 pub mod Apart
 pub mod ValidEntries
 pub mod ValidKeys
+pub mod WholeLists
 pub mod ValidTargets
 pub mod ValidTargetLists
 pub mod ValidRails

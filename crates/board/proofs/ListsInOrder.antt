@@ -14,7 +14,9 @@ use Rattle.board.specs.Targets.{bytes_of, target_from, targets_of}
 use Rattle.board.specs.Rails.{RailDraft, draft_from, drafts_of, need_of, needs_of, rail_with}
 use Rattle.board.specs.Rails.{rails_of}
 use Rattle.board.specs.OrderLaws.{list_of, byte_after, target_after, draft_after}
-use Rattle.board.specs.OrderLaws.{need_after, rail_after, receive_table, SomeListsInOrder}
+use Rattle.board.specs.OrderLaws.{need_after, rail_after, receive_table, one_target}
+use Rattle.board.specs.OrderLaws.{SomeListsInOrder}
+use Rattle.board.specs.Files.{check_top_keys}
 use Rattle.board.specs.OrderLaws.{TargetsInOrder, EntriesInOrder, BytesInOrder, DraftsInOrder}
 use Rattle.board.specs.OrderLaws.{NeedsInOrder, RailsInOrder}
 use Rattle.board.proofs.Lists.{map-push}
@@ -132,6 +134,10 @@ same_entry_twice : entries_of [] (receive_table ∷ receive_table ∷ []) ≡ Er
 unfolding entry_from check_keys allow_of form_named
 same_entry_twice = refl
 
+good_keys : check_top_keys one_target ≡ Ok one_target
+unfolding check_keys
+good_keys = refl
+
 pub some_lists_in_order : SomeListsInOrder
 some_lists_in_order = record {
   bytes =
@@ -139,4 +145,5 @@ some_lists_in_order = record {
       (Ok (7 ∷ 9 ∷ []))).0 refl;
   entries =
       (entries_in_order (receive_table ∷ receive_table ∷ []) (Err SameName)).0 same_entry_twice;
+  keys = good_keys;
 }

@@ -14,14 +14,15 @@ use Rattle.board.specs.Named.{is_named}
 use Rattle.board.specs.Targets.{name_in, new_name}
 use Rattle.board.proofs.Steps.{bind_ok, if_ok, not_false}
 
--- the table is the one that was given, and its needed keys are good
-pub record HasKeys (needed : List Key) (ms k : Members) : Type 0 where
+-- the table is the one that was given, and its keys are good
+pub record HasKeys (needed optional : List Key) (ms k : Members) : Type 0 where
   pub same : ms ≡ k
   pub good : list_all (is_good_at k) needed ≡ true
+  pub kept : list_all (is_good_at k) optional ≡ true
   pub there : list_all (is_there k) needed ≡ true
 
 pub keys_ok : (needed optional : List Key) (ms k : Members) → check_keys needed optional ms ≡ Ok k
-    → HasKeys needed ms k
+    → HasKeys needed optional ms k
 unfolding check_keys
 keys_ok needed optional ms k e =
     let a = bind_ok (value_if BadKey (all_known needed optional ms) ms) _ k e in
@@ -32,9 +33,11 @@ keys_ok needed optional ms k e =
     let kept = if_ok BadKey _ b.0 c.0 c.1 in
     let there = if_ok MissingKey _ c.0 k c.2 in
     let last : a.0 ≡ k = cc in
+    let same_kept : b.0 ≡ k = cc in
     record {
       same = cc;
       good = subst (λ m. list_all (is_good_at m) needed ≡ true) last good.0;
+      kept = subst (λ m. list_all (is_good_at m) optional ≡ true) same_kept kept.0;
       there = subst (λ m. list_all (is_there m) needed ≡ true) there.1 there.0;
     }
 

@@ -1,17 +1,19 @@
--- Each list of a board file is read in order.
-use Rattle.std.specs.Prelude.{◌≡◌, ◌↔◌, ℕ, pos, List, [], ◌∷◌, length, codes, Result, Ok, Err}
-use Rattle.toml.specs.Data.{Data, string, integer, Items, no_items, item, Members, no_members}
-use Rattle.toml.specs.Data.{member}
+-- Each list of a board file is read in order, and whole.
+use Rattle.std.specs.Prelude.{◌≡◌, ◌↔◌, ℕ, pos, List, [], ◌∷◌, length, map, codes, Some, Result}
+use Rattle.std.specs.Prelude.{Ok, Err}
+use Rattle.toml.specs.Data.{Data, string, integer, array, table, Items, no_items, item, Members}
+use Rattle.toml.specs.Data.{no_members, member}
 use Rattle.texts.specs.Reading.{◌>>=◌, some_or}
 use Rattle.board.specs.declared.fault.BoardFault.{BoardFault}
 use Rattle.board.specs.declared.fault.BoardFault.TheVariants.{SameName, BadStart}
 use Rattle.board.specs.Boards.{Target, Rail, Allow}
 use Rattle.board.specs.Named.{Named, no_named, named_of}
-use Rattle.board.specs.Fields.{number_in}
+use Rattle.board.specs.Fields.{number_in, text_at, items_at, tables_at, texts_at}
 use Rattle.board.specs.Entries.{entry_from, entries_of}
-use Rattle.board.specs.Targets.{bytes_of, target_from, targets_of}
-use Rattle.board.specs.Rails.{RailDraft, draft_from, drafts_of, need_of, needs_of, rail_with}
-use Rattle.board.specs.Rails.{rails_of}
+use Rattle.board.specs.Targets.{check_target_keys, name_in, bytes_of, target_from, targets_of}
+use Rattle.board.specs.Rails.{RailDraft, check_rail_keys, draft_from, drafts_of, need_of}
+use Rattle.board.specs.Rails.{needs_of, rail_with, rails_of}
+use Rattle.board.specs.Files.{check_top_keys}
 use Rattle.board.specs.InOrder.{InOrder, NamedInOrder}
 
 -- the elements of a list in a file
@@ -68,11 +70,37 @@ abbrev pub RailsInOrder : Type 0
 RailsInOrder = (names : List (List ℕ)) (drafts : List RailDraft) (r : Result (List Rail) BoardFault)
     → (rails_of names [] drafts ≡ r) ↔ InOrder (rail_after names) drafts r
 
+-- a list has no element but tables, or but texts
+abbrev pub AreTables : List ℕ → Members → Type 0
+AreTables key ms = list_of (items_at key ms) ≡ map table (tables_at key ms)
+
+abbrev pub AreTexts : List ℕ → Members → Type 0
+AreTexts key ms = list_of (items_at key ms) ≡ map string (texts_at key ms)
+
+-- a table has a text for its name
+abbrev pub IsNamed : Members → Type 0
+IsNamed ms = text_at (codes "name") ms ≡ Some (name_in ms)
+
+-- where the keys of a table are good, there is nothing that reading it passes over
+pub record NonePassedOver : Type 0 where
+  pub targets : (ms k : Members) → check_top_keys ms ≡ Ok k → AreTables (codes "target") k
+  pub rails : (ms k : Members) → check_top_keys ms ≡ Ok k → AreTables (codes "rail") k
+  pub target_names : (ms k : Members) → check_target_keys ms ≡ Ok k → IsNamed k
+  pub entries : (ms k : Members) → check_target_keys ms ≡ Ok k → AreTables (codes "allow") k
+  pub rail_names : (ms k : Members) → check_rail_keys ms ≡ Ok k → IsNamed k
+  pub needs : (ms k : Members) → check_rail_keys ms ≡ Ok k → AreTexts (codes "needs") k
+
 -- a table that allows the form `receive`
 abbrev pub receive_table : Members
 receive_table = member (codes "form") (string (codes "receive")) no_members
 
--- two bytes are read, and of two equal entries the second is at fault
+-- a file with a table of targets
+abbrev pub one_target : Members
+one_target = member (codes "target") (array (item (table no_members) no_items)) no_members
+
+-- two bytes are read, and of two equal entries the second is at fault; there are files whose keys
+-- are good
 pub record SomeListsInOrder : Type 0 where
   pub bytes : InOrder byte_after (integer (pos 7) ∷ integer (pos 9) ∷ []) (Ok (7 ∷ 9 ∷ []))
   pub entries : InOrder entry_from (receive_table ∷ receive_table ∷ []) (Err SameName)
+  pub keys : check_top_keys one_target ≡ Ok one_target

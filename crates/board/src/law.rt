@@ -1,6 +1,7 @@
 ghost use Rattle.board.specs.OrderLaws.{TargetsInOrder, EntriesInOrder, BytesInOrder};
 ghost use Rattle.board.specs.OrderLaws.{DraftsInOrder};
-ghost use Rattle.board.specs.OrderLaws.{NeedsInOrder, RailsInOrder, SomeListsInOrder};
+ghost use Rattle.board.specs.OrderLaws.{NeedsInOrder, RailsInOrder, NonePassedOver};
+ghost use Rattle.board.specs.OrderLaws.{SomeListsInOrder};
 ghost use Rattle.board.specs.Valid.{IsBoard};
 
 use crate::board::Board;
@@ -15,7 +16,9 @@ pub fn lists_are_read_in_order()
     ensures drafts { DraftsInOrder }
     ensures needs { NeedsInOrder }
     ensures rails { RailsInOrder }
-    // There are lists that are read, and lists with a fault.
+    // Where a table's keys are good, no element of its lists is passed over.
+    ensures whole { NonePassedOver }
+    // There are lists that are read, lists with a fault, and good keys.
     ensures case { SomeListsInOrder }
 {}
 
