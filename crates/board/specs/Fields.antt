@@ -27,7 +27,7 @@ flag_at key ms = unwrap_or (option_and_then as_bool (get_member key ms)) false
 abbrev pub items_at : List ℕ → Members → Items
 items_at key ms = unwrap_or (option_and_then as_array (get_member key ms)) no_items
 
--- a list's tables, in order, and its texts
+-- a list's tables, in order, and its texts: all its elements, where its key was checked
 abbrev pub tables_of : Items → List Members
 tables_of no_items = []
 tables_of (item d ds) = cons_option (as_table d) (tables_of ds)

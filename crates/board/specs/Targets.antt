@@ -34,7 +34,7 @@ check_target_keys ms =
     ∷ integers_key (codes "start_pages") ∷ integers_key (codes "start_protects") ∷ [])
     ((codes "alerts", kind.One sort.Flag) ∷ (codes "allow", kind.ListOf sort.Table) ∷ []) ms
 
--- the name that a table has
+-- the name of a table whose keys are good
 abbrev pub name_in : Members → List ℕ
 name_in ms = unwrap_or (text_at (codes "name") ms) []
 

@@ -9,7 +9,7 @@ ghost use Rattle.board.specs.Elements.{table_seen, tables_left, texts_left};
 use crate::fields::items_at;
 use toml::{Table, Value};
 
-/// The tables of a list, in order.
+/// The tables of a list, in order: all its elements, where its key was checked.
 #[derive(Clone, Copy)]
 pub(crate) struct Tables<'a> {
     values: &'a [Value],
@@ -42,7 +42,7 @@ pub(crate) fn tables_at<'a>(key: &str, table: &'a Table) -> Tables<'a>
     }
 }
 
-/// The texts of a list, in order.
+/// The texts of a list, in order: all its elements, where its key was checked.
 #[derive(Clone, Copy)]
 pub(crate) struct Texts<'a> {
     values: &'a [Value],

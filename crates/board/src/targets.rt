@@ -56,7 +56,7 @@ fn check_target_keys(table: &Table) -> Result<(), BoardFault>
     check_keys(&NEEDED, &OPTIONAL, table)
 }
 
-/// The name that a table has.
+/// The name of a table whose keys are good.
 fn name_in(table: &Table) -> &str
     ensures { result.now ≡ name_in (table_view table.now) }
 {
