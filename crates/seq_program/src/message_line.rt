@@ -11,7 +11,7 @@ ghost use Rattle.seq_program.specs.MessageLines.{alert_of};
 use crate::fault::ProgramFault;
 use crate::instr::{Instr, Register, Width, Written};
 use crate::line_operand::{
-    CommandTo, SizedTo, block_in, command_to, register_in, sized_to, target_of, word_in,
+    CommandTo, block_in, command_to, register_in, sized_to, target_of, word_in,
 };
 use crate::operand::{byte_within, direction_of, register_of, word_within};
 use board::Board;
@@ -124,11 +124,7 @@ pub(crate) fn write_of(board: &Board, line: usize, otherwise: usize, words: &[&s
         return Err(ProgramFault::BadOperand(line));
     };
     let source = source_of(line, command, value)?;
-    let SizedTo {
-        target,
-        command,
-        width,
-    } = sized_to(
+    let to = sized_to(
         board,
         line,
         Form::WriteByte,
@@ -136,10 +132,10 @@ pub(crate) fn write_of(board: &Board, line: usize, otherwise: usize, words: &[&s
         target,
         command,
     )?;
-    let value = written_of(width, source, value).ok_or(ProgramFault::BadNumber(line))?;
+    let value = written_of(to.width, source, value).ok_or(ProgramFault::BadNumber(line))?;
     Ok(Instr::Write {
-        target,
-        command,
+        target: to.target,
+        command: to.command,
         value,
         otherwise,
     })
@@ -156,15 +152,11 @@ pub(crate) fn read_of(board: &Board, line: usize, otherwise: usize, words: &[&st
         return Err(ProgramFault::BadOperand(line));
     };
     let register = register_in(line, register)?;
-    let SizedTo {
-        target,
-        command,
-        width,
-    } = sized_to(board, line, Form::ReadByte, Form::ReadWord, target, command)?;
+    let to = sized_to(board, line, Form::ReadByte, Form::ReadWord, target, command)?;
     Ok(Instr::Read {
-        target,
-        command,
-        width,
+        target: to.target,
+        command: to.command,
+        width: to.width,
         register,
         otherwise,
     })
