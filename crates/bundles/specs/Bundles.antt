@@ -7,6 +7,7 @@ use Rattle.std.specs.List.{list_all, slice_index, slice_split, enumerate_from}
 use Rattle.std.specs.Str.{bytes_eq}
 use Rattle.std.specs.Str.Lines.{lines}
 use Rattle.texts.specs.Reading.{◌>>=◌, some_or}
+use Rattle.texts.specs.Words.{named_among}
 use Rattle.bundles.specs.declared.fault.BundleFault.{BundleFault}
 use Rattle.bundles.specs.declared.command.Command.{Command}
 use Rattle.bundles.specs.declared.command.Command.TheVariants.{Frame, Run, Wave, Check, Find}
@@ -22,15 +23,19 @@ use Rattle.texts.specs.Ascii as ascii
 abbrev pub Line : Type 0
 Line = List ℕ
 
+-- the commands by their lines
+abbrev pub commands : List (Line × Command)
+commands =
+    (codes "%frame", Frame)
+    ∷ (codes "%run", Run)
+    ∷ (codes "%wave", Wave)
+    ∷ (codes "%check", Check)
+    ∷ (codes "%find", Find)
+    ∷ (codes "%verify", Verify)
+    ∷ []
+
 abbrev pub command_of : Line → Option Command
-command_of line =
-    if bytes_eq line (codes "%frame") then Some Frame
-    else if bytes_eq line (codes "%run") then Some Run
-    else if bytes_eq line (codes "%wave") then Some Wave
-    else if bytes_eq line (codes "%check") then Some Check
-    else if bytes_eq line (codes "%find") then Some Find
-    else if bytes_eq line (codes "%verify") then Some Verify
-    else None
+command_of line = named_among line commands
 
 abbrev pub header_text : Header → Line
 header_text Message = codes "%message"

@@ -1,12 +1,12 @@
 ghost use Rattle.std.specs.Prelude.{◌≡◌, ◌≤◌, ◌-◌, ◌++◌, ◌∷◌, [], ◌==◌, List, ℕ, length, map};
 ghost use Rattle.std.specs.Prelude.{replicate, option_map, option_copied, vec_len, IfOk, OnOk};
-ghost use Rattle.std.specs.Prelude.{IfSome, All};
+ghost use Rattle.std.specs.Prelude.{IfSome, All, Some, None, option_and_then, if◌then◌else◌};
 ghost use Rattle.std.specs.List.{slice_split};
 ghost use Rattle.bundles.specs.Texts.{texts_of};
 ghost use Rattle.bundles.specs.Fields.{after_key, value_of, rest_of, refuse_of, number_of};
 ghost use Rattle.bundles.specs.Fields.{bytes_of, cut_at};
 ghost use Rattle.bundles.specs.Holds.{hold_of, holds_of};
-ghost use Rattle.bundles.specs.HoldsRead.{holds_from};
+ghost use Rattle.bundles.specs.HoldsRead.{with_hold, holds_from};
 
 use std::alloc::{AllocError, Global};
 use texts::{decimal_within, hex_number, pairs_of};
@@ -122,6 +122,23 @@ fn push_hold(holds: &mut Vec<u16>, slot: usize, hold: u16) -> Result<(), AllocEr
     Ok(())
 }
 
+/// Adds the hold that a part names, if its slot stands behind the others.
+fn push_named(holds: &mut Vec<u16>, part: &str) -> Result<bool, AllocError>
+    requires { All (λ hold. hold ≤ 6999) holds.old.items }
+    ensures held { OnOk result (All (λ hold. hold ≤ 6999) holds.new.items) }
+    ensures added { IfOk result
+        (λ is_added. option_and_then (with_hold holds.old.items) (hold_of part.now)
+        ≡ (if is_added then Some holds.new.items else None)) }
+{
+    match hold_of(part) {
+        Some((slot, hold)) if slot >= holds.len() => {
+            push_hold(holds, slot, hold)?;
+            Ok(true)
+        }
+        _ => Ok(false),
+    }
+}
+
 /// The holds of all slots up to the last that is named.
 #[tactic(auto, unfolding(crate::specs::HoldsRead::holds_from))]
 fn listed_holds(alloc: Global, parts: &[&str]) -> Result<Option<Vec<u16>>, AllocError>
@@ -131,9 +148,8 @@ fn listed_holds(alloc: Global, parts: &[&str]) -> Result<Option<Vec<u16>>, Alloc
 {
     let mut holds = Vec::new(alloc);
     for part in parts {
-        match hold_of(part) {
-            Some((slot, hold)) if slot >= holds.len() => push_hold(&mut holds, slot, hold)?,
-            _ => return Ok(None),
+        if !push_named(&mut holds, part)? {
+            return Ok(None);
         }
     }
     Ok(Some(holds))

@@ -2,6 +2,7 @@
 use Rattle.std.proofs.Common.{◌≡◌, ℕ, ◌<◌, ◌≤◌, Bool, true, List, [], ◌∷◌, length, Some, None}
 use Rattle.std.proofs.Common.{codes, Ok, refl, ap, ◌∙◌, arith}
 use Rattle.std.specs.Fmt.{decimal}
+use Rattle.smbus.specs.declared.message.Form.{Form}
 use Rattle.smbus.specs.declared.message.Form.TheVariants as form
 use Rattle.texts.specs.Hex.{pairs_text}
 use Rattle.texts.specs.ReadBack.{DecimalsReadBack}
@@ -14,12 +15,13 @@ use Rattle.seq_program.specs.declared.instr.Width.{Width}
 use Rattle.seq_program.specs.declared.instr.Width.TheVariants as width
 use Rattle.seq_program.specs.declared.instr.Written.TheVariants as written
 use Rattle.seq_program.specs.declared.line.MessageWord.TheVariants as message
-use Rattle.seq_program.specs.MessageLines.{target_of, source_of, written_of, quick_of, send_of}
-use Rattle.seq_program.specs.MessageLines.{receive_of, write_of, read_of, call_of, block_write_of}
+use Rattle.seq_program.specs.LineOperands.{target_of, block_in, command_to, sized_to}
+use Rattle.seq_program.specs.MessageLines.{source_of, written_of, quick_of, send_of, receive_of}
+use Rattle.seq_program.specs.MessageLines.{write_of, read_of, call_of, block_write_of}
 use Rattle.seq_program.specs.MessageLines.{block_read_of, block_call_of, alert_of}
 use Rattle.seq_program.specs.PrintedWords.{target_name, register_name, direction_name, sized_name}
 use Rattle.seq_program.specs.Valid.{IsBlock, read_form}
-use Rattle.seq_program.specs.CommandWords.{form_at}
+use Rattle.seq_program.specs.CommandWords.{form_at, sized_in}
 use Rattle.seq_program.specs.JoinedWords.{is_word}
 use Rattle.seq_program.proofs.KnownOfTexts.{KnownOfTexts}
 use Rattle.seq_program.proofs.PrintedNumbers.{number_back, decimal_word, decimal_no_register}
@@ -29,7 +31,7 @@ use Rattle.seq_program.proofs.PrintedCommands.{name_word, name_at_place, command
 use Rattle.seq_program.proofs.PrintedSizes.{written_back, read_back, sized_word, voltage_name}
 use Rattle.seq_program.proofs.PrintedSizes.{voltage_word}
 use Rattle.seq_program.proofs.PrintedLines.{message_back}
-use Rattle.seq_program.proofs.PrintedPlain.{word_in_back}
+use Rattle.seq_program.proofs.PrintedPlain.{register_in_back, word_in_back}
 use Rattle.seq_program.proofs.PrintedPlaces.{ReadsBack}
 
 -- a target of a board, and the laws on printed texts
@@ -49,6 +51,27 @@ target_word : (board : Board) (target : ℕ) → IsTargetOf board target
 target_word board target t =
     name_word (target_name board target) (t.good.good_target_names target [] t.within)
 
+sent_back : (board : Board) (n target command : ℕ) (f : Form) → IsTargetOf board target
+    → takes_form command f ≡ true
+    → command_to board n f (target_name board target) (name_text command)
+    ≡ Ok (record { target = target; command = command })
+unfolding command_to
+sent_back board n target command f t takes =
+    rw (target_back board n target t, command_back t.known.names f command takes) refl
+
+sized_back : (board : Board) (n target command : ℕ) (byte word : Form) (name : List ℕ)
+    (size : Width) → IsTargetOf board target → sized_in byte word name ≡ Some (command, size)
+    → sized_to board n byte word (target_name board target) name
+    ≡ Ok (record { target = target; command = command; width = size })
+unfolding sized_to
+sized_back board n target command byte word name size t e =
+    rw (target_back board n target t, e) refl
+
+block_in_back : KnownOfTexts → (n most : ℕ) (bytes : List ℕ) → IsBlock most bytes
+    → block_in n most (pairs_text bytes) ≡ Ok bytes
+unfolding block_in
+block_in_back known n most bytes block = rw (block_back known.bytes most bytes block) refl
+
 pub quick_back : (board : Board) (target place : ℕ) (read : Bool) → IsTargetOf board target
     → place < 1024 → ReadsBack board (instr.Quick target read place)
 unfolding quick_of
@@ -67,7 +90,7 @@ send_back board target command place t takes few =
     (target_name board target) (name_text command ∷ []) place refl refl refl few
     (rw (target_word board target t, command_word command) refl)
     (λ n.
-    rw (target_back board n target t, command_back t.known.names form.SendByte command takes) refl)
+    rw (sent_back board n target command form.SendByte t takes) refl)
 
 pub receive_back : (board : Board) (target register place : ℕ) → IsTargetOf board target
     → register < 8 → place < 1024 → ReadsBack board (instr.Receive target register place)
@@ -76,7 +99,7 @@ receive_back board target register place t r few =
     message_back board (instr.Receive target register place) message.Receive (codes "receive")
     (target_name board target) (register_name register ∷ []) place refl refl refl few
     (rw (target_word board target t, register_word register r) refl)
-    (λ n. rw (register_back register r, target_back board n target t) refl)
+    (λ n. rw (register_in_back n register r, target_back board n target t) refl)
 
 number_source : (n value : ℕ) (name : List ℕ) → value ≤ 65535
     → source_of n name (decimal value) ≡ Ok None
@@ -115,8 +138,8 @@ write_byte_back board target command value place t takes v few =
     ) refl)
     (λ n. rw (
       number_source n value (sized_name command width.Byte) (omega arith),
-      target_back board n target t,
-      written_back t.known command width.Byte takes,
+      sized_back board n target command form.WriteByte form.WriteWord _ width.Byte t
+          (written_back t.known command width.Byte takes),
       byte_back t.known.decimal value v,
     ) refl)
 
@@ -135,8 +158,8 @@ write_word_back board target command value place t takes v few =
     ) refl)
     (λ n. rw (
       number_source n value (sized_name command width.Word) v,
-      target_back board n target t,
-      written_back t.known command width.Word takes,
+      sized_back board n target command form.WriteByte form.WriteWord _ width.Word t
+          (written_back t.known command width.Word takes),
       word_back t.known.decimal value v,
     ) refl)
 
@@ -156,8 +179,8 @@ write_register_back board target register place t r few =
     (λ n. rw (
       ap (λ name. source_of n name (register_name register)) voltage_name
           ∙ register_source n register r,
-      target_back board n target t,
-      written_back t.known vout_command_code width.Word voltage_word,
+      sized_back board n target vout_command_code form.WriteByte form.WriteWord _ width.Word t
+          (written_back t.known vout_command_code width.Word voltage_word),
     ) refl)
 
 pub reading_back : (board : Board) (target command register place : ℕ) (size : Width)
@@ -171,9 +194,9 @@ reading_back board target command register place size t takes r few =
     (sized_name command size ∷ register_name register ∷ []) place refl refl refl few
     (rw (target_word board target t, sized_word command size, register_word register r) refl)
     (λ n. rw (
-      register_back register r,
-      target_back board n target t,
-      read_back t.known command size (taken size takes),
+      register_in_back n register r,
+      sized_back board n target command form.ReadByte form.ReadWord _ size t
+          (read_back t.known command size (taken size takes)),
     ) refl)
   where
     taken : (size : Width) → takes_form command (read_form size) ≡ true
@@ -196,9 +219,8 @@ call_back board target command value register place t takes v r few =
       register_word register r,
     ) refl)
     (λ n. rw (
-      register_back register r,
-      target_back board n target t,
-      command_back t.known.names form.ProcessCall command takes,
+      register_in_back n register r,
+      sent_back board n target command form.ProcessCall t takes,
       word_in_back t.known.decimal n value v,
     ) refl)
 
@@ -213,9 +235,8 @@ block_write_back board target command place bytes t takes block few =
     (name_text command ∷ pairs_text bytes ∷ []) place refl refl refl few
     (rw (target_word board target t, command_word command, block_word 255 bytes block) refl)
     (λ n. rw (
-      block_back t.known.bytes 255 bytes block,
-      target_back board n target t,
-      command_back t.known.names form.BlockWrite command takes,
+      block_in_back t.known n 255 bytes block,
+      sent_back board n target command form.BlockWrite t takes,
     ) refl)
 
 pub block_read_back : (board : Board) (target command register place : ℕ) → IsTargetOf board target
@@ -228,9 +249,8 @@ block_read_back board target command register place t takes r few =
     (name_text command ∷ register_name register ∷ []) place refl refl refl few
     (rw (target_word board target t, command_word command, register_word register r) refl)
     (λ n. rw (
-      register_back register r,
-      target_back board n target t,
-      command_back t.known.names form.BlockRead command takes,
+      register_in_back n register r,
+      sent_back board n target command form.BlockRead t takes,
     ) refl)
 
 pub block_call_back : (board : Board) (target command register place : ℕ) (bytes : List ℕ)
@@ -249,10 +269,9 @@ block_call_back board target command register place bytes t takes block r few =
       register_word register r,
     ) refl)
     (λ n. rw (
-      block_back t.known.bytes 254 bytes block,
-      register_back register r,
-      target_back board n target t,
-      command_back t.known.names form.BlockProcessCall command takes,
+      block_in_back t.known n 254 bytes block,
+      register_in_back n register r,
+      sent_back board n target command form.BlockProcessCall t takes,
     ) refl)
 
 pub alert_back : (board : Board) (register place : ℕ) → register < 8 → place < 1024
@@ -261,4 +280,4 @@ unfolding alert_of
 alert_back board register place r few =
     message_back board (instr.Alert register place) message.Alert (codes "alert")
     (register_name register) [] place refl refl refl few
-    (rw (register_word register r) refl) (λ n. rw (register_back register r) refl)
+    (rw (register_word register r) refl) (λ n. rw (register_in_back n register r) refl)

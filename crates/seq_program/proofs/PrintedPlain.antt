@@ -6,7 +6,7 @@ use Rattle.board.specs.Boards.{Board}
 use Rattle.seq_program.specs.declared.instr.Instr.TheVariants as instr
 use Rattle.seq_program.specs.declared.line.JumpWord.TheVariants as jump
 use Rattle.seq_program.specs.declared.line.PlainWord.TheVariants as plain
-use Rattle.seq_program.specs.MessageLines.{number_in, word_in}
+use Rattle.seq_program.specs.LineOperands.{register_in, number_in, word_in}
 use Rattle.seq_program.specs.JumpLines.{bits_of, if_of, above_of, again_of}
 use Rattle.seq_program.specs.PlainLines.{set_of, add_of, count_of, wait_of}
 use Rattle.seq_program.specs.PrintedWords.{register_name, counter_name}
@@ -14,6 +14,11 @@ use Rattle.seq_program.proofs.PrintedNumbers.{number_back, decimal_word, registe
 use Rattle.seq_program.proofs.PrintedNumbers.{register_word, counter_back, counter_word}
 use Rattle.seq_program.proofs.PrintedLines.{jump_back, plain_back}
 use Rattle.seq_program.proofs.PrintedPlaces.{ReadsBack}
+
+pub register_in_back : (n register : ℕ) → register < 8
+    → register_in n (register_name register) ≡ Ok register
+unfolding register_in
+register_in_back n register r = rw (register_back register r) refl
 
 pub number_in_back : DecimalsReadBack → (n low high v : ℕ) → low ≤ v → v ≤ high
     → high ≤ 99999999
@@ -40,7 +45,7 @@ set_back decimals board register value r v =
     plain_back board (instr.Set register value) plain.Set (codes "set")
     (register_name register ∷ decimal value ∷ []) refl refl refl refl refl
     (rw (register_word register r, decimal_word value (omega arith)) refl) (λ n. rw (
-      register_back register r,
+      register_in_back n register r,
       word_in_back decimals n value v,
     ) refl)
 
@@ -52,7 +57,7 @@ add_back decimals board register value r v =
     plain_back board (instr.Add register value) plain.Add (codes "add")
     (register_name register ∷ decimal value ∷ []) refl refl refl refl refl
     (rw (register_word register r, decimal_word value (omega arith)) refl) (λ n. rw (
-      register_back register r,
+      register_in_back n register r,
       word_in_back decimals n value v,
     ) refl)
 
@@ -75,7 +80,7 @@ if_back decimals board register mask value place r m v few =
       decimal_word mask (omega arith),
       decimal_word value (omega arith),
     ) refl)
-    (λ n. rw (register_back register r, bits_back decimals n mask value m v) refl)
+    (λ n. rw (register_in_back n register r, bits_back decimals n mask value m v) refl)
 
 pub above_back : DecimalsReadBack → (board : Board) (register value place : ℕ) → register < 8
     → value ≤ 65535
@@ -86,7 +91,7 @@ above_back decimals board register value place r v few =
     (register_name register ∷ decimal value ∷ []) place
     refl refl refl refl refl few
     (rw (register_word register r, decimal_word value (omega arith)) refl)
-    (λ n. rw (register_back register r, word_in_back decimals n value v) refl)
+    (λ n. rw (register_in_back n register r, word_in_back decimals n value v) refl)
 
 pub count_back : DecimalsReadBack → (board : Board) (counter value : ℕ) → counter < 4 → value ≤ 1000
     → ReadsBack board (instr.Count counter value)

@@ -4,8 +4,9 @@ use Rattle.texts.specs.Reading.{◌>>=◌, some_or}
 use Rattle.seq_program.specs.declared.fault.ProgramFault.{ProgramFault}
 use Rattle.seq_program.specs.declared.fault.ProgramFault.TheVariants.{BadOperand}
 use Rattle.seq_program.specs.declared.instr.Instr.TheVariants as instr
-use Rattle.seq_program.specs.Operands.{register_of, counter_of}
-use Rattle.seq_program.specs.MessageLines.{Parsed, word_in}
+use Rattle.seq_program.specs.Operands.{counter_of}
+use Rattle.seq_program.specs.LineOperands.{register_in, word_in}
+use Rattle.seq_program.specs.MessageLines.{Parsed}
 
 -- nothing
 abbrev pub if_alert_of : ℕ → ℕ → List (List ℕ) → Parsed
@@ -22,7 +23,7 @@ bits_of n m v = do
 -- `rN M V`
 unfoldable pub if_of : ℕ → ℕ → List (List ℕ) → Parsed
 if_of n place (r ∷ m ∷ v ∷ []) = do
-  register ← some_or (BadOperand n) (register_of r)
+  register ← register_in n r
   bits ← bits_of n m v
   Ok (instr.If register bits.0 bits.1 place)
 if_of n place _ = Err (BadOperand n)
@@ -30,7 +31,7 @@ if_of n place _ = Err (BadOperand n)
 -- `rN V`
 unfoldable pub above_of : ℕ → ℕ → List (List ℕ) → Parsed
 above_of n place (r ∷ v ∷ []) = do
-  register ← some_or (BadOperand n) (register_of r)
+  register ← register_in n r
   value ← word_in n v
   Ok (instr.Above register value place)
 above_of n place _ = Err (BadOperand n)

@@ -2,6 +2,7 @@ pub mod Faults
 pub mod Reading
 pub mod Operands
 pub mod CommandWords
+pub mod LineOperands
 pub mod MessageLines
 pub mod JumpLines
 pub mod PlainLines

@@ -1,10 +1,10 @@
 -- The instruction of a line, by its first word.
-use Rattle.std.specs.Prelude.{ℕ, ◌-◌, List, [], length, take, nat_lt, slice_index_or, Option, Some}
-use Rattle.std.specs.Prelude.{Bool}
-use Rattle.std.specs.Prelude.{None, option_map, is_some, unwrap_or, true, Result, Ok, Err}
-use Rattle.std.specs.Prelude.{if◌then◌else◌, codes}
+use Rattle.std.specs.Prelude.{ℕ, ◌-◌, List, [], ◌∷◌, length, take, nat_lt, slice_index_or, Bool}
+use Rattle.std.specs.Prelude.{true, Option, Some, None, option_map, is_some, unwrap_or, Result, Ok}
+use Rattle.std.specs.Prelude.{Err, if◌then◌else◌, codes}
 use Rattle.std.specs.Str.{bytes_eq}
 use Rattle.texts.specs.Reading.{◌>>=◌, some_or}
+use Rattle.texts.specs.Words.{named_among}
 use Rattle.board.specs.Boards.{Board}
 use Rattle.seq_program.specs.declared.fault.ProgramFault.{ProgramFault}
 use Rattle.seq_program.specs.declared.fault.ProgramFault.TheVariants.{BadOperand, UnknownWord}
@@ -25,40 +25,49 @@ use Rattle.seq_program.specs.JumpLines.{if_alert_of, if_of, above_of, again_of, 
 use Rattle.seq_program.specs.PlainLines.{set_of, add_of, count_of, wait_of, end_of, fail_of}
 
 -- the first words of lines that send a message, and end with `else L`
+abbrev pub message_words : List (List ℕ × MessageWord)
+message_words =
+    (codes "quick", message.Quick)
+    ∷ (codes "send", message.Send)
+    ∷ (codes "receive", message.Receive)
+    ∷ (codes "write", message.Write)
+    ∷ (codes "read", message.Read)
+    ∷ (codes "call", message.Call)
+    ∷ (codes "blockwrite", message.BlockWrite)
+    ∷ (codes "blockread", message.BlockRead)
+    ∷ (codes "blockcall", message.BlockCall)
+    ∷ (codes "alert", message.Alert)
+    ∷ []
+
 abbrev pub message_word : List ℕ → Option MessageWord
-message_word word =
-    if bytes_eq word (codes "quick") then Some message.Quick
-    else if bytes_eq word (codes "send") then Some message.Send
-    else if bytes_eq word (codes "receive") then Some message.Receive
-    else if bytes_eq word (codes "write") then Some message.Write
-    else if bytes_eq word (codes "read") then Some message.Read
-    else if bytes_eq word (codes "call") then Some message.Call
-    else if bytes_eq word (codes "blockwrite") then Some message.BlockWrite
-    else if bytes_eq word (codes "blockread") then Some message.BlockRead
-    else if bytes_eq word (codes "blockcall") then Some message.BlockCall
-    else if bytes_eq word (codes "alert") then Some message.Alert
-    else None
+message_word word = named_among word message_words
 
 -- those of lines that jump and send nothing, and end with `L`
+abbrev pub jump_words : List (List ℕ × JumpWord)
+jump_words =
+    (codes "ifalert", jump.IfAlert)
+    ∷ (codes "if", jump.If)
+    ∷ (codes "above", jump.Above)
+    ∷ (codes "again", jump.Again)
+    ∷ (codes "goto", jump.Goto)
+    ∷ []
+
 abbrev pub jump_word : List ℕ → Option JumpWord
-jump_word word =
-    if bytes_eq word (codes "ifalert") then Some jump.IfAlert
-    else if bytes_eq word (codes "if") then Some jump.If
-    else if bytes_eq word (codes "above") then Some jump.Above
-    else if bytes_eq word (codes "again") then Some jump.Again
-    else if bytes_eq word (codes "goto") then Some jump.Goto
-    else None
+jump_word word = named_among word jump_words
 
 -- those of the others
+abbrev pub plain_words : List (List ℕ × PlainWord)
+plain_words =
+    (codes "set", plain.Set)
+    ∷ (codes "add", plain.Add)
+    ∷ (codes "count", plain.Count)
+    ∷ (codes "wait", plain.Wait)
+    ∷ (codes "end", plain.End)
+    ∷ (codes "fail", plain.Fail)
+    ∷ []
+
 abbrev pub plain_word : List ℕ → Option PlainWord
-plain_word word =
-    if bytes_eq word (codes "set") then Some plain.Set
-    else if bytes_eq word (codes "add") then Some plain.Add
-    else if bytes_eq word (codes "count") then Some plain.Count
-    else if bytes_eq word (codes "wait") then Some plain.Wait
-    else if bytes_eq word (codes "end") then Some plain.End
-    else if bytes_eq word (codes "fail") then Some plain.Fail
-    else None
+plain_word word = named_among word plain_words
 
 -- the label behind `else`
 abbrev pub else_label : List ℕ → List ℕ → Option (List ℕ)

@@ -4,32 +4,22 @@ use Rattle.std.specs.Prelude.{if◌then◌else◌, codes}
 use Rattle.std.specs.Str.{bytes_eq}
 use Rattle.texts.specs.Reading.{◌>>=◌, some_or}
 use Rattle.smbus.specs.declared.message.Form.TheVariants as form
-use Rattle.board.specs.Boards.{Board, place_of_name}
+use Rattle.board.specs.Boards.{Board}
 use Rattle.seq_program.specs.declared.fault.ProgramFault.{ProgramFault}
 use Rattle.seq_program.specs.declared.fault.ProgramFault.TheVariants.{BadOperand, BadNumber}
-use Rattle.seq_program.specs.declared.fault.ProgramFault.TheVariants.{UnknownTarget, UnknownCommand}
 use Rattle.seq_program.specs.declared.instr.Instr.{Instr}
 use Rattle.seq_program.specs.declared.instr.Instr.TheVariants as instr
 use Rattle.seq_program.specs.declared.instr.Width.{Width}
 use Rattle.seq_program.specs.declared.instr.Width.TheVariants as width
 use Rattle.seq_program.specs.declared.instr.Written.{Written}
 use Rattle.seq_program.specs.declared.instr.Written.TheVariants as written
-use Rattle.seq_program.specs.Operands.{register_of, direction_of, number_within, block_of}
-use Rattle.seq_program.specs.CommandWords.{command_in, sized_in}
+use Rattle.seq_program.specs.Operands.{register_of, direction_of, number_within}
+use Rattle.seq_program.specs.LineOperands.{target_of, register_in, word_in, block_in, command_to}
+use Rattle.seq_program.specs.LineOperands.{sized_to}
 
 -- the instruction of a line's operands, or the line's fault
 abbrev pub Parsed : Type 0
 Parsed = Result Instr ProgramFault
-
-unfoldable pub target_of : Board → ℕ → List ℕ → Result ℕ ProgramFault
-target_of board n word = some_or (UnknownTarget n) (place_of_name word board.target_names)
-
-unfoldable pub number_in : ℕ → ℕ → ℕ → List ℕ → Result ℕ ProgramFault
-number_in n low high word = some_or (BadNumber n) (number_within low high word)
-
--- a number of 16 bits
-unfoldable pub word_in : ℕ → List ℕ → Result ℕ ProgramFault
-word_in n word = number_in n 0 65535 word
 
 -- `T r` or `T w`
 unfoldable pub quick_of : Board → ℕ → ℕ → List (List ℕ) → Parsed
@@ -42,15 +32,14 @@ quick_of board n place _ = Err (BadOperand n)
 -- `T C`
 unfoldable pub send_of : Board → ℕ → ℕ → List (List ℕ) → Parsed
 send_of board n place (t ∷ c ∷ []) = do
-  target ← target_of board n t
-  command ← some_or (UnknownCommand n) (command_in form.SendByte c)
-  Ok (instr.Send target command place)
+  to ← command_to board n form.SendByte t c
+  Ok (instr.Send to.target to.command place)
 send_of board n place _ = Err (BadOperand n)
 
 -- `T rN`
 unfoldable pub receive_of : Board → ℕ → ℕ → List (List ℕ) → Parsed
 receive_of board n place (t ∷ r ∷ []) = do
-  register ← some_or (BadOperand n) (register_of r)
+  register ← register_in n r
   target ← target_of board n t
   Ok (instr.Receive target register place)
 receive_of board n place _ = Err (BadOperand n)
@@ -74,62 +63,56 @@ written_of width.Word None value = option_map written.Word (number_within 0 6553
 unfoldable pub write_of : Board → ℕ → ℕ → List (List ℕ) → Parsed
 write_of board n place (t ∷ c ∷ v ∷ []) = do
   source ← source_of n c v
-  target ← target_of board n t
-  sized ← some_or (UnknownCommand n) (sized_in form.WriteByte form.WriteWord c)
-  value ← some_or (BadNumber n) (written_of sized.1 source v)
-  Ok (instr.Write target sized.0 value place)
+  to ← sized_to board n form.WriteByte form.WriteWord t c
+  value ← some_or (BadNumber n) (written_of to.width source v)
+  Ok (instr.Write to.target to.command value place)
 write_of board n place _ = Err (BadOperand n)
 
 -- `T C rN`
 unfoldable pub read_of : Board → ℕ → ℕ → List (List ℕ) → Parsed
 read_of board n place (t ∷ c ∷ r ∷ []) = do
-  register ← some_or (BadOperand n) (register_of r)
-  target ← target_of board n t
-  sized ← some_or (UnknownCommand n) (sized_in form.ReadByte form.ReadWord c)
-  Ok (instr.Read target sized.0 sized.1 register place)
+  register ← register_in n r
+  to ← sized_to board n form.ReadByte form.ReadWord t c
+  Ok (instr.Read to.target to.command to.width register place)
 read_of board n place _ = Err (BadOperand n)
 
 -- `T C V rN`
 unfoldable pub call_of : Board → ℕ → ℕ → List (List ℕ) → Parsed
 call_of board n place (t ∷ c ∷ v ∷ r ∷ []) = do
-  register ← some_or (BadOperand n) (register_of r)
-  target ← target_of board n t
-  command ← some_or (UnknownCommand n) (command_in form.ProcessCall c)
+  register ← register_in n r
+  to ← command_to board n form.ProcessCall t c
   value ← word_in n v
-  Ok (instr.Call target command value register place)
+  Ok (instr.Call to.target to.command value register place)
 call_of board n place _ = Err (BadOperand n)
 
 -- `T C X`
 unfoldable pub block_write_of : Board → ℕ → ℕ → List (List ℕ) → Parsed
 block_write_of board n place (t ∷ c ∷ x ∷ []) = do
-  bytes ← some_or (BadOperand n) (block_of 255 x)
-  target ← target_of board n t
-  command ← some_or (UnknownCommand n) (command_in form.BlockWrite c)
-  Ok (instr.BlockWrite target command bytes place)
+  bytes ← block_in n 255 x
+  to ← command_to board n form.BlockWrite t c
+  Ok (instr.BlockWrite to.target to.command bytes place)
 block_write_of board n place _ = Err (BadOperand n)
 
 -- `T C rN`
 unfoldable pub block_read_of : Board → ℕ → ℕ → List (List ℕ) → Parsed
 block_read_of board n place (t ∷ c ∷ r ∷ []) = do
-  register ← some_or (BadOperand n) (register_of r)
-  target ← target_of board n t
-  command ← some_or (UnknownCommand n) (command_in form.BlockRead c)
-  Ok (instr.BlockRead target command register place)
+  register ← register_in n r
+  to ← command_to board n form.BlockRead t c
+  Ok (instr.BlockRead to.target to.command register place)
 block_read_of board n place _ = Err (BadOperand n)
 
 -- `T C X rN`, where at least one byte of the 255 is left for the answer
 unfoldable pub block_call_of : Board → ℕ → ℕ → List (List ℕ) → Parsed
 block_call_of board n place (t ∷ c ∷ x ∷ r ∷ []) = do
-  bytes ← some_or (BadOperand n) (block_of 254 x)
-  register ← some_or (BadOperand n) (register_of r)
-  target ← target_of board n t
-  command ← some_or (UnknownCommand n) (command_in form.BlockProcessCall c)
-  Ok (instr.BlockCall target command bytes register place)
+  bytes ← block_in n 254 x
+  register ← register_in n r
+  to ← command_to board n form.BlockProcessCall t c
+  Ok (instr.BlockCall to.target to.command bytes register place)
 block_call_of board n place _ = Err (BadOperand n)
 
 -- `rN`
 unfoldable pub alert_of : ℕ → ℕ → List (List ℕ) → Parsed
 alert_of n place (r ∷ []) = do
-  register ← some_or (BadOperand n) (register_of r)
+  register ← register_in n r
   Ok (instr.Alert register place)
 alert_of n place _ = Err (BadOperand n)

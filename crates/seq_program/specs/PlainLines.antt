@@ -3,13 +3,14 @@ use Rattle.std.specs.Prelude.{ℕ, List, [], ◌∷◌, Ok, Err}
 use Rattle.texts.specs.Reading.{◌>>=◌, some_or}
 use Rattle.seq_program.specs.declared.fault.ProgramFault.TheVariants.{BadOperand}
 use Rattle.seq_program.specs.declared.instr.Instr.TheVariants as instr
-use Rattle.seq_program.specs.Operands.{register_of, counter_of}
-use Rattle.seq_program.specs.MessageLines.{Parsed, number_in, word_in}
+use Rattle.seq_program.specs.Operands.{counter_of}
+use Rattle.seq_program.specs.LineOperands.{register_in, number_in, word_in}
+use Rattle.seq_program.specs.MessageLines.{Parsed}
 
 -- `rN V`
 unfoldable pub set_of : ℕ → List (List ℕ) → Parsed
 set_of n (r ∷ v ∷ []) = do
-  register ← some_or (BadOperand n) (register_of r)
+  register ← register_in n r
   value ← word_in n v
   Ok (instr.Set register value)
 set_of n _ = Err (BadOperand n)
@@ -17,7 +18,7 @@ set_of n _ = Err (BadOperand n)
 -- `rN V`
 unfoldable pub add_of : ℕ → List (List ℕ) → Parsed
 add_of n (r ∷ v ∷ []) = do
-  register ← some_or (BadOperand n) (register_of r)
+  register ← register_in n r
   value ← word_in n v
   Ok (instr.Add register value)
 add_of n _ = Err (BadOperand n)

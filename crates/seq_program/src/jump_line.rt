@@ -8,8 +8,9 @@ ghost use Rattle.seq_program.specs.JumpLines.{again_of, goto_of};
 
 use crate::fault::ProgramFault;
 use crate::instr::Instr;
-use crate::message_line::{Parsed, word_in};
-use crate::operand::{counter_of, register_of};
+use crate::line_operand::{register_in, word_in};
+use crate::message_line::Parsed;
+use crate::operand::counter_of;
 
 pub(crate) fn if_alert_of(line: usize, jump: usize, words: &[&str]) -> Parsed
     ensures fits { IfOk result (λ i. (targets : ℕ) → IsInstrOn targets i) }
@@ -34,7 +35,7 @@ fn bits_of(line: usize, mask: &str, value: &str) -> Result<(u16, u16), ProgramFa
     Ok((mask, value))
 }
 
-#[tactic(auto, unfolding(crate::specs::JumpLines::if_of))]
+#[tactic(auto, unfolding(crate::specs::JumpLines::if_of, crate::specs::LineOperands::register_in))]
 pub(crate) fn if_of(line: usize, jump: usize, words: &[&str]) -> Parsed
     ensures fits { IfOk result (λ i. (targets : ℕ) → IsInstrOn targets i) }
     ensures jumps { IfOk result (λ i. JumpsTo jump i) }
@@ -43,7 +44,7 @@ pub(crate) fn if_of(line: usize, jump: usize, words: &[&str]) -> Parsed
     let [register, mask, value] = words else {
         return Err(ProgramFault::BadOperand(line));
     };
-    let register = register_of(register).ok_or(ProgramFault::BadOperand(line))?;
+    let register = register_in(line, register)?;
     let (mask, value) = bits_of(line, mask, value)?;
     Ok(Instr::If {
         register,
@@ -63,7 +64,7 @@ pub(crate) fn above_of(line: usize, jump: usize, words: &[&str]) -> Parsed
     let [register, value] = words else {
         return Err(ProgramFault::BadOperand(line));
     };
-    let register = register_of(register).ok_or(ProgramFault::BadOperand(line))?;
+    let register = register_in(line, register)?;
     let value = word_in(line, value)?;
     Ok(Instr::Above {
         register,

@@ -8,6 +8,7 @@ mod jump_line;
 mod labels;
 mod law;
 mod line;
+mod line_operand;
 mod message;
 mod message_line;
 mod operand;

@@ -1,73 +1,25 @@
 //! The lines that send a message: what stands between their first word and `else`.
 
-ghost use Rattle.std.specs.Prelude.{◌≡◌, ◌≤◌, ◌<◌, ℕ, length, map, codes, IfOk, IfSome};
-ghost use Rattle.board.specs.Boards.{place_of_name};
+ghost use Rattle.std.specs.Prelude.{◌≡◌, ◌<◌, ℕ, length, map, codes, IfOk, IfSome};
 ghost use Rattle.seq_program.specs.Reading.{Gives};
-ghost use Rattle.seq_program.specs.Valid.{IsInstrOn, JumpsTo, IsWritten, written_form};
-ghost use Rattle.seq_program.specs.MessageLines.{target_of, number_in, word_in, quick_of};
-ghost use Rattle.seq_program.specs.MessageLines.{send_of};
-ghost use Rattle.seq_program.specs.MessageLines.{receive_of, source_for, source_of, written_of};
-ghost use Rattle.seq_program.specs.MessageLines.{write_of, read_of, call_of, block_write_of};
-ghost use Rattle.seq_program.specs.MessageLines.{block_read_of, block_call_of, alert_of};
+ghost use Rattle.seq_program.specs.Valid.{IsInstrOn, JumpsTo};
+ghost use Rattle.seq_program.specs.MessageLines.{quick_of, send_of, receive_of, source_for};
+ghost use Rattle.seq_program.specs.MessageLines.{source_of, written_of, write_of, read_of, call_of};
+ghost use Rattle.seq_program.specs.MessageLines.{block_write_of, block_read_of, block_call_of};
+ghost use Rattle.seq_program.specs.MessageLines.{alert_of};
 
-use crate::command::{command_in, sized_in};
 use crate::fault::ProgramFault;
 use crate::instr::{Instr, Register, Width, Written};
-use crate::operand::{
-    block_of, byte_within, direction_of, number_within, register_of, word_within,
+use crate::line_operand::{
+    CommandTo, block_in, command_to, register_in, sized_to, target_of, word_in,
 };
+use crate::operand::{byte_within, direction_of, register_of, word_within};
 use board::Board;
 use smbus::Form;
 use std::alloc::Global;
 
 /// The instruction of a line's operands, or the line's fault.
 pub(crate) type Parsed = Result<Instr, ProgramFault>;
-
-fn target_named(board: &Board, word: &str) -> Option<usize>
-    ensures value { result ≡ place_of_name word.now board.now.target_names }
-    ensures there { IfSome result (λ t. t < length board.now.targets) }
-{
-    board.target_named(word)
-}
-
-#[tactic(auto, unfolding(crate::specs::MessageLines::target_of))]
-fn target_of(board: &Board, line: usize, word: &str) -> Result<usize, ProgramFault>
-    ensures value { Gives (λ t. t) result (target_of board.now line word.now) }
-    ensures there { IfOk result (λ t. t < length board.now.targets) }
-{
-    target_named(board, word).ok_or(ProgramFault::UnknownTarget(line))
-}
-
-#[tactic(auto, unfolding(crate::specs::MessageLines::number_in))]
-pub(crate) fn number_in(line: usize, low: u32, high: u32, word: &str) -> Result<u32, ProgramFault>
-    ensures value { Gives (λ n. n) result (number_in line low high word.now) }
-    ensures within { IfOk result (λ n. (low ≤ n) × (n ≤ high)) }
-{
-    number_within(low, high, word).ok_or(ProgramFault::BadNumber(line))
-}
-
-/// A number of 16 bits of a range.
-#[tactic(auto, unfolding(crate::specs::MessageLines::number_in))]
-pub(crate) fn word_between(
-    line: usize,
-    low: u16,
-    high: u16,
-    word: &str,
-) -> Result<u16, ProgramFault>
-    ensures value { Gives (λ n. n) result (number_in line low high word.now) }
-    ensures within { IfOk result (λ n. (low ≤ n) × (n ≤ high)) }
-{
-    word_within(low, high, word).ok_or(ProgramFault::BadNumber(line))
-}
-
-/// A number of 16 bits.
-#[tactic(auto, unfolding(crate::specs::MessageLines::word_in))]
-pub(crate) fn word_in(line: usize, word: &str) -> Result<u16, ProgramFault>
-    ensures value { Gives (λ n. n) result (word_in line word.now) }
-    ensures within { IfOk result (λ n. n ≤ 65535) }
-{
-    word_between(line, 0, u16::MAX, word)
-}
 
 #[tactic(auto, unfolding(crate::specs::MessageLines::quick_of))]
 pub(crate) fn quick_of(board: &Board, line: usize, otherwise: usize, words: &[&str]) -> Parsed
@@ -98,8 +50,7 @@ pub(crate) fn send_of(board: &Board, line: usize, otherwise: usize, words: &[&st
     let [target, command] = words else {
         return Err(ProgramFault::BadOperand(line));
     };
-    let target = target_of(board, line, target)?;
-    let command = command_in(Form::SendByte, command).ok_or(ProgramFault::UnknownCommand(line))?;
+    let CommandTo { target, command } = command_to(board, line, Form::SendByte, target, command)?;
     Ok(Instr::Send {
         target,
         command,
@@ -117,7 +68,7 @@ pub(crate) fn receive_of(board: &Board, line: usize, otherwise: usize, words: &[
     let [target, register] = words else {
         return Err(ProgramFault::BadOperand(line));
     };
-    let register = register_of(register).ok_or(ProgramFault::BadOperand(line))?;
+    let register = register_in(line, register)?;
     let target = target_of(board, line, target)?;
     Ok(Instr::Receive {
         target,
@@ -173,14 +124,18 @@ pub(crate) fn write_of(board: &Board, line: usize, otherwise: usize, words: &[&s
         return Err(ProgramFault::BadOperand(line));
     };
     let source = source_of(line, command, value)?;
-    let target = target_of(board, line, target)?;
-    let (command, width) = sized_in(Form::WriteByte, Form::WriteWord, command).ok_or(
-        ProgramFault::UnknownCommand(line),
-    )?;
-    let value = written_of(width, source, value).ok_or(ProgramFault::BadNumber(line))?;
-    Ok(Instr::Write {
+    let to = sized_to(
+        board,
+        line,
+        Form::WriteByte,
+        Form::WriteWord,
         target,
         command,
+    )?;
+    let value = written_of(to.width, source, value).ok_or(ProgramFault::BadNumber(line))?;
+    Ok(Instr::Write {
+        target: to.target,
+        command: to.command,
         value,
         otherwise,
     })
@@ -196,15 +151,12 @@ pub(crate) fn read_of(board: &Board, line: usize, otherwise: usize, words: &[&st
     let [target, command, register] = words else {
         return Err(ProgramFault::BadOperand(line));
     };
-    let register = register_of(register).ok_or(ProgramFault::BadOperand(line))?;
-    let target = target_of(board, line, target)?;
-    let (command, width) = sized_in(Form::ReadByte, Form::ReadWord, command).ok_or(
-        ProgramFault::UnknownCommand(line),
-    )?;
+    let register = register_in(line, register)?;
+    let to = sized_to(board, line, Form::ReadByte, Form::ReadWord, target, command)?;
     Ok(Instr::Read {
-        target,
-        command,
-        width,
+        target: to.target,
+        command: to.command,
+        width: to.width,
         register,
         otherwise,
     })
@@ -220,9 +172,14 @@ pub(crate) fn call_of(board: &Board, line: usize, otherwise: usize, words: &[&st
     let [target, command, value, register] = words else {
         return Err(ProgramFault::BadOperand(line));
     };
-    let register = register_of(register).ok_or(ProgramFault::BadOperand(line))?;
-    let target = target_of(board, line, target)?;
-    let command = command_in(Form::ProcessCall, command).ok_or(ProgramFault::UnknownCommand(line))?;
+    let register = register_in(line, register)?;
+    let CommandTo { target, command } = command_to(
+        board,
+        line,
+        Form::ProcessCall,
+        target,
+        command,
+    )?;
     let value = word_in(line, value)?;
     Ok(Instr::Call {
         target,
@@ -249,9 +206,8 @@ pub(crate) fn block_write_of(
     let [target, command, bytes] = words else {
         return Err(ProgramFault::BadOperand(line));
     };
-    let bytes = block_of(alloc, 255, bytes)?.ok_or(ProgramFault::BadOperand(line))?;
-    let target = target_of(board, line, target)?;
-    let command = command_in(Form::BlockWrite, command).ok_or(ProgramFault::UnknownCommand(line))?;
+    let bytes = block_in(alloc, line, 255, bytes)?;
+    let CommandTo { target, command } = command_to(board, line, Form::BlockWrite, target, command)?;
     Ok(Instr::BlockWrite {
         target,
         command,
@@ -270,9 +226,8 @@ pub(crate) fn block_read_of(board: &Board, line: usize, otherwise: usize, words:
     let [target, command, register] = words else {
         return Err(ProgramFault::BadOperand(line));
     };
-    let register = register_of(register).ok_or(ProgramFault::BadOperand(line))?;
-    let target = target_of(board, line, target)?;
-    let command = command_in(Form::BlockRead, command).ok_or(ProgramFault::UnknownCommand(line))?;
+    let register = register_in(line, register)?;
+    let CommandTo { target, command } = command_to(board, line, Form::BlockRead, target, command)?;
     Ok(Instr::BlockRead {
         target,
         command,
@@ -297,12 +252,15 @@ pub(crate) fn block_call_of(
     let [target, command, bytes, register] = words else {
         return Err(ProgramFault::BadOperand(line));
     };
-    let bytes = block_of(alloc, 254, bytes)?.ok_or(ProgramFault::BadOperand(line))?;
-    let register = register_of(register).ok_or(ProgramFault::BadOperand(line))?;
-    let target = target_of(board, line, target)?;
-    let command = command_in(Form::BlockProcessCall, command).ok_or(ProgramFault::UnknownCommand(
+    let bytes = block_in(alloc, line, 254, bytes)?;
+    let register = register_in(line, register)?;
+    let CommandTo { target, command } = command_to(
+        board,
         line,
-    ))?;
+        Form::BlockProcessCall,
+        target,
+        command,
+    )?;
     Ok(Instr::BlockCall {
         target,
         command,
@@ -322,7 +280,7 @@ pub(crate) fn alert_of(line: usize, otherwise: usize, words: &[&str]) -> Parsed
     let [register] = words else {
         return Err(ProgramFault::BadOperand(line));
     };
-    let register = register_of(register).ok_or(ProgramFault::BadOperand(line))?;
+    let register = register_in(line, register)?;
     Ok(Instr::Alert {
         register,
         otherwise,

@@ -7,8 +7,9 @@ ghost use Rattle.seq_program.specs.PlainLines.{set_of, add_of, count_of, wait_of
 
 use crate::fault::ProgramFault;
 use crate::instr::Instr;
-use crate::message_line::{Parsed, number_in, word_between, word_in};
-use crate::operand::{counter_of, register_of};
+use crate::line_operand::{number_in, register_in, word_between, word_in};
+use crate::message_line::Parsed;
+use crate::operand::counter_of;
 
 #[tactic(auto, unfolding(crate::specs::PlainLines::set_of))]
 pub(crate) fn set_of(line: usize, words: &[&str]) -> Parsed
@@ -20,7 +21,7 @@ pub(crate) fn set_of(line: usize, words: &[&str]) -> Parsed
     let [register, value] = words else {
         return Err(ProgramFault::BadOperand(line));
     };
-    let register = register_of(register).ok_or(ProgramFault::BadOperand(line))?;
+    let register = register_in(line, register)?;
     let value = word_in(line, value)?;
     Ok(Instr::Set { register, value })
 }
@@ -35,7 +36,7 @@ pub(crate) fn add_of(line: usize, words: &[&str]) -> Parsed
     let [register, value] = words else {
         return Err(ProgramFault::BadOperand(line));
     };
-    let register = register_of(register).ok_or(ProgramFault::BadOperand(line))?;
+    let register = register_in(line, register)?;
     let value = word_in(line, value)?;
     Ok(Instr::Add { register, value })
 }

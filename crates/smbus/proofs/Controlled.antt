@@ -9,12 +9,12 @@ use Rattle.wires.specs.declared.event.Event.{Event}
 use Rattle.wires.specs.declared.event.Event.TheVariants.{Start, Stop, Rise}
 use Rattle.smbus.specs.Shown.{Shown}
 use Rattle.smbus.specs.Frames.{Begins}
-use Rattle.smbus.specs.Machine.{State, risen, is_again, ends_low, step}
+use Rattle.smbus.specs.Machine.{State, risen, is_again, ends_low, step, start, run, then_run}
 use Rattle.smbus.specs.Control.{control_step, control_after, then_control}
 use Rattle.smbus.specs.declared.control.Control.{Control}
 use Rattle.smbus.specs.declared.control.Control.TheVariants.{Free, Begun, Bits}
-use Rattle.smbus.proofs.EventByEvent.{Segments, state, start, run, then_run, Sound, step_keeps}
-use Rattle.smbus.proofs.EventByEvent.{begins_read, none_begin, sound_start, ends_low-push}
+use Rattle.smbus.proofs.StatesOfEvents.{Segments, state, Sound, step_keeps, ends_low-push}
+use Rattle.smbus.proofs.EventByEvent.{begins_read, none_begin, sound_start}
 
 abbrev pub control_of_bits : List Bool → Control
 control_of_bits [] = Begun

@@ -12,13 +12,14 @@ use Rattle.wires.specs.declared.event.Event.{Event}
 use Rattle.wires.specs.declared.event.Event.TheVariants.{Start, Stop, Rise}
 use Rattle.smbus.specs.Shown.{Shown}
 use Rattle.smbus.specs.Frames.{Begins, IsFrame, frame_word}
-use Rattle.smbus.specs.Machine.{State, is_again, risen, step}
+use Rattle.smbus.specs.Machine.{State, is_again, risen, step, start, run, then_run}
 use Rattle.smbus.specs.Control.{control_after}
 use Rattle.smbus.specs.Observers.{IsObserving, IsStopped, IsTaken, Observing, StopsAt}
 use Rattle.smbus.specs.JoinedPieces.{SomeAreTaken}
 use Rattle.smbus.specs.declared.control.Control.{Control}
 use Rattle.smbus.specs.declared.control.Control.TheVariants.{Free, Begun}
-use Rattle.smbus.proofs.EventByEvent.{Segments, closed, state, start, run, then_run, run-append}
+use Rattle.smbus.proofs.StatesOfEvents.{Segments, state, run-append}
+use Rattle.smbus.proofs.FramesTaken.{closed}
 use Rattle.smbus.proofs.EventByEvent.{begins_less, none_begin, read_frames}
 use Rattle.smbus.proofs.Controlled.{begins_controlled, control-append, control_of, none_controlled}
 use Rattle.smbus.proofs.Controlled.{read_controlled}

@@ -17,7 +17,7 @@ use Rattle.smbus.specs.Protocol.{Piece, bit_marks, marks_of}
 use Rattle.smbus.specs.Protocol.Piece.{Sent, Refused, Got, Repeat}
 use Rattle.smbus.specs.Whole.{segment_marks, shown_marks}
 use Rattle.smbus.proofs.Bytes.{byte_bits-mod}
-use Rattle.smbus.proofs.EventByEvent.{Segments, AreBytes}
+use Rattle.smbus.proofs.StatesOfEvents.{Segments, AreBytes}
 
 -- the frame of pieces
 

@@ -1,4 +1,6 @@
 pub mod Bytes
+pub mod StatesOfEvents
+pub mod FramesTaken
 pub mod EventByEvent
 pub mod Controlled
 pub mod PiecesRead

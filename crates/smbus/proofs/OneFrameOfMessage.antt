@@ -24,7 +24,8 @@ use Rattle.smbus.specs.Protocol.{marks_of, IsNumbered}
 use Rattle.smbus.specs.Slots.{slots_of, plan_of, samples_of}
 use Rattle.smbus.specs.Whole.{shown_marks, IsWhole, IsRefused, IsBrokenOff}
 use Rattle.smbus.specs.OneFrame.{CanBeSent, IsOnlyFrame, SlotsAreOneFrame, FramesAreUnique}
-use Rattle.smbus.proofs.EventByEvent.{only_read, read_frames, closed}
+use Rattle.smbus.proofs.FramesTaken.{closed}
+use Rattle.smbus.proofs.EventByEvent.{only_read, read_frames}
 use Rattle.smbus.proofs.FrameMarks.{frame_of, is_frame, frame_word-marks, segment_marks-split}
 use Rattle.smbus.proofs.Fronts.{front_of}
 use Rattle.smbus.proofs.MarksOut.{marks_out, no_end-pieces, goes_out, refused_front}

@@ -13,7 +13,7 @@ use Rattle.wires.specs.declared.event.Event.{Event}
 use Rattle.wires.specs.declared.event.Event.TheVariants.{Stop}
 use Rattle.smbus.specs.Shown.{Shown}
 use Rattle.smbus.specs.Frames.{AreFrames, Begins, IsFrame, frame_word}
-use Rattle.smbus.specs.Machine.{State}
+use Rattle.smbus.specs.Machine.{State, start, run, then_run}
 use Rattle.smbus.specs.Control.{control_step, control_after, then_control, IsBehindStop}
 use Rattle.smbus.specs.Observers.{FeedFault, IsObserving, IsStopped, IsTaken, Observing}
 use Rattle.smbus.specs.Observers.{most_events}
@@ -21,7 +21,8 @@ use Rattle.smbus.specs.declared.fault.ObserveFault.TheVariants.{Memory}
 use Rattle.smbus.specs.Kept.{IsKept}
 use Rattle.smbus.specs.declared.control.Control.{Control}
 use Rattle.smbus.specs.declared.control.Control.TheVariants.{Free, Begun, Bits}
-use Rattle.smbus.proofs.EventByEvent.{start, run, then_run, run-append, frames_read, begins_less}
+use Rattle.smbus.proofs.StatesOfEvents.{run-append}
+use Rattle.smbus.proofs.EventByEvent.{frames_read, begins_less}
 use Rattle.smbus.proofs.Controlled.{control_of, control_of_open, control-append, read_controlled}
 use Rattle.smbus.proofs.Controlled.{begins_controlled, none_controlled}
 

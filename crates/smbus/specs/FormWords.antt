@@ -1,7 +1,6 @@
 -- The words of forms, and which forms carry a command code.
-use Rattle.std.specs.Prelude.{ℕ, List, [], ◌∷◌, Bool, true, false, Option, Some, None, codes}
-use Rattle.std.specs.Prelude.{if◌then◌else◌}
-use Rattle.std.specs.Str.{bytes_eq}
+use Rattle.std.specs.Prelude.{ℕ, List, [], ◌∷◌, Bool, true, false, Option, codes}
+use Rattle.texts.specs.Words.{named_among}
 use Rattle.smbus.specs.declared.message.Form.{Form}
 use Rattle.smbus.specs.declared.message.Form.TheVariants.{Quick, SendByte, ReceiveByte, WriteByte}
 use Rattle.smbus.specs.declared.message.Form.TheVariants.{WriteWord, ReadByte, ReadWord}
@@ -26,13 +25,8 @@ form_words =
     ∷ (codes "blockcall", BlockProcessCall)
     ∷ []
 
-abbrev form_among : List ℕ → List (List ℕ × Form) → Option Form
-form_among word [] = None
-form_among word (entry ∷ later) =
-    if bytes_eq word entry.0 then Some entry.1 else form_among word later
-
 unfoldable pub form_named : List ℕ → Option Form
-form_named word = form_among word form_words
+form_named word = named_among word form_words
 
 -- of a Send Byte the code is its data byte (SMBus 3.2, 6.5)
 abbrev pub carries_code : Form → Bool

@@ -23,6 +23,6 @@ pub use message::{Answer, Form, Message};
 pub use observer::Observer;
 pub use observing::observe;
 pub use single::only_frame;
-pub use slots::frame_slots;
+pub use slots::{frame_slots, is_numbered};
 pub use text::frame_text;
 pub use word::{carries_code, form_named};

@@ -174,7 +174,9 @@ fn has_length(form: Form, count: usize) -> bool
     }
 }
 
-fn is_numbered(refuse: Option<u16>, count: usize) -> bool
+/// Whether a message of so many sent bytes can have this refusal: none, or that of one of these
+/// bytes, which are numbered from 0 (SMBus 3.2, 6.5).
+pub fn is_numbered(refuse: Option<u16>, count: usize) -> bool
     ensures { IsTrue result ↔ IsNumbered refuse count }
 {
     match refuse {

@@ -1,6 +1,8 @@
--- The lines of a text, and the words of a line.
+-- The lines of a text, the words of a line, and what a word stands for.
 use Rattle.std.specs.Prelude.{ℕ, List, [], ◌∷◌, Bool, ◌==◌, filter, length, nat_lt, if◌then◌else◌}
+use Rattle.std.specs.Prelude.{Option, Some, None}
 use Rattle.std.specs.List.{slice_split}
+use Rattle.std.specs.Str.{bytes_eq}
 use Rattle.texts.specs.Ascii as ascii
 
 abbrev pub is_nonempty : List ℕ → Bool
@@ -19,3 +21,9 @@ without_empty_end (line ∷ next ∷ later) = line ∷ without_empty_end (next �
 -- the parts between line feeds: a carriage return is a character like any other
 abbrev pub lines_by_feed : List ℕ → List (List ℕ)
 lines_by_feed text = without_empty_end (slice_split (λ b. b == ascii.line_feed) text)
+
+-- what a word stands for in a table: the first entry with that word tells it
+abbrev pub named_among : {A : Type 0} → List ℕ → List (List ℕ × A) → Option A
+named_among word [] = None
+named_among word (entry ∷ later) =
+    if bytes_eq word entry.0 then Some entry.1 else named_among word later

@@ -5,15 +5,11 @@ use Rattle.seq_program.proofs.message_line.write_of.Goals as goal
 
 pub returns-clause-fits : goal.returns-clause-fits
 returns-clause-fits c =
-    let sized : c.sized_in.result ≡ Some (c.in_ok-command.command, c.in_ok-command.width) =
-    some_of_ok c.sized_in.result _ (c.in_ok-command.command, c.in_ok-command.width)
-    (sym c.ok_or.ensures.value ∙ c.in_ok-command.was) in
+    let to = c.in_ok-to.ensures in
     let written : c.written_of.result ≡ Some c.in_ok-value.value =
     some_of_ok c.written_of.result _ c.in_ok-value.value
-    (sym c.ok_or-2.ensures.value ∙ c.in_ok-value.was) in (
-      written_fits c.in_ok-command.command c.in_ok-command.width c.in_ok-source.source _ _
-          c.in_ok-value.value (rw sized at c.sized_in.ensures.taken)
-          (sym sized ∙ c.sized_in.ensures.value) c.in_ok-source.ensures.voltage
-          (sym written ∙ c.written_of.ensures),
-      c.in_ok-target.ensures.there,
+    (sym c.ok_or.ensures.value ∙ c.in_ok-value.was) in (
+      written_fits _ _ c.in_ok-source.source _ _ c.in_ok-value.value to.taken
+          (sym to.sized) c.in_ok-source.ensures.voltage (sym written ∙ c.written_of.ensures),
+      to.there,
     )

@@ -1,6 +1,8 @@
 use Rattle.std.proofs.Common.{Some, [], ◌∷◌, ◌++◌, refl, sym, ap, ◌∙◌}
 use Rattle.smbus.specs.Machine.{state_of}
-use Rattle.smbus.proofs.EventByEvent.{Segments, closed, stops, stays}
+use Rattle.smbus.proofs.StatesOfEvents.{Segments}
+use Rattle.smbus.proofs.FramesTaken.{closed}
+use Rattle.smbus.proofs.EventByEvent.{stops, stays}
 use Rattle.smbus.proofs.observing.OpenFrame.ended.Goals as goal
 
 pub returns-then-last : goal.returns-then-last
