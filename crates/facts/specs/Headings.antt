@@ -1,12 +1,12 @@
 -- A request but for its data.
 use Rattle.std.specs.Prelude.{◌≡◌, ℕ, Option, Some, None, option_map, IfSome, IsTrue, true, false}
-use Rattle.std.specs.Prelude.{slice_get, All, unwrap_or, option_and_then}
+use Rattle.std.specs.Prelude.{slice_get, All, unwrap_or}
 use Rattle.board.specs.declared.entry.Range.{Range}
 use Rattle.board.specs.Valid.{full_length, full_values}
 use Rattle.smbus.specs.declared.message.Form.{Form}
 use Rattle.pmbus_table.specs.Commands.{form_read, is_paged, counts_as_write}
 use Rattle.pmbus_table.specs.Protect.{permits}
-use Rattle.board.specs.Boards.{Allow, Target, Rail, Board, entry_of}
+use Rattle.board.specs.Boards.{Allow, Target, Rail, Board, entry_at}
 use Rattle.facts.specs.Sets.{all_pages}
 use Rattle.facts.specs.Rows.{Row, set_at}
 use Rattle.facts.specs.Duties.{IsInEntry, IsKnownValue, touches}
@@ -64,14 +64,12 @@ AreNeedsGood b row i =
 abbrev pub longest_read : Board → Heading → ℕ
 longest_read b h =
     Range.high (unwrap_or
-    (option_map (λ (e : Allow). e.length) (option_and_then (λ (t : Target).
-    entry_of h.form (unwrap_or h.command 0) t.allow) (slice_get b.targets h.target)))
+    (option_map (λ (e : Allow). e.length) (entry_at b h.target h.form (unwrap_or h.command 0)))
     full_length)
 
 -- what may be read
 abbrev pub values_read : Board → Heading → Range
 values_read b h =
     unwrap_or
-    (option_map (λ (e : Allow). e.values) (option_and_then (λ (t : Target).
-    entry_of h.form (unwrap_or h.command 0) t.allow) (slice_get b.targets h.target)))
+    (option_map (λ (e : Allow). e.values) (entry_at b h.target h.form (unwrap_or h.command 0)))
     (full_values h.form)

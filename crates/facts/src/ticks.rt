@@ -36,11 +36,8 @@ fn block_count(instr: &Instr) -> u16
 fn longest_block(board: &Board, heading: &Heading) -> u16
     ensures { result ≡ longest_read board.now heading.now }
 {
-    match board.target(heading.target) {
-        Some(device) => match device.entry(heading.form, code_of(heading)) {
-            Some(entry) => entry.length().high,
-            None => full_length().high,
-        },
+    match board.entry_at(heading.target, heading.form, code_of(heading)) {
+        Some(entry) => entry.length().high,
         None => full_length().high,
     }
 }

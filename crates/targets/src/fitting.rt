@@ -1,5 +1,4 @@
 ghost use Rattle.std.specs.Prelude.{◌≡◌, ◌≤◌, ◌↔◌, All, IsTrue, length, option_map};
-ghost use Rattle.smbus.specs.Protocol.{sent_count, IsNumbered};
 ghost use Rattle.board.specs.Boards.{largest_stretch};
 ghost use Rattle.targets.specs.Fitting.{IsIn, values_for, lengths_for, IsStoredBy, FitsRead};
 ghost use Rattle.targets.specs.Fitting.{FitsBlock, FitsAlert, ReadsNothing, FitsForm, Fits};
@@ -9,7 +8,7 @@ use crate::alerting::{alert_byte, may_all_alert};
 use crate::state::BusState;
 use board::{Board, Range, full_length, full_values};
 use pmbus_table::code::{PAGE, WRITE_PROTECT};
-use smbus::{Answer, Form, Message, sent_count, slot_count};
+use smbus::{Answer, Form, Message, is_numbered, sent_count, slot_count};
 
 fn is_in(range: Range, number: u16) -> bool
     ensures { IsTrue result ↔ IsIn range number }
@@ -112,15 +111,6 @@ fn fits_form(board: &Board, state: &BusState, message: &Message, answer: &Answer
             answer.value == 0 && fits_block(board, message, message.out.len(), &answer.bytes)
         }
         Form::Alert => answer.bytes.is_empty() && fits_alert(board, state, answer),
-    }
-}
-
-fn is_numbered(refuse: Option<u16>, count: usize) -> bool
-    ensures { IsTrue result ↔ IsNumbered refuse count }
-{
-    match refuse {
-        None => true,
-        Some(number) => (number as usize) < count,
     }
 }
 

@@ -9,14 +9,15 @@ use Rattle.smbus.specs.declared.message.Form.TheVariants as form
 use Rattle.smbus.specs.Asked.{Asked}
 use Rattle.smbus.specs.Answered.{Answered}
 use Rattle.pmbus_table.specs.Commands.{takes_form}
-use Rattle.board.specs.Boards.{Allow, Target, Board, entry_of, place_of_address}
+use Rattle.board.specs.Boards.{Allow, Target, Board, entry_of, entry_for, place_of_address}
+use Rattle.board.specs.Boards.{target_of}
 use Rattle.board.specs.Valid.{IsBoard, full_values, full_length}
 use Rattle.targets.specs.declared.outcome.Outcome.{Outcome}
 use Rattle.targets.specs.declared.outcome.Outcome.TheVariants.{Done}
 use Rattle.targets.specs.Outcomes.{outcome_of}
 use Rattle.targets.specs.States.{Belongs, IsTargetAt}
 use Rattle.targets.specs.Effects.{IsAfter}
-use Rattle.targets.specs.Fitting.{target_of, entry_for, values_for, lengths_for, Fits}
+use Rattle.targets.specs.Fitting.{values_for, lengths_for, Fits}
 use Rattle.seq_program.specs.Valid.{read_form, IsWritten, IsBlock}
 use Rattle.simulator.specs.Machines.{Machine, Entry}
 use Rattle.simulator.specs.Moves.{with_result}

@@ -7,9 +7,9 @@ use Rattle.std.proofs.lemmas.Bool.{false≢true}
 use Rattle.smbus.specs.Asked.{Asked}
 use Rattle.smbus.specs.Protocol.{AreGoodCounts}
 use Rattle.board.specs.declared.entry.Range.{Range}
-use Rattle.board.specs.Boards.{Target, Board}
+use Rattle.board.specs.Boards.{Target, Board, place_of}
 use Rattle.board.specs.Valid.{IsBoard}
-use Rattle.targets.specs.Fitting.{place_of, lengths_for}
+use Rattle.targets.specs.Fitting.{lengths_for}
 use Rattle.targets.specs.SomeAnswer.{IsMessage}
 use Rattle.targets.specs.States.{IsTargetAt}
 use Rattle.seq_program.specs.declared.instr.Instr.{Instr}
