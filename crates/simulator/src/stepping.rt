@@ -116,36 +116,6 @@ fn step_by(
     Ok((next, entry))
 }
 
-/// The step of an instruction that sends this message, or none, if the answer of this index fits.
-fn step_if_fits(
-    alloc: Global,
-    board: &Board,
-    instr: &Instr,
-    message: Option<&Message>,
-    last: (Machine, Entry),
-    answer: &Answer,
-    index: usize,
-) -> Result<(Machine, Entry), RunFault>
-    requires instr { IsInstr instr.now }
-    requires asked { option_map (λ m. m.now) message
-        ≡ message_of board.now instr.now last.0.regs }
-    requires few { last.0.place < 1024 }
-    ensures step { IfOk result (λ r.
-        IsStepOf board.now instr.now
-        (option_map (λ m. m.now) message.entry) last.0 answer.now r.1 r.0) }
-    ensures seen { IfOk result (λ r. HasItsFrame r.1) }
-    ensures belongs { IfOk result
-        (λ r. Belongs board.now last.0.bus → Belongs board.now r.0.bus) }
-    ensures fault { IfErr result (λ e. e ≢ Memory → (e ≡ RunFault.AnswerDoesNotFit index)
-        × (FitsStep board.now last.0.bus (option_map (λ m. m.now) message.entry) answer.now
-        → ⊥)) }
-{
-    if !fits(board, &last.0.bus, message, answer) {
-        return Err(RunFault::AnswerDoesNotFit(index));
-    }
-    Ok(step_by(alloc, board, instr, message, last, answer)?)
-}
-
 /// The step of a machine under the answer of an index, where so many samples stand before it. The
 /// program and the machine are those of the board. The entry that comes with the machine is not
 /// looked at: it gives its memory to the new one.
@@ -178,7 +148,11 @@ pub fn step_at(
     }
     let instr = instr_of(program, machine);
     let message = message_of(alloc, board, instr, &machine.regs)?;
-    let (next, entry) = step_if_fits(alloc, board, instr, message.as_ref(), last, answer, index)?;
+    let message = message.as_ref();
+    if !fits(board, &machine.bus, message, answer) {
+        return Err(RunFault::AnswerDoesNotFit(index));
+    }
+    let (next, entry) = step_by(alloc, board, instr, message, last, answer)?;
     if entry.ticks > MOST_TICKS - before {
         return Err(RunFault::TooLong);
     }
