@@ -40,13 +40,9 @@ impl Worth {
 
 /// What a loop leaves is known at its places alone at first.
 fn worth_at(ticks: &Ticks, inside: Option<&Loop>) -> Worth {
-    let mut left = [false; 4];
-    for c in 0..4 {
-        left[c] = ticks.coeffs[c] > 0;
-    }
     Worth {
         ahead: ticks.coeffs,
-        left,
+        left: ticks.coeffs.map(|coeff| coeff > 0),
         settled: match inside {
             Some(found) => found.sets,
             None => [false; 4],
@@ -76,11 +72,9 @@ fn worths(
 fn with_ahead(graph: &Graph, worths: &[Worth], place: usize) -> Option<Worth> {
     let mut here = *worths.get(place)?;
     let node = graph.nodes.get(place)?;
-    for number in 0..node.count {
-        if let Some(way) = graph.way(place, number) {
-            if let Some(there) = worths.get(way.to) {
-                here.lead(there, node.sets);
-            }
+    for way in graph.ways_of(place) {
+        if let Some(there) = worths.get(way.to) {
+            here.lead(there, node.sets);
         }
     }
     Some(here)
@@ -120,14 +114,11 @@ fn tell_left(graph: &Graph, worths: &mut [Worth], place: usize) -> bool {
         return false;
     };
     let mut changed = false;
-    for number in 0..node.count {
-        if let Some(way) = graph.way(place, number) {
-            if let Some(there) = worths.get(way.to).copied() {
-                let mut told = there;
-                told.follow(&here, node.sets);
-                if change(worths, way.to, told) {
-                    changed = true;
-                }
+    for way in graph.ways_of(place) {
+        if let Some(mut told) = worths.get(way.to).copied() {
+            told.follow(&here, node.sets);
+            if change(worths, way.to, told) {
+                changed = true;
             }
         }
     }

@@ -73,10 +73,7 @@ impl Walk {
 
     /// The last open places, up to the given one, are a component.
     fn take_component(&mut self, place: usize) -> Result<(), AllocError> {
-        for _ in 0..self.open.len() {
-            let Some(last) = self.open.pop() else {
-                break;
-            };
+        while let Some(last) = self.open.pop() {
             set(&mut self.low, last, FOUND);
             set(&mut self.found.of, last, self.found.count);
             self.found.order.push(last)?;
@@ -124,7 +121,7 @@ impl Walk {
         let Some(visit) = self.path.pop() else {
             return Ok(false);
         };
-        match graph.way(visit.place, visit.next) {
+        match graph.ways_of(visit.place).get(visit.next).copied() {
             Some(way) => self.follow(&visit, &way)?,
             None => self.leave(&visit)?,
         }
@@ -150,11 +147,7 @@ pub(crate) fn numbers(
     number: usize,
     places: usize,
 ) -> Result<Vec<usize>, AllocError> {
-    let mut numbers = Vec::new(alloc);
-    for _ in 0..places {
-        numbers.push(number)?;
-    }
-    Ok(numbers)
+    vec![in alloc; number; places]
 }
 
 /// The components of a graph, over its open ways.

@@ -56,14 +56,14 @@ pub(crate) struct Graph {
 }
 
 impl Graph {
-    /// A way of a place, by its number at the place.
-    pub(crate) fn way(&self, place: usize, number: usize) -> Option<Way> {
-        let node = self.nodes.get(place)?;
-        if number < node.count {
-            self.ways.get(node.first.saturating_add(number)).copied()
-        } else {
-            None
-        }
+    /// The ways of a place.
+    pub(crate) fn ways_of(&self, place: usize) -> &[Way] {
+        let Some(Node { first, count, .. }) = self.nodes.get(place).copied() else {
+            return &[];
+        };
+        self.ways
+            .get(first..first.saturating_add(count))
+            .unwrap_or(&[])
     }
 
     /// The counter that a place's instruction sets.

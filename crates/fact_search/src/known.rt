@@ -5,7 +5,6 @@ ghost use Rattle.facts.specs.Edges.{edge};
 ghost use Rattle.facts.specs.FactLaws.{IsShaped};
 ghost use Rattle.facts.specs.Rows.{IsRow, row_view};
 ghost use Rattle.table_check.specs.Looking.{HasRowsOf, rows_view};
-ghost use Rattle.table_check.specs.Tables.{row_of};
 ghost use Rattle.fact_search.specs.Forward.{IsForward};
 ghost use Rattle.fact_search.specs.Searching.{IsGrown, IsLearnt, IsSearched, is_changed};
 

@@ -24,23 +24,16 @@ pub(crate) struct Ticks {
 
 /// At all places no ticks.
 fn no_ticks(alloc: Global, places: usize) -> Result<Vec<Ticks>, AllocError> {
-    let mut ticks = Vec::new(alloc);
-    for _ in 0..places {
-        ticks.push(Ticks {
-            base: 0,
-            coeffs: [0; 4],
-        })?;
-    }
-    Ok(ticks)
+    let none = Ticks {
+        base: 0,
+        coeffs: [0; 4],
+    };
+    vec![in alloc; none; places]
 }
 
 /// For each place a 0.
 fn zeros(alloc: Global, places: usize) -> Result<Vec<u64>, AllocError> {
-    let mut zeros = Vec::new(alloc);
-    for _ in 0..places {
-        zeros.push(0)?;
-    }
-    Ok(zeros)
+    vec![in alloc; 0; places]
 }
 
 /// What is left at each place of the loops at a depth, to their next turns.
@@ -145,12 +138,10 @@ fn coefficients(alloc: Global, graph: &Graph, nest: &mut Nest) -> Result<Vec<Tic
 
 /// Ticks that a row may have.
 fn within_most(ticks: &Ticks, base: u64) -> Ticks {
-    let mut within = *ticks;
-    within.base = MOST_TICKS.min(base);
-    for c in 0..4 {
-        within.coeffs[c] = MOST_TICKS.min(ticks.coeffs[c]);
+    Ticks {
+        base: MOST_TICKS.min(base),
+        coeffs: ticks.coeffs.map(|coeff| MOST_TICKS.min(coeff)),
     }
-    within
 }
 
 /// The ticks that are left at each place, with the loops of a nest.

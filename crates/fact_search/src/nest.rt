@@ -64,11 +64,7 @@ pub(crate) fn loop_of(inside: &[Option<usize>], way: &Way) -> Option<usize> {
 
 /// A loop at each place, or none.
 fn no_loops(alloc: Global, places: usize) -> Result<Vec<Option<usize>>, AllocError> {
-    let mut none = Vec::new(alloc);
-    for _ in 0..places {
-        none.push(None)?;
-    }
-    Ok(none)
+    vec![in alloc; None; places]
 }
 
 /// The component in which an open way stays.

@@ -1,6 +1,6 @@
 //! The row of the start.
 
-ghost use Rattle.std.specs.Prelude.{◌≡◌, ◌<◌, ℕ, IfOk, IsTrue, All, length};
+ghost use Rattle.std.specs.Prelude.{◌<◌, ℕ, IfOk, IsTrue, All};
 ghost use Rattle.board.specs.Boards.{Target};
 ghost use Rattle.board.specs.Valid.{IsTarget};
 ghost use Rattle.facts.specs.Rows.{row_view};

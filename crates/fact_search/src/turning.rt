@@ -109,12 +109,8 @@ impl Measure<'_> {
     /// The most that has to be left at a place.
     fn owed_at(&self, values: &[u64], place: usize) -> u64 {
         let mut most = value_at(values, place);
-        if let Some(node) = self.graph.nodes.get(place) {
-            for number in 0..node.count {
-                if let Some(way) = self.graph.way(place, number) {
-                    most = most.max(self.owed(values, &way));
-                }
-            }
+        for way in self.graph.ways_of(place) {
+            most = most.max(self.owed(values, way));
         }
         most
     }

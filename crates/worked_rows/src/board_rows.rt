@@ -2,7 +2,7 @@ use crate::boards::{TWO, alert_board, two_board};
 use crate::expected::{same, says};
 use board::{Board, BoardFault, Range, full_length, full_values, is_page_value, read_board};
 use pmbus_table::{Command, by_name};
-use smbus::Form;
+use smbus::{Form, Message};
 use std::alloc::Global;
 use std::process::Abort;
 use std::test::*;
@@ -55,10 +55,33 @@ type EntryFacts = (Form, Option<Command>, Range, Range);
 
 /// The entry of a target for a form and a code.
 fn entry_of(board: &Board, index: usize, form: Form, code: u8) -> Option<EntryFacts> {
-    let target = board.target(index)?;
-    let entry = target.entry(form, code)?;
+    let entry = board.entry_at(index, form, code)?;
     let command = entry.command();
     Some((entry.form(), command, entry.values(), entry.length()))
+}
+
+fn has_entry(board: &Board, index: usize, form: Form, code: u8) -> Option<bool> {
+    Some(board.target(index)?.entry(form, code).is_some())
+}
+
+/// The values that a word has which is read at an address.
+fn values_at(alloc: Global, board: &Board, address: u8) -> Option<Range> {
+    let message = Message {
+        address,
+        form: Form::ReadWord,
+        code: 0x79,
+        out: Vec::new(alloc),
+    };
+    Some(board.entry_for(&message)?.values())
+}
+
+fn compare_messages(rt: &impl Abort, alloc: Global, board: &Board) {
+    let values = Range {
+        low: 0,
+        high: 65535,
+    };
+    same(rt, values_at(alloc, board, 0x40), Some(values));
+    same(rt, values_at(alloc, board, 0x42), None);
 }
 
 fn compare_entries(rt: &impl Abort, board: &Board) {
@@ -71,6 +94,7 @@ fn compare_entries(rt: &impl Abort, board: &Board) {
     let want = Some((Form::ReadWord, command, values, length));
     same(rt, entry_of(board, 0, Form::ReadWord, 0x79), want);
     same(rt, entry_of(board, 0, Form::WriteWord, 0x79), None);
+    same(rt, has_entry(board, 0, Form::ReadWord, 0x79), Some(true));
 }
 
 /// The target, the page, the limit and the needs of a rail.
@@ -100,6 +124,7 @@ fn compare_two(rt: &impl Abort, alloc: Global) -> Result<(), BoardFault> {
     compare_targets(rt, &board);
     compare_target(rt, &board);
     compare_entries(rt, &board);
+    compare_messages(rt, alloc, &board);
     compare_rails(rt, &board);
     Ok(())
 }

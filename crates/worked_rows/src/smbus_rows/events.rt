@@ -2,7 +2,9 @@
 
 use super::{observed, reads};
 use crate::expected::same;
-use smbus::{Form, ObserveFault, Segment, carries_code, form_named, observe, only_frame};
+use smbus::{
+    Form, ObserveFault, Segment, carries_code, form_named, is_numbered, observe, only_frame,
+};
 use std::alloc::{AllocError, Global};
 use std::process::Abort;
 use std::test::*;
@@ -96,6 +98,16 @@ fn form_words(rt: HostRuntime) {
 fn forms_with_a_code(rt: HostRuntime) {
     same(&rt, carries_code(Form::SendByte), true);
     same(&rt, carries_code(Form::ReceiveByte), false);
+}
+
+#[test]
+fn refusals_of_three_bytes(rt: HostRuntime) {
+    same(
+        &rt,
+        (is_numbered(None, 3), is_numbered(Some(2), 3)),
+        (true, true),
+    );
+    same(&rt, is_numbered(Some(3), 3), false);
 }
 
 fn is_one_frame(alloc: Global, events: &[Event]) -> Result<bool, AllocError> {
