@@ -1,4 +1,4 @@
-ghost use Rattle.std.specs.Prelude.{◌≡◌, ◌≢◌, ◌⊎◌, List, ℕ, IfOk, IfErr, IfSome, option_copied};
+ghost use Rattle.std.specs.Prelude.{◌≡◌, ◌≢◌, ◌⊎◌, IfOk, IfErr, IfSome, option_copied};
 ghost use Rattle.std.specs.Str.{is_utf8};
 ghost use Rattle.texts.specs.Reading.{Gives};
 ghost use Rattle.session.specs.Commands.{task_in};

@@ -1,4 +1,4 @@
-ghost use Rattle.std.specs.Prelude.{◌≡◌, ◌≢◌, ◌≤◌, ◌<◌, ◌∷◌, [], true, All, IfOk};
+ghost use Rattle.std.specs.Prelude.{◌≡◌, ◌≢◌, ◌≤◌, ◌<◌, ◌∷◌, true, All, IfOk};
 ghost use Rattle.std.specs.Prelude.{length, string_bytes};
 ghost use Rattle.wires.specs.Events.{events_of};
 ghost use Rattle.wires.specs.Runs.{most_samples};

@@ -1,9 +1,7 @@
-ghost use Rattle.std.specs.Prelude.{◌≡◌, ◌≢◌, ◌++◌, IfOk, codes, string_bytes};
-ghost use Rattle.std.specs.Fmt.{decimal};
+ghost use Rattle.std.specs.Prelude.{◌≡◌, ◌≢◌, IfOk};
 ghost use Rattle.session.specs.Replies.{reply_view};
 ghost use Rattle.session.specs.SearchReplies.{gave_up_text, GaveUp, IsFindReply, IsVerifyReply};
 ghost use Rattle.session.specs.SearchReplies.{IsVerified, MayBeFound, Prints};
-ghost use Rattle.fact_search.specs.Forward.{IsForward};
 ghost use Rattle.table_check.specs.Tables.{table_view};
 
 use crate::checking::verdict_reply;

@@ -1,4 +1,3 @@
-ghost use Rattle.std.specs.Prelude.{◌≡◌};
 ghost use Rattle.texts.specs.Reading.{Gives};
 ghost use Rattle.bundles.specs.Views.{section_view};
 ghost use Rattle.session.specs.Sequences.{sequence_in};
