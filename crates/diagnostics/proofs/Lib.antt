@@ -13,3 +13,5 @@ pub mod Stored
 pub mod Gained
 pub mod Judged
 pub mod CountedLines
+pub mod MessagesSent
+pub mod Circles

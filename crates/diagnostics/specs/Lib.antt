@@ -14,3 +14,5 @@ pub mod Breaches
 pub mod Telling
 pub mod Accepted
 pub mod Keeping
+pub mod Doubts
+pub mod Ready

@@ -1,5 +1,5 @@
--- What is warned of: the first instruction of a run that breaks a rule, and so never the run of a
--- program that is accepted.
+-- What is warned of: each doubt about a board, and the first instruction of a run that breaks a
+-- rule, so never the run of a program that is accepted.
 use Rattle.std.specs.Prelude.{◌≡◌, List, ℕ, Option, None, Ok, String, MatchOption, IsSomeAnd}
 use Rattle.std.specs.Prelude.{string_bytes}
 use Rattle.std.specs.Global.{Global}
@@ -7,9 +7,10 @@ use Rattle.board.specs.Boards.{Board}
 use Rattle.seq_program.specs.declared.instr.Instr.{Instr}
 use Rattle.table_check.specs.Obligations.{IsInductive}
 use Rattle.table_check.specs.Tables.{Table}
-use Rattle.session.specs.Commands.{Task, Run, Wave, task_in}
+use Rattle.session.specs.Commands.{Task, Frame, Run, Wave, Check, Find, Verify, task_in}
 use Rattle.session.specs.declared.scenario.Scenario.{Scenario}
 use Rattle.diagnostics.specs.Breaches.{IsFirstBreach}
+use Rattle.diagnostics.specs.Doubts.{AreDoubts}
 use Rattle.diagnostics.specs.declared.breach.Breach.{Breach}
 use Rattle.diagnostics.specs.ProgramPlaces.{IsWarningAt}
 
@@ -40,3 +41,15 @@ WarnsOfTask text _ note = note ≡ None
 abbrev pub WarnsOfRuns : List ℕ → Option (String Global) → Type 0
 WarnsOfRuns text note =
     (task : Task) → task_in text ≡ Ok task → WarnsOfTask text task note
+
+-- each doubt about the board of what a bundle asks for has a warning
+abbrev pub WarnsOfBoard : Task → ℕ → Type 0
+WarnsOfBoard (Frame exchange) count = count ≡ 0
+WarnsOfBoard (Run s) count = AreDoubts s.board s.program count
+WarnsOfBoard (Wave s) count = AreDoubts s.board s.program count
+WarnsOfBoard (Check trial) count = AreDoubts trial.board trial.program count
+WarnsOfBoard (Find sequence) count = AreDoubts sequence.board sequence.program count
+WarnsOfBoard (Verify sequence) count = AreDoubts sequence.board sequence.program count
+
+abbrev pub WarnsOfBoards : List ℕ → ℕ → Type 0
+WarnsOfBoards text count = (task : Task) → task_in text ≡ Ok task → WarnsOfBoard task count

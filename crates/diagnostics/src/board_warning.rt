@@ -1,7 +1,10 @@
 //! Warnings of boards.
 
-ghost use Rattle.std.specs.Prelude.{◌≡◌, All, IfOk, string_bytes};
+ghost use Rattle.std.specs.Prelude.{◌≡◌, All, IfOk, length, string_bytes};
 ghost use Rattle.diagnostics.specs.Boards.{board_lines, board_text, IsBoardWarning};
+ghost use Rattle.diagnostics.specs.Doubts.{AreDoubts};
+ghost use Rattle.diagnostics.specs.Warnings.{WarnsOfBoard};
+ghost use Rattle.session.specs.Commands.{task_view};
 ghost use Rattle.texts.specs.Words.{lines_by_feed};
 
 use crate::boards::{Doubt, doubts_on, lines_of, number_of, number_within};
@@ -14,7 +17,9 @@ use std::alloc::{AllocError, Global};
 
 /// The warnings of doubts about a board file, each on a line of it.
 fn notes_of(alloc: Global, text: &str, doubts: &[Doubt]) -> Result<Vec<String>, AllocError>
-    ensures { IfOk result (λ notes. All (IsBoardWarning (lines_by_feed text.now)) notes.items) }
+    ensures lines { IfOk result
+        (λ notes. All (IsBoardWarning (lines_by_feed text.now)) notes.items) }
+    ensures each { IfOk result (λ notes. length notes.items ≡ length doubts.now) }
 {
     let lines = lines_of(alloc, text)?;
     let mut notes = Vec::new(alloc);
@@ -43,7 +48,10 @@ fn warnings_of(
     board: &Board,
     program: &Program,
 ) -> Result<Vec<String>, AllocError>
-    ensures { IfOk result (λ notes. All (IsBoardWarning (board_lines text.now)) notes.items) }
+    ensures lines { IfOk result
+        (λ notes. All (IsBoardWarning (board_lines text.now)) notes.items) }
+    ensures doubts { IfOk result
+        (λ notes. AreDoubts board.now program.now (length notes.items)) }
 {
     let doubts = doubts_on(alloc, board, program)?;
     if doubts.is_empty() {
@@ -61,7 +69,10 @@ pub(crate) fn board_warnings(
     text: &str,
     task: &Task<'_>,
 ) -> Result<Vec<String>, AllocError>
-    ensures { IfOk result (λ notes. All (IsBoardWarning (board_lines text.now)) notes.items) }
+    ensures lines { IfOk result
+        (λ notes. All (IsBoardWarning (board_lines text.now)) notes.items) }
+    ensures doubts { IfOk result
+        (λ notes. WarnsOfBoard (task_view task.now) (length notes.items)) }
 {
     match task {
         Task::Frame(_) => Ok(Vec::new(alloc)),

@@ -18,6 +18,7 @@ mod kind;
 mod locate;
 mod loose;
 mod not_toml;
+mod ready;
 mod scan;
 mod search;
 mod twice;

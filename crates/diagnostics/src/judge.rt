@@ -1,7 +1,7 @@
 //! The judge of a run.
 
-ghost use Rattle.std.specs.Prelude.{◌≡◌, ◌↔◌, ◌∷◌, ◌<◌, ◌||◌, ◌&&◌, ◌==◌, [], ℕ, IsTrue, Some};
-ghost use Rattle.std.specs.Prelude.{length, option_map, slice_get};
+ghost use Rattle.std.specs.Prelude.{◌≡◌, ◌∷◌, ◌<◌, ◌||◌, ◌&&◌, ◌==◌, [], ℕ, IsTrue, Some};
+ghost use Rattle.std.specs.Prelude.{length, slice_get};
 ghost use Rattle.facts.specs.Sets.{rails_in};
 ghost use Rattle.diagnostics.specs.Telling.{TellsAfter};
 

@@ -1,11 +1,10 @@
 //! The row of a machine within a run.
 
-ghost use Rattle.std.specs.Prelude.{◌≡◌, map, All, IfOk, IsTrue, replicate};
+ghost use Rattle.std.specs.Prelude.{◌≡◌, map, All, IfOk, IsTrue};
 ghost use Rattle.facts.specs.Duties.{one};
 ghost use Rattle.facts.specs.Rows.{row_view};
 ghost use Rattle.facts.specs.Sets.{is_page, is_protect, only, pages_in, protects_in, rails_in};
 ghost use Rattle.targets.specs.States.{Belongs};
-ghost use Rattle.board.specs.Valid.{IsBoard};
 ghost use Rattle.diagnostics.specs.Known.{known_row};
 
 use board::{Board, board_is_valid};

@@ -1,15 +1,14 @@
 //! What a step tells of a rail: that it reported, or was turned off.
 
-ghost use Rattle.std.specs.Prelude.{◌≡◌, ◌≢◌, ◌↔◌, ◌<◌, ◌≤◌, ℕ, false, IsTrue, IfSome, IfNone};
+ghost use Rattle.std.specs.Prelude.{◌≡◌, ◌↔◌, ◌<◌, ◌≤◌, ℕ, false, IsTrue, IfSome, IfNone};
 ghost use Rattle.std.specs.Prelude.{Some};
-ghost use Rattle.std.specs.Prelude.{option_map, length, slice_index};
+ghost use Rattle.std.specs.Prelude.{length, slice_index};
 ghost use Rattle.bit_bus.specs.Levels.{first_cut};
 ghost use Rattle.smbus.specs.MessageFrame.{IsCutLate};
 ghost use Rattle.smbus.specs.Protocol.{marks_of, whole};
 ghost use Rattle.smbus.specs.Slots.{plan_of};
 ghost use Rattle.pmbus_table.specs.Codes.{operation_code, status_word_code};
 ghost use Rattle.targets.specs.Effects.{IsByteWrite};
-ghost use Rattle.targets.specs.States.{Belongs};
 ghost use Rattle.simulator.specs.Does.{Reported};
 ghost use Rattle.simulator.specs.Reports.{selects, IsRailAt};
 ghost use Rattle.board.specs.Boards.{Rail as BoardRail, Target as BoardTarget};

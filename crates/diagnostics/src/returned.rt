@@ -24,12 +24,6 @@ fn range_text(alloc: Global, form: Form, range: Range) -> Result<String, AllocEr
     format!(in alloc; "{low} to {high}")
 }
 
-/// The entry that allows a message, if one does.
-fn entry_for<'a>(board: &'a Board, message: &Message) -> Option<&'a Allow> {
-    let target = board.target(board.target_at(message.address)?)?;
-    target.entry(message.form, message.code)
-}
-
 /// The name of a message's target.
 fn target_name<'a>(board: &'a Board, message: &Message) -> &'a str {
     match board.target_at(message.address) {
@@ -95,7 +89,7 @@ fn stored_misfit(
 fn value_misfit(alloc: Global, step: &Step, message: &Message) -> Result<String, AllocError> {
     let (form, answer) = (message.form, step.answer);
     let value = digits_of(alloc, form, answer.value)?;
-    match entry_for(step.board, message) {
+    match step.board.entry_for(message) {
         Some(entry) => {
             let range = range_text(alloc, form, entry.values())?;
             let subject = subject_of(alloc, step.board, message)?;
@@ -163,7 +157,7 @@ fn block_misfit(alloc: Global, step: &Step, message: &Message) -> Result<String,
             "blocks of {written} and {count} bytes; both have at most 255 together"
         );
     }
-    match entry_for(step.board, message) {
+    match step.board.entry_for(message) {
         Some(entry) => bytes_misfit(alloc, step, message, entry),
         None => format!(in alloc; "a block of {count} bytes for {text}"),
     }

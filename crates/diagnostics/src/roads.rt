@@ -106,15 +106,6 @@ fn written_places(
     Ok(places)
 }
 
-/// What a rail needs.
-fn needs_of(alloc: Global, board: &Board, rail: usize) -> Result<Vec<usize>, AllocError> {
-    let mut needs = Vec::new(alloc);
-    if let Some(rail) = board.rail(rail) {
-        needs.extend_from_slice(rail.needs())?;
-    }
-    Ok(needs)
-}
-
 /// The roads that count.
 #[derive(Clone, Copy)]
 pub(crate) enum Roads<'a> {
@@ -122,8 +113,6 @@ pub(crate) enum Roads<'a> {
     Known(Judged<'a>),
     /// Those that a program has.
     Written(&'a Program),
-    /// From each rail of a board to those that it needs.
-    Needs(&'a Board),
 }
 
 impl Roads<'_> {
@@ -132,7 +121,6 @@ impl Roads<'_> {
         match self {
             Roads::Known(judged) => judged.program.places(),
             Roads::Written(program) => program.places(),
-            Roads::Needs(board) => board.rails().len(),
         }
     }
 
@@ -141,7 +129,6 @@ impl Roads<'_> {
         match self {
             Roads::Known(judged) => judged.next_places(alloc, place),
             Roads::Written(program) => written_places(alloc, program, place),
-            Roads::Needs(board) => needs_of(alloc, board, place),
         }
     }
 }

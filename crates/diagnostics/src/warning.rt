@@ -1,6 +1,6 @@
 //! Warnings of boards and of runs.
 
-ghost use Rattle.std.specs.Prelude.{◌≡◌, [], false, None, is_some, option_map, string_bytes};
+ghost use Rattle.std.specs.Prelude.{◌≡◌, [], false, None, is_some, length, option_map, string_bytes};
 ghost use Rattle.std.specs.Prelude.{All, Err, IfOk};
 ghost use Rattle.facts.specs.Requests.{sent_in};
 ghost use Rattle.table_check.specs.Obligations.{IsInductive};
@@ -14,6 +14,7 @@ ghost use Rattle.diagnostics.specs.ProgramPlaces.{IsWarningAt};
 ghost use Rattle.diagnostics.specs.Runs.{SendsNothing};
 ghost use Rattle.diagnostics.specs.Warnings.{SparesAccepted, WarnsOfRun};
 ghost use Rattle.diagnostics.specs.Warnings.{WarnsOfTask, WarnsOfRuns};
+ghost use Rattle.diagnostics.specs.Warnings.{WarnsOfBoard, WarnsOfBoards};
 
 use crate::board_warning::board_warnings;
 use crate::breach::{Breach, Reached, first_breach};
@@ -184,6 +185,8 @@ fn task_warnings(alloc: Global, text: &str, task: &Task<'_>) -> Result<Warnings,
     requires { IsReady (task_view task.now) }
     ensures lines { IfOk result
         (λ warnings. All (IsBoardWarning (board_lines text.now)) warnings.of_board.items) }
+    ensures doubts { IfOk result
+        (λ warnings. WarnsOfBoard (task_view task.now) (length warnings.of_board.items)) }
     ensures run { IfOk result
         (λ warnings. WarnsOfTask text.now (task_view task.now) warnings.of_run) }
 {
@@ -196,7 +199,7 @@ fn task_warnings(alloc: Global, text: &str, task: &Task<'_>) -> Result<Warnings,
 ///
 /// Of its board: needs that go round in a circle, a rail that no entry of its target can turn on, a
 /// limit that no voltage can break, and start values with which a target doesn't take what the
-/// program sends it. Each is on a line of the board.
+/// program sends it. Each of them has a warning, on a line of the board.
 ///
 /// Of a run: the first step that breaks what programs are checked by, a message that no entry
 /// allows, a write that is protected, a voltage over its limit, a rail that is turned on before its
@@ -205,6 +208,8 @@ fn task_warnings(alloc: Global, text: &str, task: &Task<'_>) -> Result<Warnings,
 pub fn warnings_on(alloc: Global, text: &str) -> Result<Warnings, AllocError>
     ensures lines { IfOk result
         (λ warnings. All (IsBoardWarning (board_lines text.now)) warnings.of_board.items) }
+    ensures doubts { IfOk result
+        (λ warnings. WarnsOfBoards text.now (length warnings.of_board.items)) }
     ensures run { IfOk result (λ warnings. WarnsOfRuns text.now warnings.of_run) }
     ensures faults { IfOk result (λ warnings. (fault : AnyFault) → task_in text.now ≡ Err fault
         → (warnings.of_board.items ≡ []) × (warnings.of_run ≡ None)) }

@@ -1,10 +1,13 @@
 //! What of a board without faults may be meant otherwise.
 
+ghost use Rattle.std.specs.Prelude.{IfOk, length};
+ghost use Rattle.diagnostics.specs.Doubts.{AreDoubts};
+
 use crate::boards::circle::push_circles;
 use crate::boards::draft::Site;
 use crate::boards::idle::push_idle_rails;
 use crate::boards::loose::push_loose_limits;
-use crate::boards::unready::push_unready_targets;
+use crate::boards::unready::{messages_of, push_unready_targets};
 use crate::remark::{Remark, help_of};
 use board::Board;
 use seq_program::Program;
@@ -42,9 +45,12 @@ pub(crate) fn doubts_on(
     alloc: Global,
     board: &Board,
     program: &Program,
-) -> Result<Vec<Doubt>, AllocError> {
+) -> Result<Vec<Doubt>, AllocError>
+    ensures { IfOk result (λ doubts. AreDoubts board.now program.now (length doubts.items)) }
+{
+    let messages = messages_of(alloc, board, program)?;
     let mut doubts = Vec::new(alloc);
-    push_unready_targets(alloc, &mut doubts, board, program)?;
+    push_unready_targets(alloc, &mut doubts, board, &messages)?;
     push_circles(alloc, &mut doubts, board)?;
     push_idle_rails(alloc, &mut doubts, board)?;
     push_loose_limits(alloc, &mut doubts, board)?;

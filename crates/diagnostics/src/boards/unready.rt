@@ -1,147 +1,242 @@
 //! Targets that may start so that they don't take what a program sends them.
 
+ghost use Rattle.std.specs.Prelude.{◌≡◌, ◌+◌, length, IfOk, OnOk};
+ghost use Rattle.std.specs.List.{list_any, sum_by};
+ghost use Rattle.diagnostics.specs.Doubts.{message_at, sent_by, is_write_of, is_forbidden};
+ghost use Rattle.diagnostics.specs.Doubts.{is_read_of_page, starts_at_all_pages, starts_protected};
+ghost use Rattle.diagnostics.specs.Doubts.{target_doubts};
+
 use crate::boards::doubt::Doubt;
 use crate::boards::draft::Site;
+use crate::boards::idle::{ALL_PAGES, is_among};
 use crate::quote::Quoted;
 use board::{Board, Target};
 use pmbus_table::code::{PAGE, WRITE_PROTECT};
-use pmbus_table::{Command, by_code, name_of, permits};
+use pmbus_table::{by_code, name_of, permits};
 use seq_program::{Program, message_of};
 use smbus::{Form, Message, carries_code};
 use std::alloc::{AllocError, Global};
-
-/// The value of PAGE that stands for all pages (PMBus 1.3 Part II, 11.10).
-const ALL_PAGES: u8 = 0xFF;
 
 const UNPROTECT: &str =
     "the program has to write WRITE_PROTECT before, or the target doesn't start so";
 
 const SELECT: &str = "the program has to write PAGE before, or the target doesn't start so";
 
-/// The messages of a program's places, with 0 in its registers.
-fn messages_of(
+/// The message of a program's place, with 0 in its registers.
+fn message_at(
     alloc: Global,
     board: &Board,
     program: &Program,
-) -> Result<Vec<Message>, AllocError> {
+    place: usize,
+) -> Result<Option<Message>, AllocError>
+    ensures { IfOk result (λ message. message ≡ message_at board.now program.now place) }
+{
+    match program.at(place) {
+        Some(instr) => message_of(alloc, board, instr, &[0; 8]),
+        None => Ok(None),
+    }
+}
+
+/// The messages of a program's places.
+pub(crate) fn messages_of(
+    alloc: Global,
+    board: &Board,
+    program: &Program,
+) -> Result<Vec<Message>, AllocError>
+    ensures { IfOk result (λ messages. messages.items ≡ sent_by board.now program.now) }
+{
     let mut messages = Vec::new(alloc);
     for place in 0..program.places() {
-        if let Some(instr) = program.at(place) {
-            if let Some(message) = message_of(alloc, board, instr, &[0; 8])? {
-                messages.push(message)?;
-            }
+        if let Some(message) = message_at(alloc, board, program, place)? {
+            messages.push(message)?;
         }
     }
     Ok(messages)
 }
 
-/// Whether a command is written by one of the messages to a target.
-fn writes(messages: &[Message], device: &Target, code: u8) -> bool {
-    messages.iter().any(|message| {
-        message.address == device.address()
-            && message.form == Form::WriteByte
-            && message.code == code
-    })
+fn is_write_of(device: &Target, code: u8, message: &Message) -> bool
+    ensures { result ≡ is_write_of device.now code message.now }
+{
+    message.address == device.address()
+        && matches!(message.form, Form::WriteByte)
+        && message.code == code
 }
 
-/// The command of a message to a target.
-fn command_to(message: &Message, device: &Target) -> Option<Command> {
-    if message.address == device.address() && carries_code(message.form) {
-        by_code(message.code)
-    } else {
-        None
+/// Whether a command of a target is written by one of the messages.
+fn is_written(messages: &[Message], device: &Target, code: u8) -> bool
+    ensures { result ≡ list_any (is_write_of device.now code) messages.now }
+{
+    messages
+        .iter()
+        .any(|message| is_write_of(device, code, message))
+}
+
+/// Whether a message to a target is a write that a protection forbids.
+fn is_forbidden(device: &Target, protect: u8, message: &Message) -> bool
+    ensures { result ≡ is_forbidden device.now protect message.now }
+{
+    if message.address != device.address() || !carries_code(message.form) {
+        return false;
     }
-}
-
-/// The first command that a message to a target writes, and that a protection forbids.
-fn forbidden(messages: &[Message], device: &Target, protect: u8) -> Option<Command> {
-    for message in messages {
-        match command_to(message, device) {
-            Some(command)
-                if command.counts_as_write(message.form)
-                    && permits(protect, command.code()) == Some(false) => return Some(command),
-            _ => {}
+    match by_code(message.code) {
+        Some(command) => {
+            command.counts_as_write(message.form) && permits(protect, message.code) == Some(false)
         }
+        None => false,
     }
-    None
 }
 
-/// The first paged command that a message to a target reads.
-fn read_of_page(messages: &[Message], device: &Target) -> Option<Command> {
-    for message in messages {
-        match command_to(message, device) {
-            Some(command) if command.paged() && command.form_read() == Some(message.form) => {
-                return Some(command);
-            }
-            _ => {}
-        }
+/// Whether a message to a target reads what one of its pages has.
+fn is_read_of_page(device: &Target, message: &Message) -> bool
+    ensures { result ≡ is_read_of_page device.now message.now }
+{
+    if message.address != device.address() || !carries_code(message.form) {
+        return false;
     }
-    None
+    match by_code(message.code) {
+        Some(command) => command.paged() && command.form_read() == Some(message.form),
+        None => false,
+    }
 }
 
-/// The first start value of WRITE_PROTECT that forbids what the program writes.
-fn protect_doubt(
-    alloc: Global,
-    name: &str,
-    index: usize,
-    device: &Target,
-    messages: &[Message],
-) -> Result<Option<Doubt>, AllocError> {
-    if writes(messages, device, WRITE_PROTECT) {
-        return Ok(None);
-    }
-    for protect in device.start_protects() {
-        if let Some(command) = forbidden(messages, device, *protect) {
-            let (name, command) = (Quoted(name), name_of(alloc, command)?);
-            let text = format!(in alloc;
-                "WRITE_PROTECT of {name} may be 0x{protect:02X} at the start, which forbids \
-                 {command}, and the program writes that"
-            )?;
-            let site = Site::Target(index);
-            return Ok(Some(Doubt::new(alloc, site, "start_protects", text, UNPROTECT)?));
-        }
-    }
-    Ok(None)
+fn is_page_read(messages: &[Message], device: &Target) -> bool
+    ensures { result ≡ list_any (is_read_of_page device.now) messages.now }
+{
+    messages
+        .iter()
+        .any(|message| is_read_of_page(device, message))
 }
 
-/// All pages as a start value, where the program reads a page.
+/// Whether a protection forbids one of the messages.
+fn forbids(messages: &[Message], device: &Target, protect: u8) -> bool
+    ensures { result ≡ list_any (is_forbidden device.now protect) messages.now }
+{
+    messages
+        .iter()
+        .any(|message| is_forbidden(device, protect, message))
+}
+
+fn may_forbid(messages: &[Message], device: &Target) -> bool
+    ensures { result ≡ list_any (λ protect. list_any (is_forbidden device.now protect)
+        messages.now) device.now.start_protects }
+{
+    device
+        .start_protects()
+        .iter()
+        .any(|protect| forbids(messages, device, *protect))
+}
+
+/// Whether all pages are a start value, and the program reads one.
+fn starts_at_all_pages(messages: &[Message], device: &Target) -> bool
+    ensures { result ≡ starts_at_all_pages messages.now device.now }
+{
+    !is_written(messages, device, PAGE)
+        && is_among(device.start_pages(), ALL_PAGES)
+        && is_page_read(messages, device)
+}
+
+/// Whether a start value of WRITE_PROTECT forbids what the program writes.
+fn starts_protected(messages: &[Message], device: &Target) -> bool
+    ensures { result ≡ starts_protected messages.now device.now }
+{
+    !is_written(messages, device, WRITE_PROTECT) && may_forbid(messages, device)
+}
+
+/// The name of the command that a message carries.
+fn command_name(alloc: Global, message: Option<&Message>) -> Result<String, AllocError> {
+    let code = match message {
+        Some(message) => message.code,
+        None => 0,
+    };
+    match by_code(code) {
+        Some(command) => name_of(alloc, command),
+        None => Ok(String::new(alloc)),
+    }
+}
+
 fn page_doubt(
     alloc: Global,
-    name: &str,
+    board: &Board,
     index: usize,
     device: &Target,
     messages: &[Message],
-) -> Result<Option<Doubt>, AllocError> {
-    if writes(messages, device, PAGE) || !device.start_pages().contains(&ALL_PAGES) {
-        return Ok(None);
-    }
-    let Some(command) = read_of_page(messages, device) else {
-        return Ok(None);
-    };
-    let (name, command) = (Quoted(name), name_of(alloc, command)?);
+) -> Result<Doubt, AllocError> {
+    let name = Quoted(board.target_name(index).unwrap_or(""));
+    let read = messages
+        .iter()
+        .find(|message| is_read_of_page(device, message));
+    let command = command_name(alloc, read)?;
     let text = format!(in alloc;
         "PAGE of {name} may be 255 at the start, all pages, and the program reads {command}, which \
          needs one"
     )?;
-    Ok(Some(Doubt::new(alloc, Site::Target(index), "start_pages", text, SELECT)?))
+    Doubt::new(alloc, Site::Target(index), "start_pages", text, SELECT)
 }
 
-/// Doubts about the start values of targets, of which a program needs others.
+fn protect_doubt(
+    alloc: Global,
+    board: &Board,
+    index: usize,
+    device: &Target,
+    messages: &[Message],
+) -> Result<Doubt, AllocError> {
+    let name = Quoted(board.target_name(index).unwrap_or(""));
+    let protect = device
+        .start_protects()
+        .iter()
+        .copied()
+        .find(|protect| forbids(messages, device, *protect))
+        .unwrap_or(0);
+    let written = messages
+        .iter()
+        .find(|message| is_forbidden(device, protect, message));
+    let command = command_name(alloc, written)?;
+    let text = format!(in alloc;
+        "WRITE_PROTECT of {name} may be 0x{protect:02X} at the start, which forbids {command}, and \
+         the program writes that"
+    )?;
+    Doubt::new(
+        alloc,
+        Site::Target(index),
+        "start_protects",
+        text,
+        UNPROTECT,
+    )
+}
+
+/// Doubts about the start values of a target.
+fn push_target_doubts(
+    alloc: Global,
+    doubts: &mut Vec<Doubt>,
+    board: &Board,
+    index: usize,
+    device: &Target,
+    messages: &[Message],
+) -> Result<(), AllocError>
+    ensures { OnOk result (length doubts.new.items
+        ≡ length doubts.old.items + target_doubts messages.now device.now) }
+{
+    if starts_at_all_pages(messages, device) {
+        doubts.push(page_doubt(alloc, board, index, device, messages)?)?;
+    }
+    if starts_protected(messages, device) {
+        doubts.push(protect_doubt(alloc, board, index, device, messages)?)?;
+    }
+    Ok(())
+}
+
+/// Doubts about the start values of targets, of which these messages need others.
 pub(crate) fn push_unready_targets(
     alloc: Global,
     doubts: &mut Vec<Doubt>,
     board: &Board,
-    program: &Program,
-) -> Result<(), AllocError> {
-    let messages = messages_of(alloc, board, program)?;
+    messages: &[Message],
+) -> Result<(), AllocError>
+    ensures { OnOk result (length doubts.new.items
+        ≡ length doubts.old.items + sum_by (target_doubts messages.now) board.now.targets) }
+{
     for (index, device) in board.targets().iter().enumerate() {
-        let name = board.target_name(index).unwrap_or("");
-        if let Some(doubt) = page_doubt(alloc, name, index, device, &messages)? {
-            doubts.push(doubt)?;
-        }
-        if let Some(doubt) = protect_doubt(alloc, name, index, device, &messages)? {
-            doubts.push(doubt)?;
-        }
+        push_target_doubts(alloc, doubts, board, index, device, messages)?;
     }
     Ok(())
 }

@@ -1,4 +1,5 @@
-use Rattle.std.proofs.Common.{All, subst, sym}
+use Rattle.std.proofs.Common.{All, length, subst, sym, ap, ◌∙◌, ◌+◌}
+use Rattle.std.proofs.lemmas.List.{length_push}
 use Rattle.std.proofs.lemmas.List.Elements.{All-push}
 use Rattle.texts.specs.Words.{lines_by_feed}
 use Rattle.diagnostics.specs.Boards.{IsBoardWarning}
@@ -7,7 +8,17 @@ use Rattle.diagnostics.proofs.board_warning.notes_of.Goals as goal
 pub loop-doubt-preserved : goal.loop-doubt-preserved
 loop-doubt-preserved c =
     let lines = lines_by_feed c.args.text.now in
-    subst (All (IsBoardWarning lines)) (sym c.in_ok-push.ensures.items)
-    (All-push (IsBoardWarning lines) c.loop-doubt.notes.items c.in_ok-warning_of.field-0
-    c.loop-doubt.invariant
-    (c.number_within-number.result, (c.number_within-number.ensures, c.in_ok-warning_of.ensures)))
+    record {
+      lines = subst (All (IsBoardWarning lines)) (sym c.in_ok-push.ensures.items)
+          (All-push (IsBoardWarning lines) c.loop-doubt.notes.items c.in_ok-warning_of.field-0
+          c.loop-doubt.invariant.lines (
+            c.number_within-number.result,
+            (
+              c.number_within-number.ensures,
+              c.in_ok-warning_of.ensures,
+            ),
+          ));
+      each = ap (λ notes. length notes) c.in_ok-push.ensures.items
+          ∙ length_push c.loop-doubt.notes.items c.in_ok-warning_of.field-0
+          ∙ ap (λ n. n + 1) c.loop-doubt.invariant.each;
+    }
