@@ -64,15 +64,29 @@ fn has_entry(board: &Board, index: usize, form: Form, code: u8) -> Option<bool> 
     Some(board.target(index)?.entry(form, code).is_some())
 }
 
-/// The values that a word has which is read at an address.
-fn values_at(alloc: Global, board: &Board, address: u8) -> Option<Range> {
-    let message = Message {
-        address,
+/// The values of what a message reads, if its target takes it.
+fn values_of(board: &Board, message: &Message) -> Option<Range> {
+    Some(board.entry_for(message)?.values())
+}
+
+/// A read of STATUS_WORD at the address of the first target.
+fn status_read(alloc: Global) -> Message {
+    Message {
+        address: 0x40,
         form: Form::ReadWord,
         code: 0x79,
         out: Vec::new(alloc),
-    };
-    Some(board.entry_for(&message)?.values())
+    }
+}
+
+/// The same at an address that no target has.
+fn stray_read(alloc: Global) -> Message {
+    Message {
+        address: 0x42,
+        form: Form::ReadWord,
+        code: 0x79,
+        out: Vec::new(alloc),
+    }
 }
 
 fn compare_messages(rt: &impl Abort, alloc: Global, board: &Board) {
@@ -80,8 +94,8 @@ fn compare_messages(rt: &impl Abort, alloc: Global, board: &Board) {
         low: 0,
         high: 65535,
     };
-    same(rt, values_at(alloc, board, 0x40), Some(values));
-    same(rt, values_at(alloc, board, 0x42), None);
+    same(rt, values_of(board, &status_read(alloc)), Some(values));
+    same(rt, values_of(board, &stray_read(alloc)), None);
 }
 
 fn compare_entries(rt: &impl Abort, board: &Board) {
