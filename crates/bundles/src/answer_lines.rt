@@ -1,16 +1,15 @@
-ghost use Rattle.std.specs.Prelude.{◌≡◌, ◌≤◌, option_copied, codes, All, IfOk};
+ghost use Rattle.std.specs.Prelude.{◌≡◌, ◌≤◌, option_copied, All, IfOk};
 ghost use Rattle.texts.specs.Reading.{Gives};
 ghost use Rattle.bundles.specs.AnswerLines.{took_of, without_dash, silence, answer_in};
 ghost use Rattle.bundles.specs.AnswerLines.{answer_line_of};
-ghost use Rattle.bundles.specs.AnswerWords.{answer_of, past_bytes};
-ghost use Rattle.bundles.specs.Fields.{value_of, rest_of};
+ghost use Rattle.bundles.specs.AnswerWords.{answer_of};
 ghost use Rattle.bundles.specs.Texts.{texts_of};
 
 use crate::answer_words::answer_of;
 use crate::fault::BundleFault;
 use crate::field::{Fields, number_of};
 use smbus::Answer;
-use std::alloc::{AllocError, Global};
+use std::alloc::Global;
 use texts::{ReadError, words_of};
 
 /// Whether a write takes effect, where the target may leave that out.

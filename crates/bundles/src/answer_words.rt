@@ -1,13 +1,12 @@
-ghost use Rattle.std.specs.Prelude.{◌≡◌, ◌≤◌, option_copied, codes, All, IfOk, OnOk};
+ghost use Rattle.std.specs.Prelude.{◌≡◌, ◌≤◌, All, IfOk, OnOk};
 ghost use Rattle.texts.specs.Reading.{Gives};
 ghost use Rattle.bundles.specs.AnswerWords.{answer_of, past_bytes};
-ghost use Rattle.bundles.specs.Fields.{value_of, rest_of};
 ghost use Rattle.bundles.specs.Texts.{texts_of};
 
 use crate::fault::BundleFault;
 use crate::field::{Fields, bytes_of, holds_of, number_of, refuse_of};
 use smbus::Answer;
-use std::alloc::{AllocError, Global};
+use std::alloc::Global;
 use texts::ReadError;
 
 /// The answer of the words `holds= refuse= value= bytes=`, or the fault of their line.

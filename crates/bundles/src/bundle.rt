@@ -1,8 +1,8 @@
-ghost use Rattle.std.specs.Prelude.{◌≡◌, ◌≤◌, ◌<◌, ◌+◌, ◌^◌, ◌==◌, length, map, option_map, take};
+ghost use Rattle.std.specs.Prelude.{◌≡◌, ◌≤◌, ◌<◌, ◌+◌, ◌==◌, length, map, option_map, take};
 ghost use Rattle.std.specs.Prelude.{option_copied};
 ghost use Rattle.std.specs.Prelude.{slice_get, IfSome, ◌∷◌, vec_len, MatchResult};
 ghost use Rattle.std.specs.Prelude.{IfOk, IfErr, count_by, Some, None};
-ghost use Rattle.std.specs.List.{list_all, slice_split, position_from};
+ghost use Rattle.std.specs.List.{list_all, slice_split};
 ghost use Rattle.texts.specs.Reading.{Gives};
 ghost use Rattle.bundles.specs.Bundles.{is_blank, starts_section, is_header, belongs, parts_below};
 ghost use Rattle.bundles.specs.Bundles.{first_unexpected, sections_of, headers_of, bundle_below};

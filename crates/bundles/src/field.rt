@@ -1,4 +1,4 @@
-ghost use Rattle.std.specs.Prelude.{◌≡◌, ◌≤◌, ◌-◌, ◌++◌, ◌∷◌, [], ◌==◌, List, ℕ, length, map};
+ghost use Rattle.std.specs.Prelude.{◌≡◌, ◌≤◌, ◌-◌, ◌++◌, ◌∷◌, [], ◌==◌, ℕ};
 ghost use Rattle.std.specs.Prelude.{replicate, option_map, option_copied, vec_len, IfOk, OnOk};
 ghost use Rattle.std.specs.Prelude.{IfSome, All, Some, None, option_and_then, if◌then◌else◌};
 ghost use Rattle.std.specs.List.{slice_split};

@@ -1,10 +1,10 @@
-ghost use Rattle.std.specs.Prelude.{◌≡◌, option_copied, option_map, option_and_then, codes, IfOk};
-ghost use Rattle.std.specs.Prelude.{IfSome, OnOk, map, ◌≤◌, length, All, Some, None, if◌then◌else◌};
+ghost use Rattle.std.specs.Prelude.{◌≡◌, option_copied, option_and_then, codes, IfOk};
+ghost use Rattle.std.specs.Prelude.{IfSome, OnOk, ◌≤◌, All, Some, None, if◌then◌else◌};
 ghost use Rattle.smbus.specs.Asked.{IsAddressed};
 ghost use Rattle.texts.specs.Reading.{Gives};
 ghost use Rattle.bundles.specs.Messages.{code_of, form_of, address_for, address_of, asked_of};
 ghost use Rattle.bundles.specs.Messages.{exchange_of, past_asked, only_exchange, exchange_in};
-ghost use Rattle.bundles.specs.AnswerWords.{answer_of, past_bytes};
+ghost use Rattle.bundles.specs.AnswerWords.{answer_of};
 ghost use Rattle.bundles.specs.Texts.{texts_of};
 ghost use Rattle.bundles.specs.Views.{section_view};
 ghost use Rattle.bundles.specs.Fields.{value_of, rest_of, bytes_of};
@@ -15,7 +15,7 @@ use crate::fault::BundleFault;
 use crate::field::{Fields, bytes_of};
 use crate::section::Section;
 use smbus::{Answer, Form, Message, carries_code, form_named};
-use std::alloc::{AllocError, Global};
+use std::alloc::Global;
 use texts::{ReadError, pair_of, words_of};
 
 /// A message, and the answer that it gets.

@@ -1,6 +1,6 @@
 //! Whether a target allows what an instruction may send.
 
-ghost use Rattle.std.specs.Prelude.{◌≡◌, ◌≤◌, ◌+◌, ◌↔◌, length, IsTrue, IfSome, All};
+ghost use Rattle.std.specs.Prelude.{◌≡◌, ◌+◌, ◌↔◌, length, IsTrue, IfSome, All};
 ghost use Rattle.facts.specs.KnownBytes.{IsKnownByte};
 ghost use Rattle.simulator.specs.Allowed.{IsBlockIn};
 ghost use Rattle.targets.specs.Fitting.{IsIn};

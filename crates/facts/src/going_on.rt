@@ -1,12 +1,11 @@
 //! The ways of an instruction that sends nothing to a target.
 
 ghost use Rattle.std.specs.Prelude.{◌≡◌, ◌<◌, ◌≤◌, ◌+◌, ◌++◌, ◌==◌, ◌∷◌, [], nat_lt, nat_le};
-ghost use Rattle.std.specs.Prelude.{length};
 ghost use Rattle.std.specs.Prelude.{IfOk, slice_index};
-ghost use Rattle.facts.specs.Rows.{row_view, most_ticks, source_at, span_at};
+ghost use Rattle.facts.specs.Rows.{row_view, most_ticks, span_at};
 ghost use Rattle.facts.specs.declared.span.Span.{Span};
 ghost use Rattle.facts.specs.Edges.{edge, edge_if, above, up_to, reg_in, counter_in, taken_off};
-ghost use Rattle.facts.specs.Edges.{other_edges, with_reg, a_byte, plus, with_counter, one_off};
+ghost use Rattle.facts.specs.Edges.{other_edges, with_reg, a_byte, plus, with_counter};
 ghost use Rattle.facts.specs.Duties.{one};
 ghost use Rattle.facts.specs.Ways.{way_list, ways_list, IsFit};
 ghost use Rattle.facts.specs.declared.source.Source.TheVariants as source;

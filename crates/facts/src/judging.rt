@@ -1,6 +1,6 @@
 //! The duties of an instruction at a row.
 
-ghost use Rattle.std.specs.Prelude.{◌≡◌, ◌≤◌, ◌+◌, ◌↔◌, ℕ, true, false, length, slice_get, Some};
+ghost use Rattle.std.specs.Prelude.{◌≡◌, ◌↔◌, ℕ, true, false, Some};
 ghost use Rattle.std.specs.Prelude.{None, if◌then◌else◌, IsTrue, IfSome, All};
 ghost use Rattle.pmbus_table.specs.Commands.{form_read, is_paged, counts_as_write};
 ghost use Rattle.pmbus_table.specs.Protect.{permits};
@@ -10,7 +10,7 @@ ghost use Rattle.facts.specs.Duties.{CommandsWithinLimits, Meets, duties, IsFirs
 ghost use Rattle.facts.specs.Headings.{IsHeadingOf, IsTaken, ReadsOnePageAt, IsUnprotectedAt};
 ghost use Rattle.facts.specs.Headings.{AreNeedsGood};
 ghost use Rattle.facts.specs.Requests.{sent_in, Write};
-ghost use Rattle.facts.specs.Rows.{row_view, set_at};
+ghost use Rattle.facts.specs.Rows.{row_view};
 ghost use Rattle.facts.specs.declared.rule.Rule.TheVariants.{K1, K2, K3, K4, K5};
 ghost use Rattle.facts.specs.Touching.{touches_in, IsWithinLimit, HasGoodNeeds};
 ghost use Rattle.facts.specs.Permitting.{FourPermit};

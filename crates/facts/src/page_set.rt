@@ -1,4 +1,4 @@
-ghost use Rattle.std.specs.Prelude.{◌≡◌, ◌<◌, ◌≤◌, ◌&&◌, ◌↔◌, ℕ, IsTrue, IfOk, option_map};
+ghost use Rattle.std.specs.Prelude.{◌≡◌, ◌<◌, ◌&&◌, ◌↔◌, ℕ, IsTrue, IfOk, option_map};
 ghost use Rattle.board.specs.Valid.{is_page_value};
 ghost use Rattle.facts.specs.Sets.{is_page, page_bit, pages_in, set_of};
 

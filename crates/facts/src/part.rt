@@ -1,6 +1,6 @@
 //! What every part of a row can do.
 
-ghost use Rattle.std.specs.Prelude.{◌≡◌, ◌≤◌, ◌↔◌, ℕ, List, length, IsTrue, IfOk, OnOk};
+ghost use Rattle.std.specs.Prelude.{◌↔◌, ℕ, length, IsTrue, IfOk, OnOk};
 ghost use Rattle.facts.specs.Rows.{AllCover};
 ghost use Rattle.facts.specs.Joining.{AreJoined};
 

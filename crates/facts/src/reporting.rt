@@ -1,6 +1,6 @@
 //! Which rail a status word reports of.
 
-ghost use Rattle.std.specs.Prelude.{◌≡◌, ◌==◌, ◌&&◌, false, slice_get};
+ghost use Rattle.std.specs.Prelude.{◌≡◌, ◌==◌, ◌&&◌};
 ghost use Rattle.facts.specs.Rows.{row_view};
 ghost use Rattle.facts.specs.Edges.{rail_on, status_source};
 

@@ -1,4 +1,4 @@
-ghost use Rattle.std.specs.Prelude.{◌≡◌, ◌↔◌, IsTrue, IfOk, length};
+ghost use Rattle.std.specs.Prelude.{◌↔◌, IsTrue};
 ghost use Rattle.board.specs.Boards.{Board};
 ghost use Rattle.facts.specs.Covering.{CoversByPart, IsSized, IsAlike, AdmitsAt, Situation};
 ghost use Rattle.facts.specs.Rows.{row_view, RowCovers};

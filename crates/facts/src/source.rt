@@ -1,5 +1,3 @@
-ghost use Rattle.std.specs.Prelude.{◌≡◌};
-
 use crate::part::Part;
 use std::alloc::{AllocError, Global};
 

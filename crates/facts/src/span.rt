@@ -1,4 +1,4 @@
-ghost use Rattle.std.specs.Prelude.{◌≡◌, ◌≤◌, ℕ};
+ghost use Rattle.std.specs.Prelude.{ℕ};
 
 use crate::part::Part;
 use std::alloc::{AllocError, Global};

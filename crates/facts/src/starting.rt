@@ -1,6 +1,6 @@
 //! Whether a row holds every start.
 
-ghost use Rattle.std.specs.Prelude.{◌≡◌, ◌≤◌, ◌↔◌, ℕ, IsTrue, All, length, replicate};
+ghost use Rattle.std.specs.Prelude.{◌≡◌, ◌↔◌, ℕ, IsTrue, All, length, replicate};
 ghost use Rattle.facts.specs.Rows.{row_view, set_at, source_at, InSpans};
 ghost use Rattle.facts.specs.Shapes.{EachTarget};
 ghost use Rattle.facts.specs.Starts.{HoldsStarts, StartsAt, StartsByPart};

@@ -1,6 +1,6 @@
 //! How long an instruction takes at most.
 
-ghost use Rattle.std.specs.Prelude.{◌≡◌, ◌≤◌, ◌+◌, ◌*◌, ◌<◌, ℕ, option_map, unwrap_or};
+ghost use Rattle.std.specs.Prelude.{◌≡◌, ◌+◌, ◌*◌, ℕ, option_map, unwrap_or};
 ghost use Rattle.smbus.specs.SlotCounts.{most_slots};
 ghost use Rattle.board.specs.Boards.{largest_stretch};
 ghost use Rattle.facts.specs.Requests.{sent_in, block_count};

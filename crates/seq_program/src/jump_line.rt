@@ -1,6 +1,6 @@
 //! The lines that jump and send nothing: what stands between their first word and the label.
 
-ghost use Rattle.std.specs.Prelude.{◌≡◌, ◌≤◌, ℕ, map, IfOk};
+ghost use Rattle.std.specs.Prelude.{◌≤◌, ℕ, map, IfOk};
 ghost use Rattle.seq_program.specs.Reading.{Gives};
 ghost use Rattle.seq_program.specs.Valid.{IsInstrOn, JumpsTo};
 ghost use Rattle.seq_program.specs.JumpLines.{if_alert_of, bits_of, if_of, above_of};

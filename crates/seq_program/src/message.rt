@@ -1,10 +1,10 @@
 //! The message that an instruction sends.
 
-ghost use Rattle.std.specs.Prelude.{◌≡◌, ◌≢◌, ◌≤◌, [], IfOk, IfSome, option_map, slice_get};
+ghost use Rattle.std.specs.Prelude.{◌≡◌, ◌≢◌, ◌≤◌, IfOk, IfSome, option_map, slice_get};
 ghost use Rattle.smbus.specs.declared.message.Form.TheVariants.{Alert};
 ghost use Rattle.seq_program.specs.Valid.{read_form};
 ghost use Rattle.seq_program.specs.Messages.{low_byte_first, form_of, data_of, message_to};
-ghost use Rattle.seq_program.specs.Messages.{alert_message, message_of};
+ghost use Rattle.seq_program.specs.Messages.{message_of};
 
 use crate::instr::{Instr, Width, Written};
 use board::{Board, board_is_valid};

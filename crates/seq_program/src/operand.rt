@@ -1,6 +1,6 @@
 //! Words of a line as operands.
 
-ghost use Rattle.std.specs.Prelude.{◌≡◌, ◌<◌, ◌≤◌, length, option_map, option_copied, IfOk, IfSome};
+ghost use Rattle.std.specs.Prelude.{◌≡◌, ◌<◌, ◌≤◌, length, option_copied, IfOk, IfSome};
 ghost use Rattle.std.specs.List.{list_all, AllByRecursion};
 ghost use Rattle.seq_program.specs.Operands.{numbered, register_of, counter_of, label_of};
 ghost use Rattle.seq_program.specs.Operands.{direction_of, is_digit, hexadecimal_of, number_of};

@@ -1,6 +1,6 @@
 //! What the lines of a text say, one after another, where its labels are known.
 
-ghost use Rattle.std.specs.Prelude.{◌≡◌, length, map, OnOk};
+ghost use Rattle.std.specs.Prelude.{length, map, OnOk};
 ghost use Rattle.seq_program.specs.Reading.{Gives};
 ghost use Rattle.seq_program.specs.Passes.{after_instr, after_words, after_line};
 ghost use Rattle.seq_program.specs.PassViews.{labels_view, pass_view, AreInstrsSoFar};

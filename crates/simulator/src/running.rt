@@ -1,4 +1,4 @@
-ghost use Rattle.std.specs.Prelude.{◌≡◌, ◌≢◌, ◌≤◌, length, All, IfOk, IfErr};
+ghost use Rattle.std.specs.Prelude.{◌≢◌, length, All, IfOk, IfErr};
 ghost use Rattle.seq_program.specs.Valid.{IsOnBoard};
 ghost use Rattle.simulator.specs.Faults.{FailsAt};
 ghost use Rattle.simulator.specs.Machines.{IsMachine};

@@ -1,8 +1,6 @@
 //! The checker.
 
-ghost use Rattle.std.specs.Prelude.{◌≡◌, ℕ, IfOk, slice_get, Some, List};
-ghost use Rattle.board.specs.Valid.{IsBoard};
-ghost use Rattle.seq_program.specs.Valid.{IsProgram};
+ghost use Rattle.std.specs.Prelude.{◌≡◌, ℕ, IfOk, slice_get, Some};
 ghost use Rattle.facts.specs.Rows.{row_view, IsRow};
 ghost use Rattle.table_check.specs.Tables.{table_view};
 ghost use Rattle.table_check.specs.Looking.{HasRowsOf, at_place, rows_view};

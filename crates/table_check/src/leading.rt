@@ -1,9 +1,8 @@
 //! Whether the edges of a place keep the rules.
 
-ghost use Rattle.std.specs.Prelude.{◌≡◌, ◌≤◌, ◌∷◌, [], ℕ, List, IfOk, IfSome, map, slice_get, Some};
+ghost use Rattle.std.specs.Prelude.{◌≡◌, ◌≤◌, ◌∷◌, [], ℕ, List, IfOk, map, slice_get, Some};
 ghost use Rattle.std.specs.Prelude.{All};
 ghost use Rattle.board.specs.Boards.{Board};
-ghost use Rattle.board.specs.Valid.{IsBoard};
 ghost use Rattle.seq_program.specs.declared.instr.Instr.{Instr};
 ghost use Rattle.facts.specs.declared.rule.Rule.TheVariants.{K1};
 ghost use Rattle.facts.specs.Duties.{Meets};
@@ -13,7 +12,7 @@ ghost use Rattle.facts.specs.Rows.{row_view, IsRow};
 ghost use Rattle.facts.specs.Ticks.{worst_ticks};
 ghost use Rattle.facts.specs.Ways.{timed, timed_view};
 ghost use Rattle.table_check.specs.Tables.{Table};
-ghost use Rattle.table_check.specs.Looking.{AreShapedEdges, HasRowsOf, of_code, of_timed};
+ghost use Rattle.table_check.specs.Looking.{AreShapedEdges, HasRowsOf, of_code};
 ghost use Rattle.table_check.specs.Looking.{rows_view};
 ghost use Rattle.table_check.specs.Obligations.{FallsEnd, IsFirstFault, of_end};
 

@@ -1,6 +1,6 @@
 //! Rows that are being read.
 
-ghost use Rattle.std.specs.Prelude.{◌≡◌, ◌↔◌, ◌≤◌, map, length, option_map, IsTrue};
+ghost use Rattle.std.specs.Prelude.{◌≡◌, map, length, IsTrue};
 ghost use Rattle.texts.specs.Reading.{some_or};
 ghost use Rattle.facts.specs.Rows.{row_view};
 ghost use Rattle.table_check.specs.declared.fault.TableFault.TheVariants.{BadLine};

@@ -1,6 +1,6 @@
 //! Whether the ticks that are left pay for what follows.
 
-ghost use Rattle.std.specs.Prelude.{◌≡◌, ◌+◌, ◌≤◌, ◌↔◌, ℕ, List, IsTrue, All};
+ghost use Rattle.std.specs.Prelude.{◌+◌, ◌≤◌, ◌↔◌, ℕ, List, IsTrue, All};
 ghost use Rattle.facts.specs.Rows.{InSpans, weight, rank, row_view};
 ghost use Rattle.table_check.specs.Rules.{PaysEnd};
 

@@ -1,6 +1,6 @@
 //! Lines that hold a set.
 
-ghost use Rattle.std.specs.Prelude.{◌≡◌, [], map, option_map, codes, IfOk};
+ghost use Rattle.std.specs.Prelude.{◌≡◌, [], map, option_map, IfOk};
 ghost use Rattle.texts.specs.Hex.{pair_of};
 ghost use Rattle.facts.specs.Sets.{pages_in, protects_in, rails_in};
 ghost use Rattle.table_check.specs.Saying.{after_key, after_name, ascending, page_set, protect_set};

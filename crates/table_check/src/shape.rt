@@ -1,6 +1,6 @@
 //! Which tables can be written.
 
-ghost use Rattle.std.specs.Prelude.{◌≡◌, ◌≤◌, ◌↔◌, ◌||◌, IsTrue, All, length};
+ghost use Rattle.std.specs.Prelude.{◌≡◌, ◌↔◌, ◌||◌, IsTrue, All, length};
 ghost use Rattle.board.specs.Valid.{IsBoard};
 ghost use Rattle.facts.specs.Rows.{row_view, IsSource};
 ghost use Rattle.facts.specs.Sets.{pages_in, protects_in};

@@ -1,6 +1,6 @@
 //! Numbers are within their types.
 
-ghost use Rattle.std.specs.Prelude.{◌≡◌, ◌<◌, ◌^◌, All, IfSome, length, option_map};
+ghost use Rattle.std.specs.Prelude.{◌<◌, ◌^◌, All, IfSome, length, option_map};
 ghost use Rattle.facts.specs.Rows.{row_view};
 ghost use Rattle.table_check.specs.Tables.{rows_view, table_view};
 ghost use Rattle.table_check.specs.Writable.{IsTyped, IsTypedRow, IsWordSpan};

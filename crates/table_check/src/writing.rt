@@ -1,7 +1,7 @@
 //! Tables, as texts.
 
 ghost use Rattle.std.specs.Fmt.{decimal};
-ghost use Rattle.std.specs.Prelude.{◌≡◌, ◌<◌, ◌≤◌, ◌++◌, ◌∷◌, [], length, map, zip, IfOk, OnOk};
+ghost use Rattle.std.specs.Prelude.{◌≡◌, ◌<◌, ◌++◌, ◌∷◌, [], length, map, zip, IfOk, OnOk};
 ghost use Rattle.std.specs.Prelude.{string_bytes, option_map, Some};
 ghost use Rattle.facts.specs.Sets.{pages_in, protects_in, rails_in};
 ghost use Rattle.facts.specs.Rows.{row_view};

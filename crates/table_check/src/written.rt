@@ -1,6 +1,6 @@
 //! Words of lines that are written.
 
-ghost use Rattle.std.specs.Prelude.{◌≡◌, ◌<◌, ◌++◌, ◌∷◌, [], OnOk, string_bytes, codes};
+ghost use Rattle.std.specs.Prelude.{◌≡◌, ◌<◌, ◌++◌, OnOk, string_bytes};
 ghost use Rattle.texts.specs.Hex.{pair_text};
 ghost use Rattle.std.specs.Fmt.{decimal};
 ghost use Rattle.facts.specs.Sets.{pages_in, protects_in, rails_in};
