@@ -1,6 +1,6 @@
 -- A step from what was computed for it.
 use Rattle.std.proofs.Common.{◌≡◌, ℕ, Option, Some, None, List, length, option_map, IfSome, refl}
-use Rattle.std.proofs.Common.{sym, ap, subst, ◌∙◌}
+use Rattle.std.proofs.Common.{sym, ap, subst, ◌∙◌, slice_get}
 use Rattle.wires.specs.declared.lines.Sample.{Sample}
 use Rattle.bit_bus.specs.Word.{ReadsBack}
 use Rattle.smbus.specs.Asked.{Asked}
@@ -13,9 +13,11 @@ use Rattle.targets.specs.Fitting.{FitsStep}
 use Rattle.targets.specs.Effects.{IsAfter}
 use Rattle.targets.specs.States.{BusState}
 use Rattle.seq_program.specs.declared.instr.Instr.{Instr}
+use Rattle.seq_program.specs.Messages.{message_of}
+use Rattle.simulator.specs.declared.machine.Ending.TheVariants.{Running}
 use Rattle.simulator.specs.Machines.{Machine, Entry}
 use Rattle.simulator.specs.Moves.{moved}
-use Rattle.simulator.specs.Steps.{step_samples, sent_outcome, step_entry, IsStepOf}
+use Rattle.simulator.specs.Steps.{step_samples, sent_outcome, step_entry, IsStepOf, IsStep}
 use Rattle.simulator.specs.Traces.{HasItsFrame}
 use Rattle.simulator.proofs.Seen.{silent_seen, message_seen}
 
@@ -67,3 +69,15 @@ pub seen_entry : (i : Instr) (o : Option Asked) (a : Answered) (m : Machine) →
     → SlotsAreOneFrame → IfSome o (λ asked. CanBeSent asked a) → HasItsFrame (step_entry i o a m)
 seen_entry i None a m reads slots can = silent_seen i a m
 seen_entry i (Some asked) a m reads slots can = message_seen i asked a m reads slots can
+
+-- the step of the instruction at a running machine's place
+pub step_here : (b : Board) (p : List Instr) (i : Instr) (o : Option Asked) (m : Machine)
+    (a : Answered) (e : Entry) (next : Machine)
+    → m.ended ≡ Running → slice_get p m.place ≡ Some i → o ≡ message_of b i m.regs
+    → IsStepOf b i o m a e next → IsStep b p m a e next
+step_here b p i o m a e next running here asked step = record {
+  running = running;
+  instr = i;
+  here = here;
+  step = subst (λ (x : Option Asked). IsStepOf b i x m a e next) asked step;
+}

@@ -1,3 +1,4 @@
+pub mod AscendingWords
 pub mod Places
 pub mod Obligations
 pub mod Whole
