@@ -3,8 +3,6 @@
 ghost use Rattle.std.specs.Prelude.{◌≡◌, All, IfOk, length, string_bytes};
 ghost use Rattle.diagnostics.specs.Boards.{board_lines, board_text, IsBoardWarning};
 ghost use Rattle.diagnostics.specs.Doubts.{AreDoubts};
-ghost use Rattle.diagnostics.specs.Warnings.{WarnsOfBoard};
-ghost use Rattle.session.specs.Commands.{task_view};
 ghost use Rattle.texts.specs.Words.{lines_by_feed};
 
 use crate::boards::{Doubt, doubts_on, lines_of, number_of, number_within};
@@ -12,7 +10,6 @@ use crate::note::warning_of;
 use crate::part::section_of;
 use board::Board;
 use seq_program::Program;
-use session::Task;
 use std::alloc::{AllocError, Global};
 
 /// The warnings of doubts about a board file, each on a line of it.
@@ -40,9 +37,11 @@ fn board_text(alloc: Global, text: &str) -> Result<String, AllocError>
     }
 }
 
-/// The warnings of the board of a bundle, on which the program is one. The bundle is read again
-/// only where there are some.
-fn warnings_of(
+/// What of the board of a bundle may be meant otherwise, each with its line: needs that go round in
+/// a circle, a rail that no entry of its target can turn on, a limit that no voltage can break, and
+/// start values with which a target doesn't take what the program sends it. The bundle is read
+/// again only where there are some.
+pub(crate) fn board_warnings(
     alloc: Global,
     text: &str,
     board: &Board,
@@ -59,29 +58,4 @@ fn warnings_of(
     }
     let text = board_text(alloc, text)?;
     notes_of(alloc, &text, &doubts)
-}
-
-/// What of the board of what is asked for may be meant otherwise, each with its line: needs that go
-/// round in a circle, a rail that no entry of its target can turn on, a limit that no voltage can
-/// break, and start values with which a target doesn't take what the program sends it.
-pub(crate) fn board_warnings(
-    alloc: Global,
-    text: &str,
-    task: &Task<'_>,
-) -> Result<Vec<String>, AllocError>
-    ensures lines { IfOk result
-        (λ notes. All (IsBoardWarning (board_lines text.now)) notes.items) }
-    ensures doubts { IfOk result
-        (λ notes. WarnsOfBoard (task_view task.now) (length notes.items)) }
-{
-    match task {
-        Task::Frame(_) => Ok(Vec::new(alloc)),
-        Task::Run(scenario) | Task::Wave(scenario) => {
-            warnings_of(alloc, text, &scenario.board, &scenario.program)
-        }
-        Task::Check(trial) => warnings_of(alloc, text, &trial.board, &trial.program),
-        Task::Find(sequence) | Task::Verify(sequence) => {
-            warnings_of(alloc, text, &sequence.board, &sequence.program)
-        }
-    }
 }

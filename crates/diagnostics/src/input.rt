@@ -4,11 +4,13 @@ ghost use Rattle.std.specs.Prelude.{[], codes, string_bytes, IfOk};
 ghost use Rattle.seq_program.specs.Faults.{line_of};
 ghost use Rattle.diagnostics.specs.Notes.{IsNote};
 ghost use Rattle.session.specs.Commands.{task_view, IsReady};
+ghost use Rattle.session.specs.Scenarios.{IsOnItsBoard};
 ghost use Rattle.session.specs.Trials.{trial_view};
 ghost use Rattle.texts.specs.Words.{lines_by_feed};
 ghost use Rattle.diagnostics.specs.Inputs.{IsOnLine, NamesFault, NamesBundleFault, NamesTaskFault};
 ghost use Rattle.diagnostics.specs.Inputs.{NamesTaskFaults, IsOnRefusal, IsOnVerdict};
 ghost use Rattle.diagnostics.specs.Inputs.{NamesCheckFault, NamesVerifyFault, NamesFindFault};
+ghost use Rattle.diagnostics.specs.Inputs.{NamesRunFault};
 
 use crate::boards::board_note;
 use crate::bundle::bundle_note;
@@ -25,7 +27,7 @@ use board::{Board, BoardFault, read_board};
 use fact_search::{FindFault, find};
 use facts::Rule;
 use seq_program::{Program, ProgramFault};
-use session::{InputFault, Sequence, Task, Trial, read_task};
+use session::{InputFault, Scenario, Sequence, Task, Trial, read_task};
 use std::alloc::{AllocError, Global};
 use table_check::{TableFault, Verdict, check, read_table};
 use texts::ReadError;
@@ -54,6 +56,18 @@ fn bare_note(alloc: Global, number: usize, fault: ProgramFault) -> Result<String
     note_of(alloc, "%program", "", number, &remark)
 }
 
+/// The note on the fault of a program with this text for a board.
+fn of_program(
+    alloc: Global,
+    board: Board,
+    text: &str,
+    fault: ProgramFault,
+) -> Result<Option<String>, AllocError>
+    ensures { IfOk result (λ note. IsOnLine (line_of fault) note) }
+{
+    program_note(alloc, &board, text, fault)
+}
+
 /// The note on the fault of an input's program.
 fn program_fault_note(
     alloc: Global,
@@ -65,9 +79,12 @@ fn program_fault_note(
     let Some(number) = fault.line() else {
         return Ok(None);
     };
-    match (board_of(alloc, text)?, section_of(alloc, text, 1)?) {
-        (Some(board), Some(program)) => program_note(alloc, &board, &program, fault),
-        _ => Ok(Some(bare_note(alloc, number, fault)?)),
+    let Some(program) = section_of(alloc, text, 1)? else {
+        return Ok(Some(bare_note(alloc, number, fault)?));
+    };
+    match board_of(alloc, text)? {
+        Some(board) => of_program(alloc, board, &program, fault),
+        None => Ok(Some(bare_note(alloc, number, fault)?)),
     }
 }
 
@@ -200,17 +217,53 @@ fn check_note(alloc: Global, text: &str, trial: &Trial) -> Result<Option<String>
     }
 }
 
+// What is asked for is given up variant by variant, as for its reply.
+
+/// The note on a scenario.
+fn of_scenario(
+    alloc: Global,
+    text: &str,
+    scenario: Scenario<'_>,
+) -> Result<Option<String>, AllocError>
+    requires { IsOnItsBoard scenario }
+    ensures { IfOk result (λ note. NamesRunFault text.now scenario.entry note) }
+{
+    run_note(alloc, text, &scenario)
+}
+
+/// The note on a program with a table.
+fn of_trial(alloc: Global, text: &str, trial: Trial) -> Result<Option<String>, AllocError>
+    ensures { IfOk result (NamesCheckFault text.now (trial_view trial)) }
+{
+    check_note(alloc, text, &trial)
+}
+
+/// The note on a program whose facts are asked for.
+fn of_search(alloc: Global, text: &str, sequence: Sequence) -> Result<Option<String>, AllocError>
+    ensures { IfOk result (NamesFindFault text.now) }
+{
+    find_note(alloc, text, &sequence)
+}
+
+/// The note on a program that is to be verified.
+fn of_verdict(alloc: Global, text: &str, sequence: Sequence) -> Result<Option<String>, AllocError>
+    ensures { IfOk result (NamesVerifyFault text.now sequence) }
+{
+    verify_note(alloc, text, &sequence)
+}
+
 /// The note on what is asked for, if that is refused.
-fn task_note(alloc: Global, text: &str, task: &Task<'_>) -> Result<Option<String>, AllocError>
-    requires { IsReady (task_view task.now) }
-    ensures { IfOk result (λ note. NamesTaskFault text.now (task_view task.now) note) }
+fn task_note(alloc: Global, text: &str, task: Task<'_>) -> Result<Option<String>, AllocError>
+    requires { IsReady (task_view task) }
+    ensures { IfOk result (λ note. NamesTaskFault text.now (task_view task.entry) note) }
 {
     match task {
-        Task::Check(trial) => check_note(alloc, text, trial),
-        Task::Find(sequence) => find_note(alloc, text, sequence),
-        Task::Verify(sequence) => verify_note(alloc, text, sequence),
-        Task::Frame(exchange) => frame_note(alloc, text, exchange),
-        Task::Run(scenario) | Task::Wave(scenario) => run_note(alloc, text, scenario),
+        Task::Check(trial) => of_trial(alloc, text, trial),
+        Task::Find(sequence) => of_search(alloc, text, sequence),
+        Task::Verify(sequence) => of_verdict(alloc, text, sequence),
+        Task::Frame(exchange) => frame_note(alloc, text, &exchange),
+        Task::Run(scenario) => of_scenario(alloc, text, scenario),
+        Task::Wave(scenario) => of_scenario(alloc, text, scenario),
     }
 }
 
@@ -225,7 +278,7 @@ pub fn note_on(alloc: Global, text: &str) -> Result<Option<String>, AllocError>
     ensures task { IfOk result (λ note. NamesTaskFaults text.now note) }
 {
     let fault = match read_task(alloc, text) {
-        Ok(task) => return task_note(alloc, text, &task),
+        Ok(task) => return task_note(alloc, text, task),
         Err(ReadError::Memory) => return Err(AllocError),
         Err(ReadError::Fault(fault)) => fault,
     };

@@ -1,7 +1,7 @@
 //! Warnings of boards and of runs.
 
-ghost use Rattle.std.specs.Prelude.{◌≡◌, [], false, None, is_some, length, option_map, string_bytes};
-ghost use Rattle.std.specs.Prelude.{All, Err, IfOk};
+ghost use Rattle.std.specs.Prelude.{◌≡◌, [], false, None, is_some, length, option_map};
+ghost use Rattle.std.specs.Prelude.{string_bytes, All, Err, IfOk};
 ghost use Rattle.facts.specs.Requests.{sent_in};
 ghost use Rattle.table_check.specs.Obligations.{IsInductive};
 ghost use Rattle.table_check.specs.Tables.{Table};
@@ -12,7 +12,8 @@ ghost use Rattle.diagnostics.specs.Boards.{board_lines, IsBoardWarning};
 ghost use Rattle.diagnostics.specs.Breaches.{IsFirstBreach};
 ghost use Rattle.diagnostics.specs.ProgramPlaces.{IsWarningAt};
 ghost use Rattle.diagnostics.specs.Runs.{SendsNothing};
-ghost use Rattle.diagnostics.specs.Warnings.{SparesAccepted, WarnsOfRun};
+ghost use Rattle.diagnostics.specs.Doubts.{AreDoubts};
+ghost use Rattle.diagnostics.specs.Warnings.{SparesAccepted, WarnsOf, WarnsOfRun};
 ghost use Rattle.diagnostics.specs.Warnings.{WarnsOfTask, WarnsOfRuns};
 ghost use Rattle.diagnostics.specs.Warnings.{WarnsOfBoard, WarnsOfBoards};
 
@@ -28,7 +29,7 @@ use crate::remark::Remark;
 use board::Board;
 use facts::{Row, Rule};
 use seq_program::{Instr, Program};
-use session::{Scenario, Task, read_task};
+use session::{Scenario, Sequence, Task, Trial, read_task};
 use std::alloc::{AllocError, Global};
 use texts::ReadError;
 
@@ -160,17 +161,6 @@ fn run_warning(
     }
 }
 
-/// The warning of what is asked for.
-fn task_warning(alloc: Global, text: &str, task: &Task<'_>) -> Result<Option<String>, AllocError>
-    requires { IsReady (task_view task.now) }
-    ensures { IfOk result (WarnsOfTask text.now (task_view task.now)) }
-{
-    match task {
-        Task::Run(scenario) | Task::Wave(scenario) => run_warning(alloc, text, scenario),
-        Task::Frame(_) | Task::Check(_) | Task::Find(_) | Task::Verify(_) => Ok(None),
-    }
-}
-
 /// What is warned of.
 #[derive(Debug, Drop)]
 pub struct Warnings {
@@ -180,19 +170,109 @@ pub struct Warnings {
     pub of_run: Option<String>,
 }
 
-/// The warnings of what is asked for.
-fn task_warnings(alloc: Global, text: &str, task: &Task<'_>) -> Result<Warnings, AllocError>
-    requires { IsReady (task_view task.now) }
+/// The warnings of a board and a program.
+fn warnings_of_board(
+    alloc: Global,
+    text: &str,
+    board: &Board,
+    program: &Program,
+) -> Result<Warnings, AllocError>
     ensures lines { IfOk result
         (λ warnings. All (IsBoardWarning (board_lines text.now)) warnings.of_board.items) }
     ensures doubts { IfOk result
-        (λ warnings. WarnsOfBoard (task_view task.now) (length warnings.of_board.items)) }
-    ensures run { IfOk result
-        (λ warnings. WarnsOfTask text.now (task_view task.now) warnings.of_run) }
+        (λ warnings. AreDoubts board.now program.now (length warnings.of_board.items)) }
+    ensures run { IfOk result (λ warnings. warnings.of_run ≡ None) }
 {
-    let of_board = board_warnings(alloc, text, task)?;
-    let of_run = task_warning(alloc, text, task)?;
+    let of_board = board_warnings(alloc, text, board, program)?;
+    Ok(Warnings {
+        of_board,
+        of_run: None,
+    })
+}
+
+/// The warnings of a scenario.
+fn warnings_of_run(
+    alloc: Global,
+    text: &str,
+    scenario: &Scenario<'_>,
+) -> Result<Warnings, AllocError>
+    requires { IsOnItsBoard scenario.now }
+    ensures lines { IfOk result
+        (λ warnings. All (IsBoardWarning (board_lines text.now)) warnings.of_board.items) }
+    ensures doubts { IfOk result (λ warnings.
+        AreDoubts scenario.now.board scenario.now.program (length warnings.of_board.items)) }
+    ensures run { IfOk result (λ warnings. WarnsOf text.now scenario.now warnings.of_run) }
+{
+    let of_board = board_warnings(alloc, text, &scenario.board, &scenario.program)?;
+    let of_run = run_warning(alloc, text, scenario)?;
     Ok(Warnings { of_board, of_run })
+}
+
+// What is asked for is given up variant by variant, as for its reply.
+
+/// The warnings of a scenario.
+fn of_scenario(alloc: Global, text: &str, scenario: Scenario<'_>) -> Result<Warnings, AllocError>
+    requires { IsOnItsBoard scenario }
+    ensures lines { IfOk result
+        (λ warnings. All (IsBoardWarning (board_lines text.now)) warnings.of_board.items) }
+    ensures doubts { IfOk result (λ warnings.
+        AreDoubts scenario.entry.board scenario.entry.program (length warnings.of_board.items)) }
+    ensures run { IfOk result (λ warnings. WarnsOf text.now scenario.entry warnings.of_run) }
+{
+    warnings_of_run(alloc, text, &scenario)
+}
+
+/// The warnings of a program with a table.
+fn of_trial(alloc: Global, text: &str, trial: Trial) -> Result<Warnings, AllocError>
+    ensures lines { IfOk result
+        (λ warnings. All (IsBoardWarning (board_lines text.now)) warnings.of_board.items) }
+    ensures doubts { IfOk result
+        (λ warnings. AreDoubts trial.board trial.program (length warnings.of_board.items)) }
+    ensures run { IfOk result (λ warnings. warnings.of_run ≡ None) }
+{
+    warnings_of_board(alloc, text, &trial.board, &trial.program)
+}
+
+/// The warnings of a program.
+fn of_sequence(alloc: Global, text: &str, sequence: Sequence) -> Result<Warnings, AllocError>
+    ensures lines { IfOk result
+        (λ warnings. All (IsBoardWarning (board_lines text.now)) warnings.of_board.items) }
+    ensures doubts { IfOk result
+        (λ warnings. AreDoubts sequence.board sequence.program (length warnings.of_board.items)) }
+    ensures run { IfOk result (λ warnings. warnings.of_run ≡ None) }
+{
+    warnings_of_board(alloc, text, &sequence.board, &sequence.program)
+}
+
+/// Nothing is warned of.
+fn none(alloc: Global) -> Warnings
+    ensures board { result.of_board.items ≡ [] }
+    ensures run { result.of_run ≡ None }
+{
+    Warnings {
+        of_board: Vec::new(alloc),
+        of_run: None,
+    }
+}
+
+/// The warnings of what is asked for.
+fn task_warnings(alloc: Global, text: &str, task: Task<'_>) -> Result<Warnings, AllocError>
+    requires { IsReady (task_view task) }
+    ensures lines { IfOk result
+        (λ warnings. All (IsBoardWarning (board_lines text.now)) warnings.of_board.items) }
+    ensures doubts { IfOk result
+        (λ warnings. WarnsOfBoard (task_view task.entry) (length warnings.of_board.items)) }
+    ensures run { IfOk result
+        (λ warnings. WarnsOfTask text.now (task_view task.entry) warnings.of_run) }
+{
+    match task {
+        Task::Frame(_) => Ok(none(alloc)),
+        Task::Run(scenario) => of_scenario(alloc, text, scenario),
+        Task::Wave(scenario) => of_scenario(alloc, text, scenario),
+        Task::Check(trial) => of_trial(alloc, text, trial),
+        Task::Find(sequence) => of_sequence(alloc, text, sequence),
+        Task::Verify(sequence) => of_sequence(alloc, text, sequence),
+    }
 }
 
 /// What is warned of an input, which has none where it has a fault.
@@ -215,11 +295,8 @@ pub fn warnings_on(alloc: Global, text: &str) -> Result<Warnings, AllocError>
         → (warnings.of_board.items ≡ []) × (warnings.of_run ≡ None)) }
 {
     match read_task(alloc, text) {
-        Ok(task) => task_warnings(alloc, text, &task),
+        Ok(task) => task_warnings(alloc, text, task),
         Err(ReadError::Memory) => Err(AllocError),
-        Err(ReadError::Fault(_)) => Ok(Warnings {
-            of_board: Vec::new(alloc),
-            of_run: None,
-        }),
+        Err(ReadError::Fault(_)) => Ok(none(alloc)),
     }
 }

@@ -80,7 +80,7 @@ fn reply_to(alloc: Global, text: &str) -> Result<Reply, AllocError>
         IsReplyAfter (task_in text.now) (reply_view reply)) }
 {
     match read_task(alloc, text) {
-        Ok(task) => reply_of(alloc, &task),
+        Ok(task) => reply_of(alloc, task),
         Err(ReadError::Memory) => Err(AllocError),
         Err(ReadError::Fault(fault)) => refused(alloc, fault),
     }

@@ -3,7 +3,12 @@ ghost use Rattle.texts.specs.Reading.{Gives};
 ghost use Rattle.bundles.specs.Bundles.{headers_of};
 ghost use Rattle.bundles.specs.Views.{bundle_view};
 ghost use Rattle.session.specs.Replies.{reply_view};
+ghost use Rattle.session.specs.CheckReplies.{IsCheckReply};
 ghost use Rattle.session.specs.Commands.{task_of, task_in, task_view, IsReady, IsReplyOf};
+ghost use Rattle.session.specs.RunReplies.{IsRunReply};
+ghost use Rattle.session.specs.Scenarios.{IsOnItsBoard};
+ghost use Rattle.session.specs.SearchReplies.{IsFindReply, IsVerifyReply};
+ghost use Rattle.session.specs.Trials.{trial_view};
 
 use crate::checking::check_reply;
 use crate::fault::{InputFault, of_bundle};
@@ -76,18 +81,55 @@ pub fn read_task<'a>(alloc: Global, text: &'a str) -> Result<Task<'a>, ReadError
     task_of(alloc, &bundle)
 }
 
-/// The reply to what was asked for.
-pub fn reply_of(alloc: Global, task: &Task<'_>) -> Result<Reply, AllocError>
-    requires { IsReady (task_view task.now) }
+// What was asked for is given up variant by variant: a function that gave up all of them would be
+// dear to prove, since its proof goes through the parts of each.
+
+/// The reply to a scenario.
+fn told(alloc: Global, scenario: Scenario<'_>, telling: Telling) -> Result<Reply, AllocError>
+    requires { IsOnItsBoard scenario }
     ensures whole { IfOk result (λ reply. reply.status ≢ Status.DeviceFault) }
-    ensures replies { IfOk result (λ reply. IsReplyOf (task_view task.now) (reply_view reply)) }
+    ensures replies { IfOk result
+        (λ reply. IsRunReply telling scenario.entry (reply_view reply)) }
+{
+    run_reply(alloc, &scenario, telling)
+}
+
+/// The reply to a program with a table.
+fn checked(alloc: Global, trial: Trial) -> Result<Reply, AllocError>
+    ensures whole { IfOk result (λ reply. reply.status ≢ Status.DeviceFault) }
+    ensures replies { IfOk result (λ reply. IsCheckReply (trial_view trial) (reply_view reply)) }
+{
+    check_reply(alloc, &trial)
+}
+
+/// The reply to a program whose facts are asked for.
+fn found(alloc: Global, sequence: Sequence) -> Result<Reply, AllocError>
+    ensures whole { IfOk result (λ reply. reply.status ≢ Status.DeviceFault) }
+    ensures replies { IfOk result (λ reply. IsFindReply sequence (reply_view reply)) }
+{
+    find_reply(alloc, &sequence)
+}
+
+/// The reply to a program that is to be verified.
+fn verified(alloc: Global, sequence: Sequence) -> Result<Reply, AllocError>
+    ensures whole { IfOk result (λ reply. reply.status ≢ Status.DeviceFault) }
+    ensures replies { IfOk result (λ reply. IsVerifyReply sequence (reply_view reply)) }
+{
+    verify_reply(alloc, &sequence)
+}
+
+/// The reply to what was asked for.
+pub fn reply_of(alloc: Global, task: Task<'_>) -> Result<Reply, AllocError>
+    requires { IsReady (task_view task) }
+    ensures whole { IfOk result (λ reply. reply.status ≢ Status.DeviceFault) }
+    ensures replies { IfOk result (λ reply. IsReplyOf (task_view task.entry) (reply_view reply)) }
 {
     match task {
         Task::Frame(exchange) => frame_reply(alloc, &exchange.message, &exchange.answer),
-        Task::Run(scenario) => run_reply(alloc, scenario, Telling::Lines),
-        Task::Wave(scenario) => run_reply(alloc, scenario, Telling::Levels),
-        Task::Check(trial) => check_reply(alloc, trial),
-        Task::Find(sequence) => find_reply(alloc, sequence),
-        Task::Verify(sequence) => verify_reply(alloc, sequence),
+        Task::Run(scenario) => told(alloc, scenario, Telling::Lines),
+        Task::Wave(scenario) => told(alloc, scenario, Telling::Levels),
+        Task::Check(trial) => checked(alloc, trial),
+        Task::Find(sequence) => found(alloc, sequence),
+        Task::Verify(sequence) => verified(alloc, sequence),
     }
 }

@@ -1,7 +1,7 @@
 use Rattle.std.proofs.Common.{All, IfOk, List, ℕ, subst}
 use Rattle.texts.specs.Words.{lines_by_feed}
 use Rattle.diagnostics.specs.Boards.{IsBoardWarning}
-use Rattle.diagnostics.proofs.board_warning.warnings_of.Goals as goal
+use Rattle.diagnostics.proofs.board_warning.board_warnings.Goals as goal
 
 pub returns-clause-lines : goal.returns-clause-lines
 returns-clause-lines c =
