@@ -1,5 +1,5 @@
 -- Rails that come good one after another.
-use Rattle.std.proofs.Common.{◌≡◌, ◌<◌, ◌+◌, ◌-◌, ◌++◌, ◌⊎◌, ℕ, List, [], ◌∷◌, false}
+use Rattle.std.proofs.Common.{◌≡◌, ◌<◌, ◌-◌, ◌++◌, ◌⊎◌, ℕ, List, [], ◌∷◌, false}
 use Rattle.std.proofs.Common.{length, nat_eq, slice_get, Some, All, refl, sym, ap, subst, arith}
 use Rattle.std.proofs.Common.{inl, inr}
 use Rattle.std.specs.Prelude.{IsTrue}
