@@ -3,15 +3,15 @@
 use crate::allowed_detail::allowed_detail;
 use crate::cause::Cause;
 use crate::edge_detail::edge_detail;
-use crate::facts_here::{facts_here, has_rail};
-use crate::quote::Quoted;
+use crate::facts_here::{facts_here, has_rail, rail_word, target_word};
 use crate::remark::bare;
 use crate::roads::Judged;
 use crate::sent::{greatest_sent, least_sent, number_of};
+use crate::sentence::{Sentence, Word, told};
 use crate::table_detail::{form_detail, start_detail};
 use board::{Board, Rail};
 use facts::{Row, Rule};
-use pmbus_table::{by_code, name_of, permits};
+use pmbus_table::{by_code, permits};
 use seq_program::Instr;
 use smbus::Message;
 use std::alloc::{AllocError, Global};
@@ -44,57 +44,37 @@ fn missing_need(row: &Row, rail: &Rail) -> Option<usize> {
 }
 
 /// K5: a rail that may be turned on, and what it needs.
-fn need_detail(
-    alloc: Global,
-    board: &Board,
-    row: &Row,
-    target: usize,
-) -> Result<Option<String>, AllocError> {
+fn need_detail<'a>(board: &'a Board, row: &Row, target: usize) -> Option<Sentence<'a>> {
     for (index, rail) in board.rails().iter().enumerate() {
         if may_touch(row, target, rail) {
             if let Some(need) = missing_need(row, rail) {
-                let rail = Quoted(board.rail_name(index).unwrap_or(""));
-                let need = Quoted(board.rail_name(need).unwrap_or(""));
-                return Ok(Some(format!(in alloc; "{rail} needs {need}")?));
+                let (rail, need) = (rail_word(board, index), rail_word(board, need));
+                return Some(Sentence::two("{} needs {}", rail, need));
             }
         }
     }
-    Ok(None)
+    None
 }
 
 /// K2: the command that is read at a page.
-fn page_detail(
-    alloc: Global,
-    board: &Board,
-    target: usize,
-    code: u8,
-) -> Result<Option<String>, AllocError> {
-    let Some(command) = by_code(code) else {
-        return Ok(None);
-    };
-    let command = name_of(alloc, command)?;
-    let target = Quoted(board.target_name(target).unwrap_or(""));
-    Ok(Some(format!(in alloc; "{target} has {command} for each page")?))
+fn page_detail(board: &Board, target: usize, code: u8) -> Option<Sentence<'_>> {
+    let command = Word::Command(by_code(code)?.code());
+    let target = target_word(board, target);
+    Some(Sentence::two("{} has {} for each page", target, command))
 }
 
 /// K3: the value that may be stored and forbids a command.
-fn protection_detail(
-    alloc: Global,
-    board: &Board,
+fn protection_detail<'a>(
+    board: &'a Board,
     row: &Row,
     target: usize,
     code: u8,
-) -> Result<Option<String>, AllocError> {
-    let Some(protects) = row.protects.get(target) else {
-        return Ok(None);
-    };
-    for value in PROTECTIONS {
-        if protects.contains(value) && permits(value, code) == Some(false) {
-            let target = Quoted(board.target_name(target).unwrap_or(""));
-            return Ok(Some(format!(in alloc; "{target} may store {value:02X}h here")?));
-        }
-    }
-    Ok(None)
+) -> Option<Sentence<'a>> {
+    let protects = row.protects.get(target)?;
+    let value = PROTECTIONS.iter().copied().find(|value| protects.contains(*value)
+        && permits(*value, code) == Some(false))?;
+    let target = target_word(board, target);
+    Some(Sentence::two("{} may store {}h here", target, Word::Byte(value)))
 }
 
 /// The greatest mantissa of a voltage that is at most a limit in microvolts.
@@ -104,13 +84,7 @@ fn greatest_within(exponent: i8, limit_uv: u32) -> Option<u64> {
 }
 
 /// K4: what may be written, and a limit that it is over.
-fn limit_detail(
-    alloc: Global,
-    board: &Board,
-    row: &Row,
-    target: usize,
-    most: u16,
-) -> Result<Option<String>, AllocError> {
+fn limit_detail<'a>(board: &'a Board, row: &Row, target: usize, most: u16) -> Option<Sentence<'a>> {
     let exponent = match board.target(target) {
         Some(target) => target.exponent(),
         None => 0,
@@ -119,15 +93,18 @@ fn limit_detail(
         let limit = rail.limit_uv();
         match greatest_within(exponent, limit) {
             Some(within) if within < u64::from(most) && may_touch(row, target, rail) => {
-                let name = Quoted(board.rail_name(index).unwrap_or(""));
-                return Ok(Some(format!(in alloc;
-                    "up to {most} may be written, and {name} takes up to {within}, {limit} uV"
-                )?));
+                return Some(Sentence::four(
+                    "up to {} may be written, and {} takes up to {}, {} uV",
+                    Word::Number(u64::from(most)),
+                    rail_word(board, index),
+                    Word::Number(within),
+                    Word::Number(u64::from(limit)),
+                ));
             }
             _ => {}
         }
     }
-    Ok(None)
+    None
 }
 
 /// What is to blame for a message to a target that breaks a rule, and what is known there.
@@ -144,10 +121,13 @@ fn message_cause(
     };
     let blame = match rule {
         Rule::K1 => allowed_detail(alloc, board, target, least, most)?,
-        Rule::K2 => bare(page_detail(alloc, board, target, most.code)?),
-        Rule::K3 => bare(protection_detail(alloc, board, row, target, most.code)?),
-        Rule::K4 => bare(limit_detail(alloc, board, row, target, number_of(&most.out))?),
-        Rule::K5 => bare(need_detail(alloc, board, row, target)?),
+        Rule::K2 => bare(told(alloc, page_detail(board, target, most.code))?),
+        Rule::K3 => bare(told(alloc, protection_detail(board, row, target, most.code))?),
+        Rule::K4 => bare(told(
+            alloc,
+            limit_detail(board, row, target, number_of(&most.out)),
+        )?),
+        Rule::K5 => bare(told(alloc, need_detail(board, row, target))?),
         _ => None,
     };
     let known = facts_here(alloc, board, row, target, rule)?;
@@ -194,7 +174,7 @@ pub(crate) fn detail_of(
 ) -> Result<Cause, AllocError> {
     let detail = match rule {
         Rule::K6 | Rule::K7 => edge_detail(alloc, judged, lines, place)?,
-        Rule::K8 => start_detail(alloc, judged)?,
+        Rule::K8 => told(alloc, start_detail(judged))?,
         Rule::K9 => form_detail(alloc, judged, place)?,
         Rule::K1 | Rule::K2 | Rule::K3 | Rule::K4 | Rule::K5 => {
             return place_cause(alloc, judged, place, rule);

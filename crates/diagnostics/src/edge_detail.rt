@@ -1,143 +1,119 @@
 //! K6 and K7: what isn't covered where a place leads, or why the ticks don't fall.
 
-use crate::facts_here::{has_rail, pages_text, protects_text, span_text};
-use crate::quote::Quoted;
+use crate::facts_here::{has_rail, rail_word, target_word};
 use crate::roads::{Edge, Judged};
+use crate::sentence::{Sentence, Word};
 use board::Board;
 use facts::{Part, Row, Source, Span};
 use seq_program::Instr;
 use std::alloc::{AllocError, Global};
 
 /// The first target whose pages aren't covered.
-fn pages_detail(
-    alloc: Global,
-    board: &Board,
-    known: &Row,
-    claimed: &Row,
-) -> Result<Option<String>, AllocError> {
+fn pages_detail<'a>(board: &'a Board, known: &'a Row, claimed: &'a Row) -> Option<Sentence<'a>> {
     for (target, (pages, more)) in claimed.pages.iter().zip(&known.pages).enumerate() {
         if !pages.covers(more) {
-            let name = Quoted(board.target_name(target).unwrap_or(""));
-            let (pages, more) = (pages_text(alloc, *pages)?, pages_text(alloc, *more)?);
-            return Ok(Some(format!(in alloc;
-                "PAGE of {name} may be {more}, and there the row has only {pages}"
-            )?));
+            return Some(Sentence::three(
+                "PAGE of {} may be {}, and there the row has only {}",
+                target_word(board, target),
+                Word::Pages(more),
+                Word::Pages(pages),
+            ));
         }
     }
-    Ok(None)
+    None
 }
 
 /// The first target whose protections aren't covered.
-fn protects_detail(
-    alloc: Global,
-    board: &Board,
-    known: &Row,
-    claimed: &Row,
-) -> Result<Option<String>, AllocError> {
+fn protects_detail<'a>(board: &'a Board, known: &'a Row, claimed: &'a Row) -> Option<Sentence<'a>> {
     for (target, (protects, more)) in claimed.protects.iter().zip(&known.protects).enumerate() {
         if !protects.covers(more) {
-            let name = Quoted(board.target_name(target).unwrap_or(""));
-            let (protects, more) = (
-                protects_text(alloc, *protects)?,
-                protects_text(alloc, *more)?,
-            );
-            return Ok(Some(format!(in alloc;
-                "WRITE_PROTECT of {name} may be {more}, and there the row has only {protects}"
-            )?));
+            return Some(Sentence::three(
+                "WRITE_PROTECT of {} may be {}, and there the row has only {}",
+                target_word(board, target),
+                Word::Protects(more),
+                Word::Protects(protects),
+            ));
         }
     }
-    Ok(None)
+    None
 }
 
 /// The first rail that a row has for good, and that isn't known to be.
-fn good_detail(
-    alloc: Global,
-    board: &Board,
-    known: &Row,
-    claimed: &Row,
-) -> Result<Option<String>, AllocError> {
-    for index in 0..board.rails().len() {
-        if has_rail(claimed.good, index) && !has_rail(known.good, index) {
-            let name = Quoted(board.rail_name(index).unwrap_or(""));
-            return Ok(Some(format!(in alloc;
-                "{name} isn't known to be good, and there the row has it for good"
-            )?));
-        }
-    }
-    Ok(None)
+fn good_detail<'a>(board: &'a Board, known: &Row, claimed: &Row) -> Option<Sentence<'a>> {
+    let index = (0..board.rails().len()).find(|index| {
+        has_rail(claimed.good, *index) && !has_rail(known.good, *index)
+    })?;
+    Some(Sentence::one(
+        "{} isn't known to be good, and there the row has it for good",
+        rail_word(board, index),
+    ))
 }
 
 /// The first register, or counter, whose numbers aren't covered.
-fn spans_detail(
-    alloc: Global,
-    letter: char,
-    known: &[Span],
-    claimed: &[Span],
-) -> Result<Option<String>, AllocError> {
+fn spans_detail(letter: char, known: &[Span], claimed: &[Span]) -> Option<Sentence<'static>> {
     for (index, (span, more)) in claimed.iter().zip(known).enumerate() {
         if !span.covers(more) {
-            let (span, more) = (span_text(alloc, *span)?, span_text(alloc, *more)?);
-            return Ok(Some(format!(in alloc;
-                "{letter}{index} may be {more}, and there the row has {span}"
-            )?));
+            return Some(Sentence::four(
+                "{}{} may be {}, and there the row has {}",
+                Word::Letter(letter),
+                Word::Count(index),
+                Word::Span(more.lo, more.hi),
+                Word::Span(span.lo, span.hi),
+            ));
         }
     }
-    Ok(None)
+    None
 }
 
-/// What a register was read from.
-fn source_text(alloc: Global, board: &Board, source: Source) -> Result<String, AllocError> {
+/// That it isn't known what a register was read from.
+fn source_detail(board: &Board, register: usize, source: Source) -> Sentence<'_> {
     let (command, name) = match source {
-        Source::None => return String::from_str(alloc, "nothing"),
-        Source::Status(rail) => ("STATUS_WORD", board.rail_name(rail)),
-        Source::Page(target) => ("PAGE", board.target_name(target)),
-        Source::Protect(target) => ("WRITE_PROTECT", board.target_name(target)),
+        Source::None => {
+            return Sentence::one(
+                "it isn't known that r{} was read from nothing, as there the row has it",
+                Word::Count(register),
+            );
+        }
+        Source::Status(rail) => ("STATUS_WORD", rail_word(board, rail)),
+        Source::Page(target) => ("PAGE", target_word(board, target)),
+        Source::Protect(target) => ("WRITE_PROTECT", target_word(board, target)),
     };
-    let name = Quoted(name.unwrap_or(""));
-    format!(in alloc; "{command} of {name}")
+    Sentence::three(
+        "it isn't known that r{} was read from {} of {}, as there the row has it",
+        Word::Count(register),
+        Word::Text(command),
+        name,
+    )
 }
 
 /// The first register whose source isn't known.
-fn sources_detail(
-    alloc: Global,
-    board: &Board,
+fn sources_detail<'a>(
+    board: &'a Board,
     known: &[Source; 8],
     claimed: &[Source; 8],
-) -> Result<Option<String>, AllocError> {
+) -> Option<Sentence<'a>> {
     for (index, (source, other)) in claimed.iter().zip(known).enumerate() {
         if !source.covers(other) {
-            let source = source_text(alloc, board, *source)?;
-            return Ok(Some(format!(in alloc;
-                "it isn't known that r{index} was read from {source}, as there the row has it"
-            )?));
+            return Some(source_detail(board, index, *source));
         }
     }
-    Ok(None)
+    None
 }
 
 /// What a row says that isn't known.
-fn uncovered(
-    alloc: Global,
-    board: &Board,
-    known: &Row,
-    claimed: &Row,
-) -> Result<Option<String>, AllocError> {
-    if let Some(detail) = pages_detail(alloc, board, known, claimed)? {
-        return Ok(Some(detail));
-    }
-    if let Some(detail) = protects_detail(alloc, board, known, claimed)? {
-        return Ok(Some(detail));
-    }
-    if let Some(detail) = good_detail(alloc, board, known, claimed)? {
-        return Ok(Some(detail));
-    }
-    if let Some(detail) = spans_detail(alloc, 'r', &known.regs, &claimed.regs)? {
-        return Ok(Some(detail));
-    }
-    if let Some(detail) = sources_detail(alloc, board, &known.sources, &claimed.sources)? {
-        return Ok(Some(detail));
-    }
-    spans_detail(alloc, 'c', &known.counters, &claimed.counters)
+fn uncovered<'a>(board: &'a Board, known: &'a Row, claimed: &'a Row) -> Option<Sentence<'a>> {
+    let pages = pages_detail(board, known, claimed);
+    let protects = protects_detail(board, known, claimed);
+    let good = good_detail(board, known, claimed);
+    let regs = spans_detail('r', &known.regs, &claimed.regs);
+    let sources = sources_detail(board, &known.sources, &claimed.sources);
+    let counters = spans_detail('c', &known.counters, &claimed.counters);
+    pages
+        .or(protects)
+        .or(good)
+        .or(regs)
+        .or(sources)
+        .or(counters)
 }
 
 /// What a row leaves at some counters.
@@ -214,8 +190,11 @@ fn broken_by(
     if next.covers(known) {
         ticks_detail(alloc, place, edge, next)
     } else {
-        match uncovered(alloc, judged.board, known, next)? {
-            Some(detail) => Ok(Some(format!(in alloc; "{detail} (row {to})")?)),
+        match uncovered(judged.board, known, next) {
+            Some(detail) => {
+                let detail = detail.told(alloc)?;
+                Ok(Some(format!(in alloc; "{detail} (row {to})")?))
+            }
             None => Ok(None),
         }
     }

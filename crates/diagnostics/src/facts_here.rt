@@ -1,49 +1,36 @@
 //! What is known at a place, in words.
 
 use crate::quote::Quoted;
+use crate::sentence::{Sentence, Word, told};
 use board::Board;
-use facts::{GoodSet, PageSet, ProtectSet, Row, Rule, Span};
+use facts::{GoodSet, PageSet, ProtectSet, Row, Rule};
 use std::alloc::{AllocError, Global};
 
 /// The values that WRITE_PROTECT may have (PMBus 1.3 Part II, 11.1).
 const PROTECTIONS: [u8; 4] = [0x00, 0x20, 0x40, 0x80];
 
-/// Adds a byte to a list of them.
-fn push_byte(text: &mut String, value: u8) -> Result<(), AllocError> {
-    let comma = if text.is_empty() { "" } else { ", " };
-    write!(text, "{comma}{value:02X}")
-}
-
-/// The values of PAGE in a set.
-pub(crate) fn pages_text(alloc: Global, pages: PageSet) -> Result<String, AllocError> {
-    let mut text = String::new(alloc);
-    for value in 0..=255 {
+/// Adds the values of PAGE in a set.
+pub(crate) fn push_pages(text: &mut String, pages: &PageSet) -> Result<(), AllocError> {
+    let mut comma = "";
+    for value in 0..=255u8 {
         if pages.contains(value) {
-            push_byte(&mut text, value)?;
+            write!(text, "{comma}{value:02X}")?;
+            comma = ", ";
         }
     }
-    Ok(text)
+    Ok(())
 }
 
-/// The values of WRITE_PROTECT in a set.
-pub(crate) fn protects_text(alloc: Global, protects: ProtectSet) -> Result<String, AllocError> {
-    let mut text = String::new(alloc);
+/// Adds the values of WRITE_PROTECT in a set.
+pub(crate) fn push_protects(text: &mut String, protects: &ProtectSet) -> Result<(), AllocError> {
+    let mut comma = "";
     for value in PROTECTIONS {
         if protects.contains(value) {
-            push_byte(&mut text, value)?;
+            write!(text, "{comma}{value:02X}")?;
+            comma = ", ";
         }
     }
-    Ok(text)
-}
-
-/// The numbers of a span.
-pub(crate) fn span_text(alloc: Global, span: Span) -> Result<String, AllocError> {
-    let Span { lo, hi } = span;
-    if lo == hi {
-        format!(in alloc; "{lo}")
-    } else {
-        format!(in alloc; "{lo} to {hi}")
-    }
+    Ok(())
 }
 
 /// Whether a rail is in a set.
@@ -67,34 +54,28 @@ fn rails_text(alloc: Global, board: &Board, good: GoodSet) -> Result<String, All
     Ok(text)
 }
 
+/// The name of a board's target in a sentence.
+pub(crate) fn target_word(board: &Board, target: usize) -> Word<'_> {
+    Word::Name(board.target_name(target).unwrap_or(""))
+}
+
+/// The name of a board's rail in a sentence.
+pub(crate) fn rail_word(board: &Board, rail: usize) -> Word<'_> {
+    Word::Name(board.rail_name(rail).unwrap_or(""))
+}
+
 /// What PAGE of a target may be.
-fn pages_known(
-    alloc: Global,
-    board: &Board,
-    row: &Row,
-    target: usize,
-) -> Result<Option<String>, AllocError> {
-    let Some(pages) = row.pages.get(target) else {
-        return Ok(None);
-    };
-    let name = Quoted(board.target_name(target).unwrap_or(""));
-    let pages = pages_text(alloc, *pages)?;
-    Ok(Some(format!(in alloc; "PAGE of {name} may be {pages} here")?))
+fn pages_known<'a>(board: &'a Board, row: &'a Row, target: usize) -> Option<Sentence<'a>> {
+    let pages = Word::Pages(row.pages.get(target)?);
+    let name = target_word(board, target);
+    Some(Sentence::two("PAGE of {} may be {} here", name, pages))
 }
 
 /// What WRITE_PROTECT of a target may be.
-fn protects_known(
-    alloc: Global,
-    board: &Board,
-    row: &Row,
-    target: usize,
-) -> Result<Option<String>, AllocError> {
-    let Some(protects) = row.protects.get(target) else {
-        return Ok(None);
-    };
-    let name = Quoted(board.target_name(target).unwrap_or(""));
-    let protects = protects_text(alloc, *protects)?;
-    Ok(Some(format!(in alloc; "WRITE_PROTECT of {name} may be {protects} here")?))
+fn protects_known<'a>(board: &'a Board, row: &'a Row, target: usize) -> Option<Sentence<'a>> {
+    let protects = Word::Protects(row.protects.get(target)?);
+    let name = target_word(board, target);
+    Some(Sentence::two("WRITE_PROTECT of {} may be {} here", name, protects))
 }
 
 /// What PAGE of a target may be, and which rails are good.
@@ -104,14 +85,27 @@ fn order_known(
     row: &Row,
     target: usize,
 ) -> Result<Option<String>, AllocError> {
-    let Some(pages) = pages_known(alloc, board, row, target)? else {
+    let Some(pages) = row.pages.get(target) else {
         return Ok(None);
     };
+    let (name, pages) = (target_word(board, target), Word::Pages(pages));
     let good = rails_text(alloc, board, row.good)?;
-    if good.is_empty() {
-        return Ok(Some(format!(in alloc; "{pages}, and no rail is known to be good")?));
-    }
-    Ok(Some(format!(in alloc; "{pages}, and known to be good: {good}")?))
+    let sentence = if good.is_empty() {
+        Sentence::two(
+            "PAGE of {} may be {} here, and no rail is known to be good",
+            name,
+            pages,
+        )
+    } else {
+        let good = Word::Text(&good);
+        Sentence::three(
+            "PAGE of {} may be {} here, and known to be good: {}",
+            name,
+            pages,
+            good,
+        )
+    };
+    told(alloc, Some(sentence))
 }
 
 /// The facts that matter for a rule on a message to a target.
@@ -123,8 +117,8 @@ pub(crate) fn facts_here(
     rule: Rule,
 ) -> Result<Option<String>, AllocError> {
     match rule {
-        Rule::K2 | Rule::K4 => pages_known(alloc, board, row, target),
-        Rule::K3 => protects_known(alloc, board, row, target),
+        Rule::K2 | Rule::K4 => told(alloc, pages_known(board, row, target)),
+        Rule::K3 => told(alloc, protects_known(board, row, target)),
         Rule::K5 => order_known(alloc, board, row, target),
         _ => Ok(None),
     }

@@ -50,6 +50,7 @@ mod roads;
 mod route;
 mod run;
 mod sent;
+mod sentence;
 mod spot;
 mod step;
 mod suggestion;

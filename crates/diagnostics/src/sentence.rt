@@ -1,0 +1,145 @@
+//! What is said, before it is written: a sentence with gaps, and the words that go into them.
+
+use crate::facts_here::{push_pages, push_protects};
+use crate::quote::Quoted;
+use facts::{PageSet, ProtectSet};
+use pmbus_table::{by_code, name_of};
+use std::alloc::{AllocError, Global};
+
+/// What goes into a gap.
+#[derive(Clone, Copy)]
+pub(crate) enum Word<'a> {
+    /// There is no such gap.
+    Nothing,
+    /// A text as it stands.
+    Text(&'a str),
+    /// A name in quotes.
+    Name(&'a str),
+    Letter(char),
+    Count(usize),
+    Number(u64),
+    Sum(u128),
+    /// Two hexadecimal digits.
+    Byte(u8),
+    /// Four of them.
+    Value(u16),
+    /// The values of PAGE in a set.
+    Pages(&'a PageSet),
+    /// The values of WRITE_PROTECT in a set.
+    Protects(&'a ProtectSet),
+    /// The numbers from the first to the second.
+    Span(u16, u16),
+    /// The name of the command with this code.
+    Command(u8),
+}
+
+/// Adds the name of a command.
+fn push_command(alloc: Global, text: &mut String, code: u8) -> Result<(), AllocError> {
+    match by_code(code) {
+        Some(command) => {
+            let name = name_of(alloc, command)?;
+            text.push_str(&name)
+        }
+        None => Ok(()),
+    }
+}
+
+/// Adds the numbers of a span.
+fn push_span(text: &mut String, low: u16, high: u16) -> Result<(), AllocError> {
+    if low == high {
+        write!(text, "{low}")
+    } else {
+        write!(text, "{low} to {high}")
+    }
+}
+
+/// Adds a word.
+fn push_word(alloc: Global, text: &mut String, word: Word) -> Result<(), AllocError> {
+    match word {
+        Word::Nothing => Ok(()),
+        Word::Text(word) => text.push_str(word),
+        Word::Name(name) => write!(text, "{}", Quoted(name)),
+        Word::Letter(letter) => write!(text, "{letter}"),
+        Word::Count(count) => write!(text, "{count}"),
+        Word::Number(number) => write!(text, "{number}"),
+        Word::Sum(sum) => write!(text, "{sum}"),
+        Word::Byte(byte) => write!(text, "{byte:02X}"),
+        Word::Value(value) => write!(text, "{value:04X}"),
+        Word::Pages(pages) => push_pages(text, pages),
+        Word::Protects(protects) => push_protects(text, protects),
+        Word::Span(low, high) => push_span(text, low, high),
+        Word::Command(code) => push_command(alloc, text, code),
+    }
+}
+
+/// A sentence with a gap, `{}`, for each of its words.
+#[derive(Clone, Copy)]
+pub(crate) struct Sentence<'a> {
+    template: &'static str,
+    words: [Word<'a>; 5],
+}
+
+impl<'a> Sentence<'a> {
+    /// A sentence without gaps.
+    pub(crate) fn plain(template: &'static str) -> Sentence<'a> {
+        Sentence {
+            template,
+            words: [Word::Nothing; 5],
+        }
+    }
+
+    /// A sentence with one gap.
+    pub(crate) fn one(template: &'static str, word: Word<'a>) -> Sentence<'a> {
+        Sentence::two(template, word, Word::Nothing)
+    }
+
+    /// A sentence with two gaps.
+    pub(crate) fn two(template: &'static str, one: Word<'a>, two: Word<'a>) -> Sentence<'a> {
+        Sentence::three(template, one, two, Word::Nothing)
+    }
+
+    /// A sentence with three gaps.
+    pub(crate) fn three(
+        template: &'static str,
+        one: Word<'a>,
+        two: Word<'a>,
+        three: Word<'a>,
+    ) -> Sentence<'a> {
+        Sentence::four(template, one, two, three, Word::Nothing)
+    }
+
+    /// A sentence with four gaps.
+    pub(crate) fn four(
+        template: &'static str,
+        one: Word<'a>,
+        two: Word<'a>,
+        three: Word<'a>,
+        four: Word<'a>,
+    ) -> Sentence<'a> {
+        Sentence {
+            template,
+            words: [one, two, three, four, Word::Nothing],
+        }
+    }
+
+    /// The sentence with its words in its gaps.
+    pub(crate) fn told(&self, alloc: Global) -> Result<String, AllocError> {
+        let mut text = String::new(alloc);
+        for (piece, word) in self.template.split("{}").zip(&self.words) {
+            text.push_str(piece)?;
+            push_word(alloc, &mut text, *word)?;
+        }
+        Ok(text)
+    }
+}
+
+/// A sentence with its words in its gaps, if there is one.
+pub(crate) fn told(
+    alloc: Global,
+    sentence: Option<Sentence>,
+) -> Result<Option<String>, AllocError> {
+    match sentence {
+        Some(sentence) => Ok(Some(sentence.told(alloc)?)),
+        None => Ok(None),
+    }
+}
