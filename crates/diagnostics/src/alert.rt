@@ -1,8 +1,9 @@
 //! Answers to alert responses.
 
+use crate::sentence::{Sentence, Word};
 use crate::step::Step;
 use smbus::Answer;
-use std::alloc::{AllocError, Global};
+use std::alloc::Global;
 
 /// The byte that an alert response returns, if a target alerts: of those that alert the one that
 /// fits.
@@ -25,14 +26,12 @@ fn alert_byte(alloc: Global, step: &Step) -> Option<u16> {
 }
 
 /// What is wrong with the answer to an alert response.
-pub(crate) fn alert_misfit(alloc: Global, step: &Step) -> Result<String, AllocError> {
+pub(crate) fn alert_misfit(alloc: Global, step: &Step) -> Sentence<'static> {
     match alert_byte(alloc, step) {
-        Some(byte) => format!(in alloc;
-            "the target that wins the alert response is told by \"value={byte:X}\" alone"
+        Some(byte) => Sentence::one(
+            "the target that wins the alert response is told by \"value={}\" alone",
+            Word::Digits(byte),
         ),
-        None => String::from_str(
-            alloc,
-            "nobody alerts here, and that is told by \"refuse=0\" alone",
-        ),
+        None => Sentence::plain("nobody alerts here, and that is told by \"refuse=0\" alone"),
     }
 }

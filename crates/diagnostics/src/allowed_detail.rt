@@ -1,14 +1,12 @@
 //! K1: why no entry permits what an instruction may send.
 
 use crate::form::form_word;
-use crate::quote::Quoted;
-use crate::remark::Remark;
 use crate::sent::number_of;
+use crate::sentence::{Advice, Sentence, Word};
 use board::{Allow, Board, Range, Target};
+use pmbus_table::by_code;
 use pmbus_table::code::{OPERATION, PAGE, WRITE_PROTECT};
-use pmbus_table::{by_code, name_of};
 use smbus::{Form, Message, carries_code};
-use std::alloc::{AllocError, Global};
 
 /// The greatest number of bytes of both blocks of a Block Process Call (SMBus 3.2, 6.5.8).
 const MOST_OF_BOTH: usize = 255;
@@ -29,54 +27,69 @@ const FEWER: &str =
 const ONE_OF_THESE: &str = "write one of these";
 
 /// What is to blame, and what may mend it.
-fn blamed(alloc: Global, message: String, help: &str) -> Result<Option<Remark>, AllocError> {
-    Ok(Some(Remark {
+fn blamed<'a>(message: Sentence<'a>, help: &'static str) -> Option<Advice<'a>> {
+    Some(Advice {
         message,
-        help: Some(String::from_str(alloc, help)?),
-    }))
-}
-
-/// The command of a message, as an entry has it.
-fn command_key(alloc: Global, message: &Message) -> Result<String, AllocError> {
-    match by_code(message.code) {
-        Some(command) if carries_code(message.form) => {
-            let name = name_of(alloc, command)?;
-            format!(in alloc; ", command = \"{name}\"")
-        }
-        _ => Ok(String::new(alloc)),
-    }
+        help: Some(Sentence::plain(help)),
+    })
 }
 
 /// No entry has the form and the command.
-fn no_entry(alloc: Global, name: &str, message: &Message) -> Result<Option<Remark>, AllocError> {
-    let (name, form) = (Quoted(name), form_word(message.form));
-    let key = command_key(alloc, message)?;
-    let entry = format!(in alloc; "{{form = \"{form}\"{key}}}")?;
-    Ok(Some(Remark {
-        message: format!(in alloc; "{name} has no entry {entry}")?,
-        help: Some(format!(in alloc; "if the data sheet allows it, add {entry} to its `allow`")?),
-    }))
+fn no_entry<'a>(name: &'a str, message: &Message) -> Advice<'a> {
+    let (name, form) = (Word::Name(name), Word::Text(form_word(message.form)));
+    if by_code(message.code).is_none() || !carries_code(message.form) {
+        return Advice {
+            message: Sentence::two("{} has no entry {form = \"{}\"}", name, form),
+            help: Some(Sentence::one(
+                "if the data sheet allows it, add {form = \"{}\"} to its `allow`",
+                form,
+            )),
+        };
+    }
+    let command = Word::Command(message.code);
+    Advice {
+        message: Sentence::three(
+            "{} has no entry {form = \"{}\", command = \"{}\"}",
+            name,
+            form,
+            command,
+        ),
+        help: Some(Sentence::two(
+            "if the data sheet allows it, add {form = \"{}\", command = \"{}\"} to its `allow`",
+            form,
+            command,
+        )),
+    }
+}
+
+fn number(number: u16) -> Word<'static> {
+    Word::Number(u64::from(number))
 }
 
 /// What may be written, where that isn't within a range.
-fn value_detail(
-    alloc: Global,
-    range: Range,
-    least: u16,
-    most: u16,
-) -> Result<Option<Remark>, AllocError> {
+fn value_detail(range: Range, least: u16, most: u16) -> Option<Advice<'static>> {
     let Range { low, high } = range;
     if low <= least && most <= high {
-        return Ok(None);
+        return None;
     }
+    let (low, high) = (number(low), number(high));
     if least == most {
-        let text = format!(in alloc; "{most} is written, and its entry takes {low} to {high}")?;
-        return blamed(alloc, text, NARROWER);
+        let message = Sentence::three(
+            "{} is written, and its entry takes {} to {}",
+            number(most),
+            low,
+            high,
+        );
+        return blamed(message, NARROWER);
     }
-    let text = format!(in alloc;
-        "{least} to {most} may be written, and its entry takes {low} to {high}"
-    )?;
-    blamed(alloc, text, BOUNDED)
+    let message = Sentence::four(
+        "{} to {} may be written, and its entry takes {} to {}",
+        number(least),
+        number(most),
+        low,
+        high,
+    );
+    blamed(message, BOUNDED)
 }
 
 fn is_in(range: Range, number: usize) -> bool {
@@ -84,109 +97,105 @@ fn is_in(range: Range, number: usize) -> bool {
 }
 
 /// What of a block that is written isn't within an entry's ranges.
-fn block_detail(alloc: Global, entry: &Allow, out: &[u8]) -> Result<Option<Remark>, AllocError> {
+fn block_detail(entry: &Allow, out: &[u8]) -> Option<Advice<'static>> {
     let count = out.len();
     let Range { low, high } = entry.length();
     if !is_in(entry.length(), count) {
-        let text = format!(in alloc;
-            "{count} bytes are written, and its entry takes {low} to {high}"
-        )?;
-        return blamed(alloc, text, OTHER_COUNT);
+        let message = Sentence::three(
+            "{} bytes are written, and its entry takes {} to {}",
+            Word::Count(count),
+            number(low),
+            number(high),
+        );
+        return blamed(message, OTHER_COUNT);
     }
     let values = entry.values();
-    let Some(byte) = out.iter().find(|byte| !is_in(values, usize::from(**byte))) else {
-        return Ok(None);
-    };
+    let byte = out
+        .iter()
+        .copied()
+        .find(|byte| !is_in(values, usize::from(*byte)))?;
     let Range { low, high } = values;
-    let text = format!(in alloc;
-        "the byte {byte:02X} is written, and its entry takes {low:02X} to {high:02X}"
-    )?;
-    blamed(alloc, text, NARROWER)
+    let message = Sentence::three(
+        "the byte {} is written, and its entry takes {} to {}",
+        Word::Byte(u16::from(byte)),
+        Word::Byte(low),
+        Word::Byte(high),
+    );
+    blamed(message, NARROWER)
 }
 
 /// Why both blocks of a call have too many bytes together.
-fn both_detail(alloc: Global, entry: &Allow, out: &[u8]) -> Result<Option<Remark>, AllocError> {
+fn both_detail(entry: &Allow, out: &[u8]) -> Option<Advice<'static>> {
     let (count, most) = (out.len(), entry.length().high);
     if count.saturating_add(usize::from(most)) <= MOST_OF_BOTH {
-        return Ok(None);
+        return None;
     }
-    let text = format!(in alloc;
-        "{count} bytes are written and up to {most} come back, over {MOST_OF_BOTH} together"
-    )?;
-    blamed(alloc, text, FEWER)
+    let message = Sentence::three(
+        "{} bytes are written and up to {} come back, over {} together",
+        Word::Count(count),
+        number(most),
+        Word::Count(MOST_OF_BOTH),
+    );
+    blamed(message, FEWER)
 }
 
 /// Which values PAGE takes.
-fn known_pages(alloc: Global, device: &Target) -> Result<Option<Remark>, AllocError> {
+fn known_pages(device: &Target) -> Option<Advice<'static>> {
     let last = device.pages().saturating_sub(1);
-    let text = if last == 0 {
-        String::from_str(alloc, "PAGE takes 0, its only page, and 255, all of them")?
+    let message = if last == 0 {
+        Sentence::plain("PAGE takes 0, its only page, and 255, all of them")
     } else {
-        format!(in alloc; "PAGE takes 0 to {last} and 255, all of them")?
+        let last = Word::Number(u64::from(last));
+        Sentence::one("PAGE takes 0 to {} and 255, all of them", last)
     };
     blamed(
-        alloc,
-        text,
+        message,
         "write one of these, or mend the target's `pages` on the board",
     )
 }
 
 /// Which values a command takes, of those that take few.
-fn known_values(
-    alloc: Global,
-    device: &Target,
-    message: &Message,
-) -> Result<Option<Remark>, AllocError> {
+fn known_values(device: &Target, message: &Message) -> Option<Advice<'static>> {
     let text = match message.code {
-        PAGE => return known_pages(alloc, device),
+        PAGE => return known_pages(device),
         WRITE_PROTECT => "WRITE_PROTECT takes 0, 0x20, 0x40 and 0x80",
         OPERATION => "OPERATION takes 0, 0x40 and 0x80 in a program",
-        _ => return Ok(None),
+        _ => return None,
     };
-    blamed(alloc, String::from_str(alloc, text)?, ONE_OF_THESE)
+    blamed(Sentence::plain(text), ONE_OF_THESE)
 }
 
 /// Why an entry doesn't permit what may be sent, from its least values to its greatest.
 fn entry_detail(
-    alloc: Global,
     device: &Target,
     entry: &Allow,
     least: &Message,
     most: &Message,
-) -> Result<Option<Remark>, AllocError> {
+) -> Option<Advice<'static>> {
     let detail = match most.form {
-        Form::WriteByte | Form::WriteWord => value_detail(
-            alloc,
-            entry.values(),
-            number_of(&least.out),
-            number_of(&most.out),
-        )?,
-        Form::BlockWrite => block_detail(alloc, entry, &most.out)?,
-        Form::BlockProcessCall => both_detail(alloc, entry, &most.out)?,
+        Form::WriteByte | Form::WriteWord => {
+            value_detail(entry.values(), number_of(&least.out), number_of(&most.out))
+        }
+        Form::BlockWrite => block_detail(entry, &most.out),
+        Form::BlockProcessCall => both_detail(entry, &most.out),
         _ => None,
     };
     match detail {
-        Some(detail) => Ok(Some(detail)),
-        None => known_values(alloc, device, most),
+        Some(detail) => Some(detail),
+        None => known_values(device, most),
     }
 }
 
 /// Why no entry permits what an instruction may send, from its least values to its greatest.
-pub(crate) fn allowed_detail(
-    alloc: Global,
-    board: &Board,
+pub(crate) fn allowed_detail<'a>(
+    board: &'a Board,
     target: usize,
     least: &Message,
     most: &Message,
-) -> Result<Option<Remark>, AllocError> {
-    let Some(device) = board.target(target) else {
-        return Ok(None);
-    };
+) -> Option<Advice<'a>> {
+    let device = board.target(target)?;
     match device.entry(most.form, most.code) {
-        Some(entry) => entry_detail(alloc, device, entry, least, most),
-        None => {
-            let name = board.target_name(target).unwrap_or("");
-            no_entry(alloc, name, most)
-        }
+        Some(entry) => entry_detail(device, entry, least, most),
+        None => Some(no_entry(board.target_name(target).unwrap_or(""), most)),
     }
 }

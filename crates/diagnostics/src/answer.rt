@@ -38,7 +38,8 @@ fn step_misfit(alloc: Global, scenario: &Scenario<'_>, stop: &Stop) -> Result<St
         return String::from_str(alloc, "no step is left");
     };
     let message = message_of(alloc, board, instr, &machine.regs)?;
-    misfit(alloc, board, &machine.bus, message.as_ref(), &stop.answer)
+    let misfit = misfit(alloc, board, &machine.bus, message.as_ref(), &stop.answer)?;
+    misfit.told(alloc)
 }
 
 /// Where the run stops, if it comes so far as to the answer of an index.

@@ -2,8 +2,8 @@
 
 use crate::habit::habit_in;
 use crate::operand::{Operand, operands_of};
-use crate::quote::Quoted;
-use crate::remark::{Remark, help_of};
+use crate::remark::Remark;
+use crate::sentence::{Advice, Sentence, Word};
 use seq_program::{Width, number_within, sized_in};
 use smbus::Form;
 use std::alloc::{AllocError, Global};
@@ -53,16 +53,12 @@ fn first_misplaced<'a>(operands: &[Operand], words: &[&'a str]) -> Option<Mispla
 }
 
 /// What may help where a number can't stand.
-fn number_help(
-    alloc: Global,
-    words: &[&str],
-    misplaced: Misplaced,
-) -> Result<Option<String>, AllocError> {
+fn number_help<'a>(words: &[&'a str], misplaced: Misplaced) -> Option<Sentence<'a>> {
     if let Some(habit) = habit_in(words) {
-        return help_of(alloc, Some(habit));
+        return Some(Sentence::plain(habit));
     }
     if number_within(0, u32::MAX, misplaced.word).is_none() {
-        return help_of(alloc, Some(FORM));
+        return Some(Sentence::plain(FORM));
     }
     match words {
         ["write", _, command, ..] => {
@@ -71,10 +67,10 @@ fn number_help(
             } else {
                 "word"
             };
-            let command = Quoted(command);
-            Ok(Some(format!(in alloc; "{command} is written as a {size}")?))
+            let command = Word::Name(command);
+            Some(Sentence::two("{} is written as a {}", command, Word::Text(size)))
         }
-        _ => Ok(None),
+        _ => None,
     }
 }
 
@@ -87,10 +83,14 @@ pub(crate) fn bad_number(alloc: Global, words: &[&str]) -> Result<Remark, AllocE
     let Some(misplaced) = first_misplaced(operands, operand_words) else {
         return Remark::plain(alloc, "a bad number");
     };
-    let (low, high) = (misplaced.low, misplaced.high);
-    let word = Quoted(misplaced.word);
-    Ok(Remark {
-        message: format!(in alloc; "expected a number from {low} to {high}, found {word}")?,
-        help: number_help(alloc, words, misplaced)?,
-    })
+    let advice = Advice {
+        message: Sentence::three(
+            "expected a number from {} to {}, found {}",
+            Word::Number(u64::from(misplaced.low)),
+            Word::Number(u64::from(misplaced.high)),
+            Word::Name(misplaced.word),
+        ),
+        help: number_help(words, misplaced),
+    };
+    advice.told(alloc)
 }

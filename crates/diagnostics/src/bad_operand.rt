@@ -2,8 +2,8 @@
 
 use crate::habit::habit_in;
 use crate::operand::{Operand, operands_of};
-use crate::quote::Quoted;
 use crate::remark::{Remark, help_of};
+use crate::sentence::{Sentence, Word};
 use seq_program::{block_of, counter_of, direction_of, register_of};
 use std::alloc::{AllocError, Global};
 use texts::is_name;
@@ -40,52 +40,56 @@ fn first_misfit<'a>(
     Ok(None)
 }
 
-/// What was expected in the place of an operand.
-fn expected(alloc: Global, operand: Operand) -> Result<String, AllocError> {
-    match operand {
-        Operand::Direction => String::from_str(alloc, "the direction, \"r\" or \"w\""),
-        Operand::Register => String::from_str(alloc, "a register, r0 to r7"),
-        Operand::Counter => String::from_str(alloc, "a counter, c0 to c3"),
-        Operand::Bytes(most) => format!(in alloc;
-            "1 to {most} bytes of two digits, 0 to 9 or A to F"
-        ),
-        Operand::Else => String::from_str(alloc, "\"else\""),
-        Operand::Label => String::from_str(alloc, "a label"),
-        other => String::from_str(alloc, other.name()),
-    }
+/// What was found in the place of an operand.
+fn misplaced<'a>(operand: Operand, found: &'a str) -> Sentence<'a> {
+    let found = Word::Name(found);
+    let expected = match operand {
+        Operand::Direction => "the direction, \"r\" or \"w\"",
+        Operand::Register => "a register, r0 to r7",
+        Operand::Counter => "a counter, c0 to c3",
+        Operand::Bytes(most) => {
+            return Sentence::two(
+                "expected 1 to {} bytes of two digits, 0 to 9 or A to F, found {}",
+                Word::Number(u64::from(most)),
+                found,
+            );
+        }
+        Operand::Else => "\"else\"",
+        Operand::Label => "a label",
+        other => other.name(),
+    };
+    Sentence::two("expected {}, found {}", Word::Text(expected), found)
 }
 
 /// What is said of operands of which none has a wrong shape by itself.
-fn whole_line(alloc: Global, word: &str, words: &[&str]) -> Result<String, AllocError> {
+fn whole_line<'a>(word: &'a str, words: &[&'a str]) -> Sentence<'a> {
     match words {
         [_, command, value, ..] if word == "write" && register_of(value).is_some() => {
-            let command = Quoted(command);
-            format!(in alloc; "a register is written to \"VOUT_COMMAND\" alone, not to {command}")
+            Sentence::one(
+                "a register is written to \"VOUT_COMMAND\" alone, not to {}",
+                Word::Name(command),
+            )
         }
-        _ => format!(in alloc; "these are no operands of \"{word}\""),
+        _ => Sentence::one("these are no operands of \"{}\"", Word::Text(word)),
     }
 }
 
 /// What is wrong with the operands of an instruction.
-fn operand_message(
+fn operand_message<'a>(
     alloc: Global,
-    word: &str,
+    word: &'a str,
     operands: &[Operand],
-    words: &[&str],
-) -> Result<String, AllocError> {
+    words: &[&'a str],
+) -> Result<Sentence<'a>, AllocError> {
     if words.len() < operands.len() {
-        return format!(in alloc; "too few words behind \"{word}\"");
+        return Ok(Sentence::one("too few words behind \"{}\"", Word::Text(word)));
     }
     if words.len() > operands.len() {
-        return format!(in alloc; "too many words behind \"{word}\"");
+        return Ok(Sentence::one("too many words behind \"{}\"", Word::Text(word)));
     }
     match first_misfit(alloc, operands, words)? {
-        Some((operand, misfit)) => {
-            let expected = expected(alloc, operand)?;
-            let misfit = Quoted(misfit);
-            format!(in alloc; "expected {expected}, found {misfit}")
-        }
-        None => whole_line(alloc, word, words),
+        Some((operand, misfit)) => Ok(misplaced(operand, misfit)),
+        None => Ok(whole_line(word, words)),
     }
 }
 
@@ -110,12 +114,10 @@ pub(crate) fn bad_operand(alloc: Global, words: &[&str]) -> Result<Remark, Alloc
     let Some(operands) = operands_of(word) else {
         return Remark::plain(alloc, "a bad operand");
     };
+    let message = operand_message(alloc, word, operands, words)?;
     let help = match habit_in(words) {
         Some(habit) => help_of(alloc, Some(habit))?,
         None => Some(description(alloc, word, operands)?),
     };
-    Ok(Remark {
-        message: operand_message(alloc, word, operands, words)?,
-        help,
-    })
+    message.helped_by(alloc, help)
 }

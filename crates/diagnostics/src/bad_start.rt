@@ -1,7 +1,8 @@
 //! A start that the board doesn't name.
 
-use crate::quote::Quoted;
+use crate::facts_here::target_word;
 use crate::remark::Remark;
+use crate::sentence::{Advice, Sentence, Word};
 use board::{Board, Target};
 use session::Scenario;
 use std::alloc::{AllocError, Global};
@@ -48,61 +49,77 @@ fn listed(alloc: Global, bytes: &[u8]) -> Result<String, AllocError> {
 }
 
 /// What is wrong with a list of another length.
-fn bad_count(
-    alloc: Global,
-    board: &Board,
-    kept: Kept,
-    values: &[u8],
-) -> Result<Option<Remark>, AllocError> {
+fn bad_count(board: &Board, kept: Kept, values: &[u8]) -> Option<Advice<'static>> {
     let (found, wanted) = (values.len(), board.targets().len());
     if found == wanted {
-        return Ok(None);
+        return None;
     }
-    let command = kept.command();
-    Ok(Some(Remark {
-        message: format!(in alloc; "values of {command}: expected {wanted}, found {found}")?,
-        help: Some(String::from_str(alloc, "one for each target, in the board's order")?),
-    }))
+    Some(Advice {
+        message: Sentence::three(
+            "values of {}: expected {}, found {}",
+            Word::Text(kept.command()),
+            Word::Count(wanted),
+            Word::Count(found),
+        ),
+        help: Some(Sentence::plain("one for each target, in the board's order")),
+    })
 }
 
-/// What is wrong with the first value that its target doesn't start with.
+/// The first target that doesn't start with its value, by its index, and that value.
+fn first_other(board: &Board, kept: Kept, values: &[u8]) -> Option<(usize, u8)> {
+    for (index, target) in board.targets().iter().enumerate() {
+        let value = values.get(index).copied().unwrap_or(0);
+        if !kept.named_by(target).contains(&value) {
+            return Some((index, value));
+        }
+    }
+    None
+}
+
+/// What is wrong with a value that its target doesn't start with.
 fn bad_value(
     alloc: Global,
     board: &Board,
     kept: Kept,
-    values: &[u8],
-) -> Result<Option<Remark>, AllocError> {
-    for (index, target) in board.targets().iter().enumerate() {
-        let value = values.get(index).copied().unwrap_or(0);
-        let named = kept.named_by(target);
-        if !named.contains(&value) {
-            let name = Quoted(board.target_name(index).unwrap_or(""));
-            let (command, key) = (kept.command(), kept.key());
-            let named = listed(alloc, named)?;
-            return Ok(Some(Remark {
-                message: format!(in alloc; "{name} doesn't start with {command} {value:02X}")?,
-                help: Some(format!(in alloc; "its \"{key}\" on the board: {named}")?),
-            }));
-        }
-    }
-    Ok(None)
+    index: usize,
+    value: u8,
+) -> Result<Remark, AllocError> {
+    let named = match board.target(index) {
+        Some(target) => listed(alloc, kept.named_by(target))?,
+        None => String::new(alloc),
+    };
+    let advice = Advice {
+        message: Sentence::three(
+            "{} doesn't start with {} {}",
+            target_word(board, index),
+            Word::Text(kept.command()),
+            Word::Byte(u16::from(value)),
+        ),
+        help: Some(Sentence::two(
+            "its \"{}\" on the board: {}",
+            Word::Text(kept.key()),
+            Word::Text(&named),
+        )),
+    };
+    advice.told(alloc)
 }
 
 /// What is said of the start of a scenario.
 pub(crate) fn bad_start(alloc: Global, scenario: &Scenario<'_>) -> Result<Remark, AllocError> {
     let board = &scenario.board;
-    let (pages, protects) = (&scenario.answers.pages, &scenario.answers.protects);
-    if let Some(remark) = bad_count(alloc, board, Kept::Page, pages)? {
-        return Ok(remark);
+    let starts = [
+        (Kept::Page, scenario.answers.pages.as_slice()),
+        (Kept::Protect, scenario.answers.protects.as_slice()),
+    ];
+    for (kept, values) in starts {
+        if let Some(advice) = bad_count(board, kept, values) {
+            return advice.told(alloc);
+        }
     }
-    if let Some(remark) = bad_count(alloc, board, Kept::Protect, protects)? {
-        return Ok(remark);
-    }
-    if let Some(remark) = bad_value(alloc, board, Kept::Page, pages)? {
-        return Ok(remark);
-    }
-    if let Some(remark) = bad_value(alloc, board, Kept::Protect, protects)? {
-        return Ok(remark);
+    for (kept, values) in starts {
+        if let Some((index, value)) = first_other(board, kept, values) {
+            return bad_value(alloc, board, kept, index, value);
+        }
     }
     Remark::plain(alloc, "a start that the board doesn't name")
 }

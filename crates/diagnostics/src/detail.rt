@@ -7,7 +7,7 @@ use crate::facts_here::{facts_here, has_rail, rail_word, target_word};
 use crate::remark::bare;
 use crate::roads::Judged;
 use crate::sent::{greatest_sent, least_sent, number_of};
-use crate::sentence::{Sentence, Word, told};
+use crate::sentence::{Sentence, Word, advised, told};
 use crate::table_detail::{form_detail, start_detail};
 use board::{Board, Rail};
 use facts::{Row, Rule};
@@ -74,7 +74,11 @@ fn protection_detail<'a>(
     let value = PROTECTIONS.iter().copied().find(|value| protects.contains(*value)
         && permits(*value, code) == Some(false))?;
     let target = target_word(board, target);
-    Some(Sentence::two("{} may store {}h here", target, Word::Byte(value)))
+    Some(Sentence::two(
+        "{} may store {}h here",
+        target,
+        Word::Byte(u16::from(value)),
+    ))
 }
 
 /// The greatest mantissa of a voltage that is at most a limit in microvolts.
@@ -120,7 +124,7 @@ fn message_cause(
         return Ok(Cause::none());
     };
     let blame = match rule {
-        Rule::K1 => allowed_detail(alloc, board, target, least, most)?,
+        Rule::K1 => advised(alloc, allowed_detail(board, target, least, most))?,
         Rule::K2 => bare(told(alloc, page_detail(board, target, most.code))?),
         Rule::K3 => bare(told(alloc, protection_detail(board, row, target, most.code))?),
         Rule::K4 => bare(told(

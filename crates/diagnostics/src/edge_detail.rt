@@ -50,12 +50,16 @@ fn good_detail<'a>(board: &'a Board, known: &Row, claimed: &Row) -> Option<Sente
 }
 
 /// The first register, or counter, whose numbers aren't covered.
-fn spans_detail(letter: char, known: &[Span], claimed: &[Span]) -> Option<Sentence<'static>> {
+fn spans_detail(
+    letter: &'static str,
+    known: &[Span],
+    claimed: &[Span],
+) -> Option<Sentence<'static>> {
     for (index, (span, more)) in claimed.iter().zip(known).enumerate() {
         if !span.covers(more) {
             return Some(Sentence::four(
                 "{}{} may be {}, and there the row has {}",
-                Word::Letter(letter),
+                Word::Text(letter),
                 Word::Count(index),
                 Word::Span(more.lo, more.hi),
                 Word::Span(span.lo, span.hi),
@@ -105,9 +109,9 @@ fn uncovered<'a>(board: &'a Board, known: &'a Row, claimed: &'a Row) -> Option<S
     let pages = pages_detail(board, known, claimed);
     let protects = protects_detail(board, known, claimed);
     let good = good_detail(board, known, claimed);
-    let regs = spans_detail('r', &known.regs, &claimed.regs);
+    let regs = spans_detail("r", &known.regs, &claimed.regs);
     let sources = sources_detail(board, &known.sources, &claimed.sources);
-    let counters = spans_detail('c', &known.counters, &claimed.counters);
+    let counters = spans_detail("c", &known.counters, &claimed.counters);
     pages
         .or(protects)
         .or(good)

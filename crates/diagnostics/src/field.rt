@@ -2,8 +2,8 @@
 
 use crate::form::form_help;
 use crate::listing::listed;
-use crate::quote::Quoted;
 use crate::remark::Remark;
+use crate::sentence::{Advice, Sentence, Word, told};
 use crate::suggestion::lowercase_suggestion;
 use bundles::answer_line_of;
 use smbus::form_named;
@@ -120,52 +120,72 @@ fn keys_of(alloc: Global, fields: &[Field]) -> Result<Vec<&'static str>, AllocEr
     Ok(keys)
 }
 
-/// What is said of a word that has no key of the fields.
-fn unknown_field(alloc: Global, fields: &[Field], word: &str) -> Result<Remark, AllocError> {
+/// What may help where a word has no key of the fields.
+fn unknown_help(alloc: Global, fields: &[Field], word: &str) -> Result<Option<String>, AllocError> {
     let name = match word.split_once('=') {
         Some((name, _)) => name,
         None => word,
     };
     let typed = format!(in alloc; "{name}=")?;
     let keys = keys_of(alloc, fields)?;
-    let help = match lowercase_suggestion(alloc, &typed, &keys)? {
-        Some(help) => help,
-        None if word == "-" => String::from_str(alloc, "\"-\" stands alone on its line")?,
-        None => {
-            let keys = listed(alloc, &keys)?;
-            format!(in alloc; "the fields here are {keys}")?
-        }
-    };
-    let word = Quoted(word);
-    Ok(Remark {
-        message: format!(in alloc; "unknown field {word}")?,
-        help: Some(help),
-    })
+    match lowercase_suggestion(alloc, &typed, &keys)? {
+        Some(help) => Ok(Some(help)),
+        None => field_help(alloc, word, &keys),
+    }
+}
+
+/// The same where no key is near.
+fn field_help(
+    alloc: Global,
+    word: &str,
+    keys: &[&'static str],
+) -> Result<Option<String>, AllocError> {
+    if word == "-" {
+        return told(
+            alloc,
+            Some(Sentence::plain("\"-\" stands alone on its line")),
+        );
+    }
+    let keys = listed(alloc, keys)?;
+    told(
+        alloc,
+        Some(Sentence::one("the fields here are {}", Word::Text(&keys))),
+    )
+}
+
+/// What is said of a word that has no key of the fields.
+fn unknown_field(alloc: Global, fields: &[Field], word: &str) -> Result<Remark, AllocError> {
+    let help = unknown_help(alloc, fields, word)?;
+    Sentence::one("unknown field {}", Word::Name(word)).helped_by(alloc, help)
 }
 
 /// What is said of a field that stands too late, or twice.
 fn late_field(alloc: Global, fields: &[Field], field: Field) -> Result<Remark, AllocError> {
     let keys = keys_of(alloc, fields)?;
     let keys = listed(alloc, &keys)?;
-    let key = field.key;
-    Ok(Remark {
-        message: format!(in alloc; "\"{key}\" stands behind a later field")?,
-        help: Some(format!(in alloc; "each field stands once, in this order: {keys}")?),
-    })
+    let advice = Advice {
+        message: Sentence::one("\"{}\" stands behind a later field", Word::Text(field.key)),
+        help: Some(Sentence::one(
+            "each field stands once, in this order: {}",
+            Word::Text(&keys),
+        )),
+    };
+    advice.told(alloc)
 }
 
 /// What is said of a value that can't stand behind its key.
 fn bad_value(alloc: Global, field: Field, value: &str) -> Result<Remark, AllocError> {
-    let (key, expected) = (field.key, field.expected);
-    let help = match key {
+    let message = Sentence::three(
+        "\"{}\" takes {}, found {}",
+        Word::Text(field.key),
+        Word::Text(field.expected),
+        Word::Name(value),
+    );
+    let help = match field.key {
         "form=" => Some(form_help(alloc, value)?),
         _ => None,
     };
-    let value = Quoted(value);
-    Ok(Remark {
-        message: format!(in alloc; "\"{key}\" takes {expected}, found {value}")?,
-        help,
-    })
+    message.helped_by(alloc, help)
 }
 
 /// What is said of the first word that is no field, or one that can't stand in its place.

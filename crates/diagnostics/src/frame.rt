@@ -4,7 +4,7 @@ use crate::counted::counted_line;
 use crate::misfit::refuse_misfit;
 use crate::note::note_of;
 use crate::part::part_at;
-use crate::remark::{Remark, help_of};
+use crate::sentence::{Advice, Sentence, Word};
 use bundles::Exchange;
 use smbus::{Form, Message, SmbusFault, frame_slots};
 use std::alloc::{AllocError, Global};
@@ -20,50 +20,60 @@ fn data_count(form: Form) -> Option<usize> {
 }
 
 /// What is said of data of another length, or of a byte that is refused and isn't sent.
-fn bad_data(alloc: Global, exchange: &Exchange) -> Result<Remark, AllocError> {
+fn bad_data(exchange: &Exchange) -> Advice<'static> {
     let (message, answer) = (&exchange.message, &exchange.answer);
     let found = message.out.len();
     match data_count(message.form) {
-        Some(count) if count != found => Ok(Remark {
-            message: format!(in alloc; "data bytes in \"out=\": expected {count}, found {found}")?,
-            help: help_of(
-                alloc,
-                Some("the code stands in \"code=\", and words low byte first"),
-            )?,
-        }),
-        _ => Ok(Remark {
-            message: refuse_misfit(alloc, message, answer)?,
-            help: help_of(alloc, Some("addresses, code, count and data are counted"))?,
-        }),
+        Some(count) if count != found => Advice {
+            message: Sentence::two(
+                "data bytes in \"out=\": expected {}, found {}",
+                Word::Count(count),
+                Word::Count(found),
+            ),
+            help: Some(Sentence::plain("the code stands in \"code=\", and words low byte first")),
+        },
+        _ => Advice {
+            message: refuse_misfit(message, answer),
+            help: Some(Sentence::plain("addresses, code, count and data are counted")),
+        },
     }
 }
 
 /// What is said of a block that can't be counted.
-fn bad_block(alloc: Global, message: &Message, returned: usize) -> Result<Remark, AllocError> {
-    let written = message.out.len();
-    let text = match message.form {
-        Form::BlockWrite => format!(in alloc; "a block of {written} bytes in \"out=\"")?,
+fn bad_block(message: &Message, returned: usize) -> Advice<'static> {
+    let written = Word::Count(message.out.len());
+    let message = match message.form {
+        Form::BlockWrite => Sentence::one("a block of {} bytes in \"out=\"", written),
         Form::BlockRead if returned == 0 => {
-            String::from_str(alloc, "\"bytes=\" is missing, the block that comes back")?
+            Sentence::plain("\"bytes=\" is missing, the block that comes back")
         }
-        Form::BlockRead => format!(in alloc; "a block of {returned} bytes in \"bytes=\"")?,
-        _ => format!(in alloc; "{written} bytes in \"out=\" and {returned} in \"bytes=\"")?,
+        Form::BlockRead => {
+            Sentence::one("a block of {} bytes in \"bytes=\"", Word::Count(returned))
+        }
+        _ => Sentence::two(
+            "{} bytes in \"out=\" and {} in \"bytes=\"",
+            written,
+            Word::Count(returned),
+        ),
     };
     let help = "a block has 1 to 255 bytes of two digits each, as in \"bytes=4143\", and both of a \
                 block call have at most 255 together";
-    Ok(Remark {
-        message: text,
-        help: help_of(alloc, Some(help))?,
-    })
+    Advice {
+        message,
+        help: Some(Sentence::plain(help)),
+    }
 }
 
 /// What is said of a message that has no frame.
-fn remark_on(alloc: Global, exchange: &Exchange, fault: SmbusFault) -> Result<Remark, AllocError> {
+fn advice_on(exchange: &Exchange, fault: SmbusFault) -> Advice<'static> {
     let (message, answer) = (&exchange.message, &exchange.answer);
     match fault {
-        SmbusFault::BadData => bad_data(alloc, exchange),
-        SmbusFault::BadBlock => bad_block(alloc, message, answer.bytes.len()),
-        SmbusFault::Memory => Remark::plain(alloc, "out of memory"),
+        SmbusFault::BadData => bad_data(exchange),
+        SmbusFault::BadBlock => bad_block(message, answer.bytes.len()),
+        SmbusFault::Memory => Advice {
+            message: Sentence::plain("out of memory"),
+            help: None,
+        },
     }
 }
 
@@ -82,6 +92,6 @@ pub(crate) fn frame_note(
         return Ok(None);
     };
     let number = counted_line(&part.text, 0).unwrap_or(1);
-    let remark = remark_on(alloc, exchange, fault)?;
+    let remark = advice_on(exchange, fault).told(alloc)?;
     Ok(Some(note_of(alloc, "%message", &part.text, number, &remark)?))
 }

@@ -2,8 +2,8 @@
 
 use crate::lines::line_at;
 use crate::listing::listed;
-use crate::quote::Quoted;
 use crate::remark::Remark;
+use crate::sentence::{Sentence, Word, told};
 use crate::suggestion::lowercase_suggestion;
 use bundles::{Command, Header};
 use std::alloc::{AllocError, Global};
@@ -11,22 +11,23 @@ use texts::first_line;
 
 const COMMANDS: [&str; 6] = ["%frame", "%run", "%wave", "%check", "%find", "%verify"];
 
+/// What the first line has to be.
+fn commands_help(alloc: Global) -> Result<Option<String>, AllocError> {
+    let commands = listed(alloc, &COMMANDS)?;
+    let sentence = Sentence::one(
+        "the first line is a command alone, one of {}, and its sections follow",
+        Word::Text(&commands),
+    );
+    told(alloc, Some(sentence))
+}
+
 /// What is said of a first line that is no command.
 pub(crate) fn unknown_command(alloc: Global, line: &str) -> Result<Remark, AllocError> {
     let help = match lowercase_suggestion(alloc, line, &COMMANDS)? {
-        Some(help) => help,
-        None => {
-            let commands = listed(alloc, &COMMANDS)?;
-            format!(in alloc;
-                "the first line is a command alone, one of {commands}, and its sections follow"
-            )?
-        }
+        Some(help) => Some(help),
+        None => commands_help(alloc)?,
     };
-    let line = Quoted(line);
-    Ok(Remark {
-        message: format!(in alloc; "unknown command {line}")?,
-        help: Some(help),
-    })
+    Sentence::one("unknown command {}", Word::Name(line)).helped_by(alloc, help)
 }
 
 /// The command of a bundle, if its first line is one.
@@ -45,7 +46,11 @@ fn sections_help(alloc: Global, text: &str) -> Result<Option<String>, AllocError
         names.push(header.text())?;
     }
     let names = listed(alloc, &names)?;
-    Ok(Some(format!(in alloc; "the sections here are {names}, in this order")?))
+    let sentence = Sentence::one(
+        "the sections here are {}, in this order",
+        Word::Text(&names),
+    );
+    told(alloc, Some(sentence))
 }
 
 /// What is said of a header that is missing.
@@ -54,11 +59,8 @@ pub(crate) fn missing_section(
     text: &str,
     header: Header,
 ) -> Result<Remark, AllocError> {
-    let name = header.text();
-    Ok(Remark {
-        message: format!(in alloc; "the section {name} is missing")?,
-        help: sections_help(alloc, text)?,
-    })
+    let help = sections_help(alloc, text)?;
+    Sentence::one("the section {} is missing", Word::Text(header.text())).helped_by(alloc, help)
 }
 
 /// How many headers stand above the line of a bundle with this number.
@@ -79,26 +81,33 @@ fn headers_above(text: &str, number: usize) -> usize {
     count
 }
 
+/// What may help where a header doesn't come next.
+fn header_help(
+    alloc: Global,
+    line: &str,
+    next: Option<Header>,
+) -> Result<Option<String>, AllocError> {
+    let Some(header) = next else {
+        let sentence = Sentence::plain("a line that begins with % is a header; none comes here");
+        return told(alloc, Some(sentence));
+    };
+    let name = header.text();
+    match lowercase_suggestion(alloc, line, &[name])? {
+        Some(help) => Ok(Some(help)),
+        None => {
+            let sentence = Sentence::one(
+                "a line that begins with % is a header; the next is {}",
+                Word::Text(name),
+            );
+            told(alloc, Some(sentence))
+        }
+    }
+}
+
 /// What is said of a header that doesn't come next.
 fn other_header(alloc: Global, line: &str, next: Option<Header>) -> Result<Remark, AllocError> {
-    let help = match next {
-        Some(header) => match lowercase_suggestion(alloc, line, &[header.text()])? {
-            Some(help) => help,
-            None => {
-                let name = header.text();
-                format!(in alloc; "a line that begins with % is a header; the next is {name}")?
-            }
-        },
-        None => String::from_str(
-            alloc,
-            "a line that begins with % is a header; none comes here",
-        )?,
-    };
-    let line = Quoted(line);
-    Ok(Remark {
-        message: format!(in alloc; "the header {line} doesn't come here")?,
-        help: Some(help),
-    })
+    let help = header_help(alloc, line, next)?;
+    Sentence::one("the header {} doesn't come here", Word::Name(line)).helped_by(alloc, help)
 }
 
 /// What is said of a line that doesn't belong where it stands.
@@ -109,10 +118,10 @@ pub(crate) fn unexpected_line(
 ) -> Result<Remark, AllocError> {
     let line = line_at(text, number).unwrap_or("").trim_end_matches('\r');
     if !line.starts_with('%') {
-        return Ok(Remark {
-            message: String::from_str(alloc, "only blank lines stand above the first section")?,
-            help: sections_help(alloc, text)?,
-        });
+        let help = sections_help(alloc, text)?;
+        return Sentence::plain("only blank lines stand above the first section").helped_by(
+            alloc, help,
+        );
     }
     let next = match command_in(text) {
         Some(command) => command.headers().get(headers_above(text, number)).copied(),

@@ -1,7 +1,7 @@
 //! Labels that stand nowhere, or twice.
 
-use crate::quote::Quoted;
 use crate::remark::Remark;
+use crate::sentence::{Advice, Sentence, Word};
 use crate::suggestion::lowercase_suggestion;
 use seq_program::{label_in, without_comment};
 use std::alloc::{AllocError, Global};
@@ -43,11 +43,7 @@ pub(crate) fn unknown_label(
     };
     let labels = first_labels(alloc, text)?;
     let help = lowercase_suggestion(alloc, word, &labels)?;
-    let word = Quoted(word);
-    Ok(Remark {
-        message: format!(in alloc; "no line has the label {word}")?,
-        help,
-    })
+    Sentence::one("no line has the label {}", Word::Name(word)).helped_by(alloc, help)
 }
 
 /// The number of the first line that has the label.
@@ -70,11 +66,9 @@ pub(crate) fn same_label(alloc: Global, text: &str, words: &[&str]) -> Result<Re
         return Remark::plain(alloc, "the same label once more");
     };
     let help = match line_of(alloc, text, label)? {
-        Some(first) => Some(format!(in alloc; "it stands first in line {first}")?),
+        Some(first) => Some(Sentence::one("it stands first in line {}", Word::Count(first))),
         None => None,
     };
-    Ok(Remark {
-        message: format!(in alloc; "the label \"{label}\" stands twice")?,
-        help,
-    })
+    let message = Sentence::one("the label \"{}\" stands twice", Word::Text(label));
+    Advice { message, help }.told(alloc)
 }

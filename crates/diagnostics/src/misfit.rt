@@ -1,8 +1,8 @@
 //! Which part of an answer doesn't fit.
 
 use crate::alert::alert_misfit;
-use crate::quote::Quoted;
 use crate::returned::returned_misfit;
+use crate::sentence::{Sentence, Word};
 use crate::step::Step;
 use board::Board;
 use smbus::{Answer, Form, Message, sent_count, slot_count};
@@ -59,89 +59,98 @@ fn first_silent(board: &Board, alerts: u16) -> Option<usize> {
 }
 
 /// What is wrong with targets that begin to alert.
-fn alerts_misfit(alloc: Global, board: &Board, alerts: u16) -> Result<String, AllocError> {
+fn alerts_misfit(board: &Board, alerts: u16) -> Sentence<'_> {
+    let digits = Word::Digits(alerts);
     let Some(index) = first_silent(board, alerts) else {
-        return format!(in alloc; "alerts={alerts:X}");
+        return Sentence::one("alerts={}", digits);
     };
     match board.target_name(index) {
-        Some(name) => {
-            let name = Quoted(name);
-            format!(in alloc;
-                "{name} alerts by bit {index} of alerts={alerts:X}, which it can't on this board"
-            )
-        }
-        None => {
-            let count = board.targets().len();
-            format!(in alloc; "bit {index} of alerts={alerts:X}; the board's targets are {count}")
-        }
+        Some(name) => Sentence::three(
+            "{} alerts by bit {} of alerts={}, which it can't on this board",
+            Word::Name(name),
+            Word::Count(index),
+            digits,
+        ),
+        None => Sentence::three(
+            "bit {} of alerts={}; the board's targets are {}",
+            Word::Count(index),
+            digits,
+            Word::Count(board.targets().len()),
+        ),
     }
 }
 
 /// What is wrong with the holds of a message.
-fn holds_misfit(
-    alloc: Global,
-    board: &Board,
-    message: &Message,
-    answer: &Answer,
-) -> Result<String, AllocError> {
+fn holds_misfit(board: &Board, message: &Message, answer: &Answer) -> Sentence<'static> {
     let most = board.largest_stretch();
     match answer.holds.iter().position(|hold| *hold > most) {
         Some(slot) => {
             let hold = answer.holds.get(slot).copied().unwrap_or(0);
-            format!(in alloc;
-                "a hold of {hold} ticks in slot {slot}; the board's targets stretch by at most \
-                 {most}"
+            Sentence::three(
+                "a hold of {} ticks in slot {}; the board's targets stretch by at most {}",
+                Word::Number(u64::from(hold)),
+                Word::Count(slot),
+                Word::Number(u64::from(most)),
             )
         }
-        None => {
-            let slot = answer.holds.len().saturating_sub(1);
-            let last = slot_count(message, answer).saturating_sub(1);
-            format!(in alloc; "a hold in slot {slot}; the slots of the frame are 0 to {last}")
-        }
+        None => Sentence::two(
+            "a hold in slot {}; the slots of the frame are 0 to {}",
+            Word::Count(answer.holds.len().saturating_sub(1)),
+            Word::Count(slot_count(message, answer).saturating_sub(1)),
+        ),
     }
 }
 
 /// What is wrong with a byte that is refused.
-pub(crate) fn refuse_misfit(
-    alloc: Global,
-    message: &Message,
-    answer: &Answer,
-) -> Result<String, AllocError> {
-    let number = answer.refuse.unwrap_or(0);
-    let last = sent_count(message).saturating_sub(1);
-    format!(in alloc; "refuse={number}; the bytes that the controller sends here are 0 to {last}")
+pub(crate) fn refuse_misfit(message: &Message, answer: &Answer) -> Sentence<'static> {
+    Sentence::two(
+        "refuse={}; the bytes that the controller sends here are 0 to {}",
+        Word::Number(u64::from(answer.refuse.unwrap_or(0))),
+        Word::Count(sent_count(message).saturating_sub(1)),
+    )
+}
+
+/// What is wrong with the bytes of a message, those that are refused or those that come back.
+fn bytes_misfit<'a>(alloc: Global, step: &Step<'a>, message: &Message, part: Part) -> Sentence<'a> {
+    match (message.form, part) {
+        (Form::Alert, _) => alert_misfit(alloc, step),
+        (_, Part::Refuse) => {
+            let answer = step.answer;
+            refuse_misfit(message, answer)
+        }
+        _ => returned_misfit(alloc, step, message),
+    }
 }
 
 /// What is wrong with an answer to a message.
-fn message_misfit(
+fn message_misfit<'a>(
     alloc: Global,
-    step: &Step,
+    step: &Step<'a>,
     message: &Message,
     part: Part,
-) -> Result<String, AllocError> {
+) -> Sentence<'a> {
     let (board, answer) = (step.board, step.answer);
     match part {
-        Part::Alerts => alerts_misfit(alloc, board, answer.alerts),
-        Part::Holds => holds_misfit(alloc, board, message, answer),
-        Part::Refuse | Part::Returned if message.form == Form::Alert => alert_misfit(alloc, step),
-        Part::Refuse => refuse_misfit(alloc, message, answer),
-        Part::Returned => returned_misfit(alloc, step, message),
-        Part::Took => String::from_str(alloc, "took=1"),
+        Part::Alerts => alerts_misfit(board, answer.alerts),
+        Part::Holds => holds_misfit(board, message, answer),
+        Part::Refuse | Part::Returned => bytes_misfit(alloc, step, message, part),
+        Part::Took => return Sentence::plain("took=1"),
     }
 }
 
 /// What is wrong with an answer to a step that sends nothing.
-fn silent_misfit(alloc: Global, step: &Step, part: Part) -> Result<String, AllocError> {
+fn silent_misfit<'a>(step: &Step<'a>, part: Part) -> Sentence<'a> {
     let answer = step.answer;
     let word = match part {
-        Part::Alerts => return alerts_misfit(alloc, step.board, answer.alerts),
+        Part::Alerts => return alerts_misfit(step.board, answer.alerts),
         Part::Returned if answer.value != 0 => "value=",
         Part::Returned => "bytes=",
         Part::Refuse => "refuse=",
         Part::Holds => "holds=",
         Part::Took => "took=1",
     };
-    format!(in alloc; "\"{word}\" for a step that sends nothing, whose answer is \"-\"")
+    let template = "\"{}\" for a step that sends nothing, whose answer is \"-\"";
+    Sentence::one(template, Word::Text(word))
 }
 
 /// What is wrong with an answer that doesn't fit, where the targets keep this before the step, and
@@ -152,7 +161,7 @@ pub(crate) fn misfit<'a>(
     bus: &'a BusState,
     message: Option<&'a Message>,
     answer: &'a Answer,
-) -> Result<String, AllocError> {
+) -> Result<Sentence<'a>, AllocError> {
     let step = Step {
         board,
         bus,
@@ -161,7 +170,7 @@ pub(crate) fn misfit<'a>(
     };
     let part = part_of(alloc, &step)?;
     match message {
-        Some(message) => message_misfit(alloc, &step, message, part),
-        None => silent_misfit(alloc, &step, part),
+        Some(message) => Ok(message_misfit(alloc, &step, message, part)),
+        None => Ok(silent_misfit(&step, part)),
     }
 }

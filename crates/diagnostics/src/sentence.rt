@@ -2,6 +2,7 @@
 
 use crate::facts_here::{push_pages, push_protects};
 use crate::quote::Quoted;
+use crate::remark::Remark;
 use facts::{PageSet, ProtectSet};
 use pmbus_table::{by_code, name_of};
 use std::alloc::{AllocError, Global};
@@ -15,22 +16,37 @@ pub(crate) enum Word<'a> {
     Text(&'a str),
     /// A name in quotes.
     Name(&'a str),
-    Letter(char),
     Count(usize),
     Number(u64),
-    Sum(u128),
-    /// Two hexadecimal digits.
-    Byte(u8),
+    /// The numbers from the first to the second.
+    Span(u16, u16),
+    /// Hexadecimal digits, as many as it takes.
+    Digits(u16),
+    /// Two of them, or as many as it takes.
+    Byte(u16),
     /// Four of them.
     Value(u16),
     /// The values of PAGE in a set.
     Pages(&'a PageSet),
     /// The values of WRITE_PROTECT in a set.
     Protects(&'a ProtectSet),
-    /// The numbers from the first to the second.
-    Span(u16, u16),
     /// The name of the command with this code.
     Command(u8),
+    /// What is read by it from the target of this name.
+    Read(u8, &'a str),
+    /// What the target of this name sends by itself.
+    Sent(&'a str),
+    /// A target or a rail of a board file, and its name.
+    Named(&'a str, &'a str),
+    /// A target or a rail without a name, and its number.
+    Numbered(&'a str, usize),
+    /// The number of an entry, and the name of its target.
+    Entry(usize, &'a str),
+    /// The number of an entry, and that of its target, which has no name.
+    EntryOfNumbered(usize, usize),
+    /// An address with two hexadecimal digits.
+    Address(i64),
+    Integer(i64),
 }
 
 /// Adds the name of a command.
@@ -53,22 +69,39 @@ fn push_span(text: &mut String, low: u16, high: u16) -> Result<(), AllocError> {
     }
 }
 
+/// Adds what is read by a command from a target.
+fn push_read(alloc: Global, text: &mut String, code: u8, name: &str) -> Result<(), AllocError> {
+    push_command(alloc, text, code)?;
+    write!(text, " of {}", Quoted(name))
+}
+
 /// Adds a word.
 fn push_word(alloc: Global, text: &mut String, word: Word) -> Result<(), AllocError> {
     match word {
         Word::Nothing => Ok(()),
         Word::Text(word) => text.push_str(word),
         Word::Name(name) => write!(text, "{}", Quoted(name)),
-        Word::Letter(letter) => write!(text, "{letter}"),
         Word::Count(count) => write!(text, "{count}"),
         Word::Number(number) => write!(text, "{number}"),
-        Word::Sum(sum) => write!(text, "{sum}"),
+        Word::Span(low, high) => push_span(text, low, high),
+        Word::Digits(number) => write!(text, "{number:X}"),
         Word::Byte(byte) => write!(text, "{byte:02X}"),
         Word::Value(value) => write!(text, "{value:04X}"),
         Word::Pages(pages) => push_pages(text, pages),
         Word::Protects(protects) => push_protects(text, protects),
-        Word::Span(low, high) => push_span(text, low, high),
         Word::Command(code) => push_command(alloc, text, code),
+        Word::Read(code, name) => push_read(alloc, text, code, name),
+        Word::Sent(name) => write!(text, "what {} sends", Quoted(name)),
+        Word::Named(word, name) => write!(text, "{word} {}", Quoted(name)),
+        Word::Numbered(word, number) => write!(text, "{word} {number}"),
+        Word::Entry(number, target) => {
+            write!(text, "entry {number} of target {}", Quoted(target))
+        }
+        Word::EntryOfNumbered(number, target) => {
+            write!(text, "entry {number} of target {target}")
+        }
+        Word::Address(address) => write!(text, "{address:#04x}"),
+        Word::Integer(number) => write!(text, "{number}"),
     }
 }
 
@@ -76,7 +109,7 @@ fn push_word(alloc: Global, text: &mut String, word: Word) -> Result<(), AllocEr
 #[derive(Clone, Copy)]
 pub(crate) struct Sentence<'a> {
     template: &'static str,
-    words: [Word<'a>; 5],
+    words: [Word<'a>; 6],
 }
 
 impl<'a> Sentence<'a> {
@@ -84,7 +117,7 @@ impl<'a> Sentence<'a> {
     pub(crate) fn plain(template: &'static str) -> Sentence<'a> {
         Sentence {
             template,
-            words: [Word::Nothing; 5],
+            words: [Word::Nothing; 6],
         }
     }
 
@@ -116,10 +149,32 @@ impl<'a> Sentence<'a> {
         three: Word<'a>,
         four: Word<'a>,
     ) -> Sentence<'a> {
+        Sentence::five(template, one, two, three, four, Word::Nothing)
+    }
+
+    /// A sentence with five gaps.
+    pub(crate) fn five(
+        template: &'static str,
+        one: Word<'a>,
+        two: Word<'a>,
+        three: Word<'a>,
+        four: Word<'a>,
+        five: Word<'a>,
+    ) -> Sentence<'a> {
         Sentence {
             template,
-            words: [one, two, three, four, Word::Nothing],
+            words: [one, two, three, four, five, Word::Nothing],
         }
+    }
+
+    /// What is said, with what may help.
+    pub(crate) fn helped_by(
+        &self,
+        alloc: Global,
+        help: Option<String>,
+    ) -> Result<Remark, AllocError> {
+        let message = self.told(alloc)?;
+        Ok(Remark { message, help })
     }
 
     /// The sentence with its words in its gaps.
@@ -140,6 +195,30 @@ pub(crate) fn told(
 ) -> Result<Option<String>, AllocError> {
     match sentence {
         Some(sentence) => Ok(Some(sentence.told(alloc)?)),
+        None => Ok(None),
+    }
+}
+
+/// What is said, and what may help, before it is written.
+#[derive(Clone, Copy)]
+pub(crate) struct Advice<'a> {
+    pub message: Sentence<'a>,
+    pub help: Option<Sentence<'a>>,
+}
+
+impl Advice<'_> {
+    /// The sentences with their words in their gaps.
+    pub(crate) fn told(&self, alloc: Global) -> Result<Remark, AllocError> {
+        let message = self.message.told(alloc)?;
+        let help = told(alloc, self.help)?;
+        Ok(Remark { message, help })
+    }
+}
+
+/// What is said, and what may help, if there is something to say.
+pub(crate) fn advised(alloc: Global, advice: Option<Advice>) -> Result<Option<Remark>, AllocError> {
+    match advice {
+        Some(advice) => Ok(Some(advice.told(alloc)?)),
         None => Ok(None),
     }
 }

@@ -3,8 +3,8 @@
 use crate::counted::counted_line;
 use crate::field::{ANSWER_FIELDS, MESSAGE_FIELDS, first_flaw};
 use crate::lines::line_at;
-use crate::quote::Quoted;
-use crate::remark::{Remark, help_of};
+use crate::remark::Remark;
+use crate::sentence::{Advice, Sentence, Word};
 use bundles::Header;
 use smbus::{carries_code, form_named};
 use std::alloc::{AllocError, Global};
@@ -29,34 +29,37 @@ const START: &str =
     "the first line says how the targets start, PAGE of each and then WRITE_PROTECT of each, as in \
      \"start 00,00 00,00\"";
 
-/// What is said of a first line that doesn't say how the targets start.
-fn bad_start_line(alloc: Global, words: &[&str]) -> Result<Remark, AllocError> {
-    let message = match words {
-        ["start", _, _] => String::from_str(alloc, "expected two digits for each target")?,
-        ["start", ..] => String::from_str(alloc, "\"start\" takes PAGES PROTECTS")?,
-        [word, ..] => {
-            let word = Quoted(word);
-            format!(in alloc; "expected \"start\", found {word}")?
-        }
-        [] => String::from_str(alloc, "expected \"start\"")?,
-    };
-    Ok(Remark {
+/// What is said, and how the first line looks.
+fn start_advice(message: Sentence<'_>) -> Advice<'_> {
+    Advice {
         message,
-        help: help_of(alloc, Some(START))?,
-    })
+        help: Some(Sentence::plain(START)),
+    }
+}
+
+/// What is wrong with a first line that doesn't say how the targets start.
+fn bad_start_line<'a>(words: &[&'a str]) -> Sentence<'a> {
+    let [word, ..] = words else {
+        return Sentence::plain("expected \"start\"");
+    };
+    if *word != "start" {
+        return Sentence::one("expected \"start\", found {}", Word::Name(word));
+    }
+    if words.len() != 3 {
+        return Sentence::plain("\"start\" takes PAGES PROTECTS");
+    }
+    Sentence::plain("expected two digits for each target")
 }
 
 /// What is said of a line of `%answers`.
 fn answer_remark(alloc: Global, spot: Spot) -> Result<Remark, AllocError> {
     let Some(line) = line_at(spot.text, spot.number) else {
-        return Ok(Remark {
-            message: String::from_str(alloc, "no line says how the targets start")?,
-            help: help_of(alloc, Some(START))?,
-        });
+        let message = Sentence::plain("no line says how the targets start");
+        return start_advice(message).told(alloc);
     };
     let words = words_of(alloc, line)?;
     if spot.is_counted(0) {
-        return bad_start_line(alloc, &words);
+        return start_advice(bad_start_line(&words)).told(alloc);
     }
     match first_flaw(alloc, &ANSWER_FIELDS, &words)? {
         Some(remark) => Ok(remark),
@@ -93,13 +96,11 @@ fn whole_message(words: &[&str]) -> &'static str {
 /// What is said of a line of `%message`.
 fn message_remark(alloc: Global, spot: Spot) -> Result<Remark, AllocError> {
     let Some(line) = line_at(spot.text, spot.number) else {
-        return Ok(Remark {
-            message: String::from_str(alloc, "the section has no message")?,
-            help: help_of(
-                alloc,
-                Some("a message is a line of fields: form=F address=HH .."),
-            )?,
-        });
+        let advice = Advice {
+            message: Sentence::plain("the section has no message"),
+            help: Some(Sentence::plain("a message is a line of fields: form=F address=HH ..")),
+        };
+        return advice.told(alloc);
     };
     if spot.is_counted(1) {
         return Remark::plain(alloc, "a second message, and a frame has one");

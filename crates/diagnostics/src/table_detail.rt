@@ -13,12 +13,12 @@ const MOST_TURNS: u16 = 1000;
 const MOST_TICKS: u64 = 1 << 40;
 
 /// The first span that has no numbers.
-fn empty_span(letter: char, spans: &[Span]) -> Option<Sentence<'static>> {
+fn empty_span(letter: &'static str, spans: &[Span]) -> Option<Sentence<'static>> {
     let index = spans.iter().position(|span| span.lo > span.hi)?;
     let Span { lo, hi } = *spans.get(index)?;
     Some(Sentence::four(
         "{}{} is from {} to {}, in no order",
-        Word::Letter(letter),
+        Word::Text(letter),
         Word::Count(index),
         Word::Number(u64::from(lo)),
         Word::Number(u64::from(hi)),
@@ -31,7 +31,7 @@ fn foreign_page<'a>(board: &'a Board, row: &Row) -> Option<Sentence<'a>> {
         let count = device.pages();
         if let Some(page) = (count..32).find(|page| pages.contains(*page)) {
             let name = target_word(board, target);
-            return Some(Sentence::two("{} has no page {}", name, Word::Byte(page)));
+            return Some(Sentence::two("{} has no page {}", name, Word::Byte(u16::from(page))));
         }
     }
     None
@@ -52,7 +52,7 @@ fn greatest_detail(row: &Row) -> Option<Sentence<'static>> {
 
 /// What makes a row none of the board.
 fn row_detail<'a>(board: &'a Board, row: &Row) -> Option<Sentence<'a>> {
-    let (regs, counters) = (empty_span('r', &row.regs), empty_span('c', &row.counters));
+    let (regs, counters) = (empty_span("r", &row.regs), empty_span("c", &row.counters));
     foreign_page(board, row)
         .or(regs)
         .or(counters)
@@ -109,7 +109,7 @@ fn start_page<'a>(
     Some(Sentence::three(
         "PAGE of {} may be {} at the start, and row 0 has {}",
         name,
-        Word::Byte(*page),
+        Word::Byte(u16::from(*page)),
         Word::Pages(pages),
     ))
 }
@@ -129,7 +129,7 @@ fn start_protect<'a>(
     Some(Sentence::three(
         "WRITE_PROTECT of {} may be {} at the start, and row 0 has {}",
         name,
-        Word::Byte(*protect),
+        Word::Byte(u16::from(*protect)),
         Word::Protects(protects),
     ))
 }
@@ -148,12 +148,12 @@ fn targets_start<'a>(board: &'a Board, row: &'a Row) -> Option<Sentence<'a>> {
 }
 
 /// The first register, or counter, that isn't 0 in row 0.
-fn span_start(letter: char, spans: &[Span]) -> Option<Sentence<'static>> {
+fn span_start(letter: &'static str, spans: &[Span]) -> Option<Sentence<'static>> {
     let index = spans.iter().position(|span| span.lo > 0)?;
     let span = spans.get(index)?;
     Some(Sentence::three(
         "{}{} is 0 at the start, and row 0 has {}",
-        Word::Letter(letter),
+        Word::Text(letter),
         Word::Count(index),
         Word::Span(span.lo, span.hi),
     ))
@@ -184,7 +184,7 @@ pub(crate) fn start_detail(judged: Judged<'_>) -> Option<Sentence<'_>> {
         return Some(Sentence::plain("row 0 is none"));
     };
     let (targets, good) = (targets_start(board, row), good_start(board, row));
-    let (regs, counters) = (span_start('r', &row.regs), span_start('c', &row.counters));
+    let (regs, counters) = (span_start("r", &row.regs), span_start("c", &row.counters));
     targets
         .or(good)
         .or(regs)

@@ -1,8 +1,8 @@
 //! A word that is no command, or a command without the form of the instruction.
 
 use crate::operand::{Operand, operands_of};
-use crate::quote::Quoted;
-use crate::remark::{Remark, help_of};
+use crate::remark::Remark;
+use crate::sentence::{Advice, Sentence, Word, told};
 use crate::suggestion::suggestion;
 use pmbus_table::{Command, by_code, by_name, name_of};
 use smbus::Form;
@@ -68,39 +68,34 @@ fn use_of(form: Form) -> &'static str {
 }
 
 /// The forms of a named command.
-pub(crate) fn forms_help(alloc: Global, command: Command) -> Result<Option<String>, AllocError> {
-    let name = name_of(alloc, command)?;
+pub(crate) fn forms_help(command: Command) -> Option<Sentence<'static>> {
+    let name = Word::Command(command.code());
     match (command.form_written(), command.form_read()) {
         (Some(written), Some(read)) => {
-            let (written, read) = (use_of(written), use_of(read));
-            Ok(Some(format!(in alloc; "\"{name}\" can be {written} and {read}")?))
+            let (written, read) = (Word::Text(use_of(written)), Word::Text(use_of(read)));
+            Some(Sentence::three("\"{}\" can be {} and {}", name, written, read))
         }
         (Some(form), None) | (None, Some(form)) => {
-            let form = use_of(form);
-            Ok(Some(format!(in alloc; "\"{name}\" can only be {form}")?))
+            let form = Word::Text(use_of(form));
+            Some(Sentence::two("\"{}\" can only be {}", name, form))
         }
-        (None, None) => Ok(None),
+        (None, None) => None,
     }
 }
 
 /// What is said of a command that is known.
-fn known_command(
-    alloc: Global,
-    instruction: &str,
-    word: &str,
-    command: Command,
-) -> Result<Remark, AllocError> {
+fn known_command<'a>(instruction: &'a str, word: &'a str, command: Command) -> Advice<'a> {
+    let text = Word::Text(word);
     if command.is_manufacturer() {
-        return Ok(Remark {
-            message: format!(in alloc; "\"{word}\" needs \"b\" or \"w\" behind it")?,
-            help: Some(format!(in alloc; "\"{word}b\" is for a byte, \"{word}w\" for a word")?),
-        });
+        return Advice {
+            message: Sentence::one("\"{}\" needs \"b\" or \"w\" behind it", text),
+            help: Some(Sentence::two("\"{}b\" is for a byte, \"{}w\" for a word", text, text)),
+        };
     }
-    let instruction = Quoted(instruction);
-    Ok(Remark {
-        message: format!(in alloc; "{instruction} doesn't take \"{word}\"")?,
-        help: forms_help(alloc, command)?,
-    })
+    Advice {
+        message: Sentence::two("{} doesn't take \"{}\"", Word::Name(instruction), text),
+        help: forms_help(command),
+    }
 }
 
 /// The digits of a manufacturer command with `b` or `w` behind them.
@@ -126,15 +121,11 @@ fn is_nearly_manufacturer(alloc: Global, word: &str) -> Result<bool, AllocError>
     }
 }
 
-/// The name of the command whose digits stand there.
-fn named_by_digits(alloc: Global, word: &str) -> Result<Option<String>, AllocError> {
-    match pair_of(word) {
-        Some(code) => match by_code(code) {
-            Some(command) => Ok(Some(name_of(alloc, command)?)),
-            None => Ok(None),
-        },
-        None => Ok(None),
-    }
+/// The code of the command whose digits stand there.
+fn code_of(word: &str) -> Option<u8> {
+    let code = pair_of(word)?;
+    by_code(code)?;
+    Some(code)
 }
 
 /// Proposes another word. How manufacturer commands are written is told by `rule`.
@@ -142,16 +133,20 @@ pub(crate) fn command_help(
     alloc: Global,
     word: &str,
     operand: Operand,
-    rule: &str,
+    rule: &'static str,
 ) -> Result<Option<String>, AllocError> {
     if let Some(digits) = digits_of(word) {
-        return Ok(Some(format!(in alloc; "did you mean \"{digits}\"?")?));
+        let sentence = Sentence::one("did you mean \"{}\"?", Word::Text(digits));
+        return told(alloc, Some(sentence));
     }
     if is_nearly_manufacturer(alloc, word)? {
-        return help_of(alloc, Some(rule));
+        return told(alloc, Some(Sentence::plain(rule)));
     }
-    match named_by_digits(alloc, word)? {
-        Some(name) => Ok(Some(format!(in alloc; "did you mean \"{name}\"?")?)),
+    match code_of(word) {
+        Some(code) => {
+            let sentence = Sentence::one("did you mean \"{}\"?", Word::Command(code));
+            told(alloc, Some(sentence))
+        }
         None => command_suggestion(alloc, word, operand),
     }
 }
@@ -162,15 +157,11 @@ pub(crate) fn unknown_command(alloc: Global, words: &[&str]) -> Result<Remark, A
         return Remark::plain(alloc, "unknown command");
     };
     if let Some(command) = by_name(word) {
-        return known_command(alloc, instruction, word, command);
+        return known_command(instruction, word, command).told(alloc);
     }
     let help = match operands_of(instruction) {
         Some([_, operand, ..]) => command_help(alloc, word, *operand, MANUFACTURER_RULE)?,
         _ => None,
     };
-    let word = Quoted(word);
-    Ok(Remark {
-        message: format!(in alloc; "unknown command {word}")?,
-        help,
-    })
+    Sentence::one("unknown command {}", Word::Name(word)).helped_by(alloc, help)
 }

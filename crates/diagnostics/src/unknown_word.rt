@@ -2,8 +2,8 @@
 
 use crate::habit::habit_in;
 use crate::operand::instruction_words;
-use crate::quote::Quoted;
 use crate::remark::{Remark, help_of};
+use crate::sentence::{Sentence, Word, told};
 use crate::suggestion::lowercase_suggestion;
 use std::alloc::{AllocError, Global};
 use texts::is_name;
@@ -25,7 +25,8 @@ fn word_help(alloc: Global, word: &str, words: &[&str]) -> Result<Option<String>
     match lowercase_suggestion(alloc, word, &names)? {
         Some(help) => Ok(Some(help)),
         None if words.len() == 1 && is_name(word) => {
-            Ok(Some(format!(in alloc; "a label ends with a colon: \"{word}:\"")?))
+            let sentence = Sentence::one("a label ends with a colon: \"{}:\"", Word::Text(word));
+            told(alloc, Some(sentence))
         }
         None => Ok(None),
     }
@@ -40,9 +41,5 @@ pub(crate) fn unknown_word(alloc: Global, words: &[&str]) -> Result<Remark, Allo
         Some(habit) => help_of(alloc, Some(habit))?,
         None => word_help(alloc, word, words)?,
     };
-    let word = Quoted(word);
-    Ok(Remark {
-        message: format!(in alloc; "unknown instruction {word}")?,
-        help,
-    })
+    Sentence::one("unknown instruction {}", Word::Name(word)).helped_by(alloc, help)
 }

@@ -8,6 +8,7 @@ use crate::boards::doubt::Doubt;
 use crate::boards::draft::Site;
 use crate::boards::ready::{first_stuck, is_ready, ready_after, with_rails};
 use crate::quote::Quoted;
+use crate::sentence::{Sentence, Word};
 use board::Board;
 use std::alloc::{AllocError, Global};
 
@@ -43,7 +44,7 @@ fn circle_from(
 
 /// The needs from the first rail of a circle to itself.
 fn circle_text(alloc: Global, board: &Board, circle: &[usize]) -> Result<String, AllocError> {
-    let mut text = String::from_str(alloc, "needs in a circle: ")?;
+    let mut text = String::new(alloc);
     for rail in circle {
         let name = Quoted(board.rail_name(*rail).unwrap_or(""));
         write!(text, "{name} needs ")?;
@@ -52,6 +53,18 @@ fn circle_text(alloc: Global, board: &Board, circle: &[usize]) -> Result<String,
     let name = Quoted(board.rail_name(first).unwrap_or(""));
     write!(text, "{name}")?;
     Ok(text)
+}
+
+/// A doubt about a circle with this first rail.
+fn circle_doubt(
+    alloc: Global,
+    board: &Board,
+    first: usize,
+    circle: &[usize],
+) -> Result<Doubt, AllocError> {
+    let text = circle_text(alloc, board, circle)?;
+    let message = Sentence::one("needs in a circle: {}", Word::Text(&text));
+    Doubt::new(alloc, Site::Rail(first), "needs", message, HELP)
 }
 
 /// A doubt about the circle to which the needs of a rail lead. The rails that come good where
@@ -69,8 +82,7 @@ fn push_circle(
 {
     let circle = circle_from(alloc, board, &ready, stuck)?;
     let first = circle.first().copied().unwrap_or(stuck);
-    let text = circle_text(alloc, board, &circle)?;
-    doubts.push(Doubt::new(alloc, Site::Rail(first), "needs", text, HELP)?)?;
+    doubts.push(circle_doubt(alloc, board, first, &circle)?)?;
     ready_after(board, with_rails(board, ready, &circle)?)
 }
 

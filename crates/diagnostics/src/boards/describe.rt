@@ -3,38 +3,40 @@
 use crate::boards::document::put;
 use crate::boards::draft::{Draft, Site};
 use crate::quote::{Quoted, beginning_of};
+use crate::sentence::Word;
 use std::alloc::{AllocError, Global};
 use toml::ser::Error;
 use toml::{Table, Value};
 
+/// A target or a rail by its number.
+pub(crate) fn numbered(word: &'static str, index: usize) -> Word<'static> {
+    Word::Numbered(word, index.saturating_add(1))
+}
+
 /// A target or a rail by its name, or by its number, counted from 1.
-fn named(alloc: Global, draft: &Draft<'_>, site: Site, index: usize) -> Result<String, AllocError> {
-    let word = match site {
-        Site::Rail(_) => "rail",
-        _ => "target",
-    };
+fn named<'a>(draft: &Draft<'a>, site: Site, word: &'static str, index: usize) -> Word<'a> {
     match draft.text(site, "name") {
-        Some(name) => {
-            let name = Quoted(name);
-            format!(in alloc; "{word} {name}")
-        }
-        None => {
-            let number = index.saturating_add(1);
-            format!(in alloc; "{word} {number}")
-        }
+        Some(name) => Word::Named(word, name),
+        None => numbered(word, index),
+    }
+}
+
+/// What an entry is called.
+fn entry_name<'a>(draft: &Draft<'a>, target: usize, entry: usize) -> Word<'a> {
+    let number = entry.saturating_add(1);
+    match draft.text(Site::Target(target), "name") {
+        Some(name) => Word::Entry(number, name),
+        None => Word::EntryOfNumbered(number, target.saturating_add(1)),
     }
 }
 
 /// What a table is called.
-pub(crate) fn name_of(alloc: Global, draft: &Draft<'_>, site: Site) -> Result<String, AllocError> {
+pub(crate) fn name_of<'a>(draft: &Draft<'a>, site: Site) -> Word<'a> {
     match site {
-        Site::Board => String::from_str(alloc, "the board"),
-        Site::Target(index) | Site::Rail(index) => named(alloc, draft, site, index),
-        Site::Entry { target, entry } => {
-            let number = entry.saturating_add(1);
-            let target = named(alloc, draft, Site::Target(target), target)?;
-            format!(in alloc; "entry {number} of {target}")
-        }
+        Site::Board => Word::Text("the board"),
+        Site::Target(index) => named(draft, site, "target", index),
+        Site::Rail(index) => named(draft, site, "rail", index),
+        Site::Entry { target, entry } => entry_name(draft, target, entry),
     }
 }
 

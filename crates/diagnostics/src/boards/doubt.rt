@@ -8,7 +8,8 @@ use crate::boards::draft::Site;
 use crate::boards::idle::push_idle_rails;
 use crate::boards::loose::push_loose_limits;
 use crate::boards::unready::{messages_of, push_unready_targets};
-use crate::remark::{Remark, help_of};
+use crate::remark::Remark;
+use crate::sentence::{Advice, Sentence};
 use board::Board;
 use seq_program::Program;
 use std::alloc::{AllocError, Global};
@@ -26,16 +27,14 @@ impl Doubt {
         alloc: Global,
         site: Site,
         key: &'static str,
-        message: String,
-        help: &str,
+        message: Sentence,
+        help: &'static str,
     ) -> Result<Doubt, AllocError> {
+        let help = Some(Sentence::plain(help));
         Ok(Doubt {
             site,
             key: Some(key),
-            remark: Remark {
-                message,
-                help: help_of(alloc, Some(help))?,
-            },
+            remark: Advice { message, help }.told(alloc)?,
         })
     }
 }

@@ -2,7 +2,7 @@
 
 use crate::boards::blame::blamed_key;
 use crate::boards::draft::{Draft, Site};
-use crate::boards::keys::{bad_key, bad_value, missing_key};
+use crate::boards::keys::{bad_key, bad_value, key_help, missing_key};
 use crate::boards::locate::site_of;
 use crate::boards::scan::number_of;
 use crate::boards::twice::{same_address, same_name};
@@ -55,7 +55,7 @@ fn table_remark(
 ) -> Result<Remark, AllocError> {
     match draft.fault {
         BoardFault::MissingKey => missing_key(alloc, draft, site, table),
-        BoardFault::SameName => same_name(alloc, draft, site),
+        BoardFault::SameName => same_name(draft, site).told(alloc),
         BoardFault::TooMany => too_many(alloc, site),
         fault => bare(alloc, fault),
     }
@@ -72,9 +72,9 @@ fn key_remark(
 ) -> Result<Remark, AllocError> {
     match (draft.fault, key, site) {
         (BoardFault::BadKey, ..) => bad_key(alloc, draft, site, table, key),
-        (BoardFault::SameName, ..) => same_name(alloc, draft, site),
+        (BoardFault::SameName, ..) => same_name(draft, site).told(alloc),
         (BoardFault::BadAddress, ..) => bad_address(alloc, draft, site, table, value),
-        (BoardFault::SameAddress, ..) => same_address(alloc, draft, site, value),
+        (BoardFault::SameAddress, ..) => same_address(draft, site, value).told(alloc),
         (BoardFault::BadStart, ..) => bad_start(alloc, draft, site, table, key),
         (BoardFault::BadRange, "values" | "length", _) => {
             bad_range(alloc, draft, site, table, key, value)
@@ -84,10 +84,10 @@ fn key_remark(
         (BoardFault::UnknownNeed, _, Site::Rail(index)) => {
             unknown_need(alloc, draft, site, index, table)
         }
-        (BoardFault::SelfNeed, ..) => self_need(alloc, draft, site),
+        (BoardFault::SelfNeed, ..) => self_need(draft, site).told(alloc),
         (BoardFault::BadRail, "target", _) => unknown_target(alloc, draft, site),
         (BoardFault::BadRail, ..) => bad_page(alloc, draft, site, value),
-        _ => bad_value(alloc, draft, site, key, value),
+        _ => bad_value(alloc, draft, site, key, value, key_help(site.kind(), key)),
     }
 }
 

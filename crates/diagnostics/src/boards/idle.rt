@@ -7,7 +7,8 @@ ghost use Rattle.diagnostics.specs.Doubts.{may_select, is_idle, is_idle_rail};
 
 use crate::boards::doubt::Doubt;
 use crate::boards::draft::Site;
-use crate::quote::Quoted;
+use crate::facts_here::{rail_word, target_word};
+use crate::sentence::Sentence;
 use board::{Allow, Board, Rail, Range, Target};
 use pmbus_table::code::{OPERATION, PAGE};
 use pmbus_table::enables;
@@ -112,11 +113,13 @@ fn idle_doubt(
     index: usize,
     rail: &Rail,
 ) -> Result<Doubt, AllocError> {
-    let name = Quoted(board.rail_name(index).unwrap_or(""));
-    let target = Quoted(board.target_name(rail.target()).unwrap_or(""));
-    let text = format!(in alloc; "no entry of {target} can turn on rail {name}")?;
+    let message = Sentence::two(
+        "no entry of {} can turn on rail {}",
+        target_word(board, rail.target()),
+        rail_word(board, index),
+    );
     let help = idle_help(board.target(rail.target()));
-    Doubt::new(alloc, Site::Rail(index), "name", text, help)
+    Doubt::new(alloc, Site::Rail(index), "name", message, help)
 }
 
 /// A doubt for each rail that no entry of its target can turn on.

@@ -3,18 +3,17 @@
 use crate::boards::describe::{name_of, shown};
 use crate::boards::draft::{Draft, Site};
 use crate::boards::kind::Kind;
-use crate::quote::{Quoted, listed};
+use crate::quote::listed;
 use crate::remark::Remark;
+use crate::sentence::{Advice, Sentence, Word};
 use crate::suggestion::lowercase_suggestion;
 use std::alloc::{AllocError, Global};
 use toml::{Table, Value};
 
 /// What stands at a key.
-pub(crate) fn key_help(alloc: Global, kind: Kind, key: &str) -> Result<Option<String>, AllocError> {
-    match kind.holds(key) {
-        Some(holds) => Ok(Some(format!(in alloc; "\"{key}\" is {holds}")?)),
-        None => Ok(None),
-    }
+pub(crate) fn key_help(kind: Kind, key: &str) -> Option<Sentence<'_>> {
+    let holds = Word::Text(kind.holds(key)?);
+    Some(Sentence::two("\"{}\" is {}", Word::Text(key), holds))
 }
 
 /// The first key that a table needs and hasn't.
@@ -35,12 +34,14 @@ fn missing_name(
 fn no_target(alloc: Global) -> Result<Remark, AllocError> {
     let names = Kind::Target.key_names(alloc)?;
     let names = listed(alloc, &names)?;
-    Ok(Remark {
-        message: String::from_str(alloc, "the board has no target")?,
-        help: Some(format!(in alloc;
-            "a target begins with a line [[target]]; its keys are {names}"
-        )?),
-    })
+    let advice = Advice {
+        message: Sentence::plain("the board has no target"),
+        help: Some(Sentence::one(
+            "a target begins with a line [[target]]; its keys are {}",
+            Word::Text(&names),
+        )),
+    };
+    advice.told(alloc)
 }
 
 /// What is said of a table without a key that it needs.
@@ -57,11 +58,15 @@ pub(crate) fn missing_key(
     let Some(key) = missing_name(alloc, kind, table)? else {
         return Remark::plain(alloc, "a key is missing");
     };
-    let name = name_of(alloc, draft, site)?;
-    Ok(Remark {
-        message: format!(in alloc; "{name} has no key \"{key}\"")?,
-        help: key_help(alloc, kind, key)?,
-    })
+    let advice = Advice {
+        message: Sentence::two(
+            "{} has no key \"{}\"",
+            name_of(draft, site),
+            Word::Text(key),
+        ),
+        help: key_help(kind, key),
+    };
+    advice.told(alloc)
 }
 
 /// What is said of a key that no table of its kind has.
@@ -71,29 +76,25 @@ fn unknown_key(
     site: Site,
     key: &str,
 ) -> Result<Remark, AllocError> {
-    let name = name_of(alloc, draft, site)?;
     let names = site.kind().key_names(alloc)?;
     let help = lowercase_suggestion(alloc, key, &names)?;
     let names = listed(alloc, &names)?;
-    let key = Quoted(key);
-    Ok(Remark {
-        message: format!(in alloc; "unknown key {key} of {name}; its keys are {names}")?,
-        help,
-    })
+    let message = Sentence::three(
+        "unknown key {} of {}; its keys are {}",
+        Word::Name(key),
+        name_of(draft, site),
+        Word::Text(&names),
+    );
+    message.helped_by(alloc, help)
 }
 
 /// What is said of a key that an entry of this form hasn't.
-fn key_of_other_form(
-    alloc: Global,
-    draft: &Draft<'_>,
-    site: Site,
-    key: &str,
-) -> Result<Remark, AllocError> {
-    let name = name_of(alloc, draft, site)?;
-    let form = Quoted(draft.text(site, "form").unwrap_or(""));
-    Remark::plain(
-        alloc,
-        &format!(in alloc; "{name} can't have \"{key}\": {form} has none")?,
+fn key_of_other_form<'a>(draft: &Draft<'a>, site: Site, key: &'a str) -> Sentence<'a> {
+    Sentence::three(
+        "{} can't have \"{}\": {} has none",
+        name_of(draft, site),
+        Word::Text(key),
+        Word::Name(draft.text(site, "form").unwrap_or("")),
     )
 }
 
@@ -104,13 +105,19 @@ pub(crate) fn bad_value(
     site: Site,
     key: &str,
     value: &Value,
+    help: Option<Sentence>,
 ) -> Result<Remark, AllocError> {
-    let name = name_of(alloc, draft, site)?;
     let value = shown(alloc, value)?;
-    Ok(Remark {
-        message: format!(in alloc; "\"{key}\" of {name} can't be {value}")?,
-        help: key_help(alloc, site.kind(), key)?,
-    })
+    let advice = Advice {
+        message: Sentence::three(
+            "\"{}\" of {} can't be {}",
+            Word::Text(key),
+            name_of(draft, site),
+            Word::Text(&value),
+        ),
+        help,
+    };
+    advice.told(alloc)
 }
 
 /// What is said of a key at which something of another sort stands.
@@ -121,13 +128,19 @@ fn bad_sort(
     key: &str,
     value: &Value,
 ) -> Result<Remark, AllocError> {
-    let name = name_of(alloc, draft, site)?;
     let sort = value.type_str();
     let value = shown(alloc, value)?;
-    Ok(Remark {
-        message: format!(in alloc; "\"{key}\" of {name} can't be the {sort} {value}")?,
-        help: key_help(alloc, site.kind(), key)?,
-    })
+    let advice = Advice {
+        message: Sentence::four(
+            "\"{}\" of {} can't be the {} {}",
+            Word::Text(key),
+            name_of(draft, site),
+            Word::Text(sort),
+            Word::Text(&value),
+        ),
+        help: key_help(site.kind(), key),
+    };
+    advice.told(alloc)
 }
 
 /// What is said of a key that can't be, or not with what stands there.
@@ -148,5 +161,5 @@ pub(crate) fn bad_key(
     if kind.is_bad(alloc, table, key)? {
         return bad_sort(alloc, draft, site, key, value);
     }
-    key_of_other_form(alloc, draft, site, key)
+    key_of_other_form(draft, site, key).helped_by(alloc, None)
 }

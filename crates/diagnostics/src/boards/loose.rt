@@ -7,7 +7,8 @@ ghost use Rattle.diagnostics.specs.Doubts.{is_loose_rail};
 
 use crate::boards::doubt::Doubt;
 use crate::boards::draft::Site;
-use crate::quote::Quoted;
+use crate::facts_here::{rail_word, target_word};
+use crate::sentence::{Sentence, Word};
 use board::{Allow, Board, Rail, Target};
 use pmbus_table::{carries_voltage, within};
 use smbus::Form;
@@ -82,31 +83,25 @@ fn microvolts(mantissa: u16, exponent: i8) -> u64 {
         .unwrap_or(0)
 }
 
-/// A voltage that a target takes, with its microvolts.
-fn voltage_text(alloc: Global, device: Option<&Target>) -> Result<String, AllocError> {
-    let (greatest, exponent) = match device {
-        Some(device) => (greatest_voltage(device), device.exponent()),
-        None => (0, 0),
-    };
-    let most = microvolts(greatest, exponent);
-    format!(in alloc; "{greatest}, {most} uV")
-}
-
 fn loose_doubt(
     alloc: Global,
     board: &Board,
     index: usize,
     rail: &Rail,
 ) -> Result<Doubt, AllocError> {
-    let name = Quoted(board.rail_name(index).unwrap_or(""));
-    let target = Quoted(board.target_name(rail.target()).unwrap_or(""));
-    let limit = rail.limit_uv();
-    let greatest = voltage_text(alloc, board.target(rail.target()))?;
-    let text = format!(in alloc;
-        "no voltage that {target} takes is over the limit of rail {name}, {limit} uV: \
-         it takes up to {greatest}"
-    )?;
-    Doubt::new(alloc, Site::Rail(index), "limit_uv", text, HELP)
+    let (greatest, exponent) = match board.target(rail.target()) {
+        Some(device) => (greatest_voltage(device), device.exponent()),
+        None => (0, 0),
+    };
+    let message = Sentence::five(
+        "no voltage that {} takes is over the limit of rail {}, {} uV: it takes up to {}, {} uV",
+        target_word(board, rail.target()),
+        rail_word(board, index),
+        Word::Number(u64::from(rail.limit_uv())),
+        Word::Number(u64::from(greatest)),
+        Word::Number(microvolts(greatest, exponent)),
+    );
+    Doubt::new(alloc, Site::Rail(index), "limit_uv", message, HELP)
 }
 
 /// A doubt for each rail whose limit no voltage can break that its target takes.

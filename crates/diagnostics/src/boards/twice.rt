@@ -1,11 +1,9 @@
 //! What stands twice in a board file.
 
-use crate::boards::describe::name_of;
+use crate::boards::describe::{name_of, numbered};
 use crate::boards::draft::{Draft, Site};
 use crate::boards::scan::number_of;
-use crate::quote::Quoted;
-use crate::remark::Remark;
-use std::alloc::{AllocError, Global};
+use crate::sentence::{Advice, Sentence, Word};
 use toml::Value;
 
 /// The table of an index in the same list.
@@ -59,102 +57,71 @@ pub(crate) fn first_alike(draft: &Draft<'_>, site: Site, keys: &[&str]) -> Optio
 }
 
 /// Where another table stands, or a key of it.
-pub(crate) fn place_help(
-    alloc: Global,
-    draft: &Draft<'_>,
-    other: Site,
-    key: Option<&str>,
-) -> Result<Option<String>, AllocError> {
+pub(crate) fn place_help<'a>(draft: &Draft<'a>, other: Site, key: Option<&str>) -> Sentence<'a> {
     let number = number_of(&draft.lines, other, key);
     let name = match (key, other) {
-        (Some("name"), Site::Target(index)) => numbered(alloc, "target", index)?,
-        (Some("name"), Site::Rail(index)) => numbered(alloc, "rail", index)?,
-        _ => name_of(alloc, draft, other)?,
+        (Some("name"), Site::Target(index)) => numbered("target", index),
+        (Some("name"), Site::Rail(index)) => numbered("rail", index),
+        _ => name_of(draft, other),
     };
-    Ok(Some(format!(in alloc; "{name} has it in line {number}")?))
-}
-
-/// A table by its number, counted from 1.
-fn numbered(alloc: Global, word: &str, index: usize) -> Result<String, AllocError> {
-    let number = index.saturating_add(1);
-    format!(in alloc; "{word} {number}")
+    Sentence::two("{} has it in line {}", name, Word::Count(number))
 }
 
 /// What is said of a table that has the same at these keys as one above it.
-fn twice(
-    alloc: Global,
-    draft: &Draft<'_>,
-    site: Site,
-    keys: &[&str],
-    message: String,
-) -> Result<Remark, AllocError> {
+fn twice<'a>(draft: &Draft<'a>, site: Site, keys: &[&str], message: Sentence<'a>) -> Advice<'a> {
     let help = match (first_alike(draft, site, keys), keys) {
-        (Some(other), [key]) => place_help(alloc, draft, other, Some(*key))?,
-        (Some(other), _) => place_help(alloc, draft, other, None)?,
+        (Some(other), [key]) => Some(place_help(draft, other, Some(*key))),
+        (Some(other), _) => Some(place_help(draft, other, None)),
         (None, _) => None,
     };
-    Ok(Remark { message, help })
+    Advice { message, help }
 }
 
 /// What is said of a name, or of an entry, that stands above.
-pub(crate) fn same_name(
-    alloc: Global,
-    draft: &Draft<'_>,
-    site: Site,
-) -> Result<Remark, AllocError> {
-    let name = Quoted(draft.text(site, "name").unwrap_or(""));
+pub(crate) fn same_name<'a>(draft: &Draft<'a>, site: Site) -> Advice<'a> {
+    let name = Word::Name(draft.text(site, "name").unwrap_or(""));
     let message = match site {
         Site::Target(index) => {
-            let target = numbered(alloc, "target", index)?;
-            format!(in alloc; "two targets have the name {name}: this is {target}")?
+            let target = numbered("target", index);
+            Sentence::two("two targets have the name {}: this is {}", name, target)
         }
         Site::Rail(index) => {
-            let rail = numbered(alloc, "rail", index)?;
-            format!(in alloc; "two rails have the name {name}: this is {rail}")?
+            let rail = numbered("rail", index);
+            Sentence::two("two rails have the name {}: this is {}", name, rail)
         }
-        _ => return same_entry(alloc, draft, site),
+        _ => return same_entry(draft, site),
     };
-    twice(alloc, draft, site, &["name"], message)
+    twice(draft, site, &["name"], message)
 }
 
 /// What is said of an entry whose form and command stand above.
-fn same_entry(alloc: Global, draft: &Draft<'_>, site: Site) -> Result<Remark, AllocError> {
-    let name = name_of(alloc, draft, site)?;
-    let form = Quoted(draft.text(site, "form").unwrap_or(""));
+fn same_entry<'a>(draft: &Draft<'a>, site: Site) -> Advice<'a> {
+    let name = name_of(draft, site);
+    let form = Word::Name(draft.text(site, "form").unwrap_or(""));
     let message = match draft.text(site, "command") {
         Some(command) => {
-            let command = Quoted(command);
-            format!(in alloc; "{name} has {form} {command}, which stands above")?
+            let command = Word::Name(command);
+            Sentence::three("{} has {} {}, which stands above", name, form, command)
         }
-        None => format!(in alloc; "{name} has {form}, which stands above")?,
+        None => Sentence::two("{} has {}, which stands above", name, form),
     };
-    twice(alloc, draft, site, &["form", "command"], message)
+    twice(draft, site, &["form", "command"], message)
 }
 
 /// What is said of an address that a target above has.
-pub(crate) fn same_address(
-    alloc: Global,
-    draft: &Draft<'_>,
-    site: Site,
-    value: &Value,
-) -> Result<Remark, AllocError> {
-    let name = name_of(alloc, draft, site)?;
-    let address = value.as_integer().unwrap_or(0);
-    let message = format!(in alloc; "{name} has the address {address:#04x} of another target")?;
-    twice(alloc, draft, site, &["address"], message)
+pub(crate) fn same_address<'a>(draft: &Draft<'a>, site: Site, value: &Value) -> Advice<'a> {
+    let address = Word::Address(value.as_integer().unwrap_or(0));
+    let name = name_of(draft, site);
+    let message = Sentence::two("{} has the address {} of another target", name, address);
+    twice(draft, site, &["address"], message)
 }
 
 /// What is said of a rail whose page has a rail above.
-pub(crate) fn same_page(
-    alloc: Global,
-    draft: &Draft<'_>,
-    site: Site,
-    other: Site,
-) -> Result<Remark, AllocError> {
-    let name = name_of(alloc, draft, site)?;
-    let target = Quoted(draft.text(site, "target").unwrap_or(""));
-    Ok(Remark {
-        message: format!(in alloc; "{name} is on a page of target {target} that has a rail")?,
-        help: place_help(alloc, draft, other, Some("page"))?,
-    })
+pub(crate) fn same_page<'a>(draft: &Draft<'a>, site: Site, other: Site) -> Advice<'a> {
+    let target = Word::Name(draft.text(site, "target").unwrap_or(""));
+    let name = name_of(draft, site);
+    Advice {
+        message: Sentence::two("{} is on a page of target {} that has a rail", name, target),
+        help: Some(place_help(draft, other, Some("page"))),
+    }
 }

@@ -9,10 +9,11 @@ ghost use Rattle.diagnostics.specs.Doubts.{target_doubts};
 use crate::boards::doubt::Doubt;
 use crate::boards::draft::Site;
 use crate::boards::idle::{ALL_PAGES, is_among};
-use crate::quote::Quoted;
+use crate::facts_here::target_word;
+use crate::sentence::{Sentence, Word};
 use board::{Board, Target};
 use pmbus_table::code::{PAGE, WRITE_PROTECT};
-use pmbus_table::{by_code, name_of, permits};
+use pmbus_table::{by_code, permits};
 use seq_program::{Program, message_of};
 use smbus::{Form, Message, carries_code};
 use std::alloc::{AllocError, Global};
@@ -142,15 +143,11 @@ fn starts_protected(messages: &[Message], device: &Target) -> bool
     !is_written(messages, device, WRITE_PROTECT) && may_forbid(messages, device)
 }
 
-/// The name of the command that a message carries.
-fn command_name(alloc: Global, message: Option<&Message>) -> Result<String, AllocError> {
-    let code = match message {
-        Some(message) => message.code,
-        None => 0,
-    };
-    match by_code(code) {
-        Some(command) => name_of(alloc, command),
-        None => Ok(String::new(alloc)),
+/// The command that a message carries.
+fn command_word(message: Option<&Message>) -> Word<'static> {
+    match message {
+        Some(message) => Word::Command(message.code),
+        None => Word::Nothing,
     }
 }
 
@@ -161,16 +158,15 @@ fn page_doubt(
     device: &Target,
     messages: &[Message],
 ) -> Result<Doubt, AllocError> {
-    let name = Quoted(board.target_name(index).unwrap_or(""));
     let read = messages
         .iter()
         .find(|message| is_read_of_page(device, message));
-    let command = command_name(alloc, read)?;
-    let text = format!(in alloc;
-        "PAGE of {name} may be 255 at the start, all pages, and the program reads {command}, which \
-         needs one"
-    )?;
-    Doubt::new(alloc, Site::Target(index), "start_pages", text, SELECT)
+    let message = Sentence::two(
+        "PAGE of {} may be 255 at the start, all pages, and the program reads {}, which needs one",
+        target_word(board, index),
+        command_word(read),
+    );
+    Doubt::new(alloc, Site::Target(index), "start_pages", message, SELECT)
 }
 
 fn protect_doubt(
@@ -180,7 +176,6 @@ fn protect_doubt(
     device: &Target,
     messages: &[Message],
 ) -> Result<Doubt, AllocError> {
-    let name = Quoted(board.target_name(index).unwrap_or(""));
     let protect = device
         .start_protects()
         .iter()
@@ -190,16 +185,18 @@ fn protect_doubt(
     let written = messages
         .iter()
         .find(|message| is_forbidden(device, protect, message));
-    let command = command_name(alloc, written)?;
-    let text = format!(in alloc;
-        "WRITE_PROTECT of {name} may be 0x{protect:02X} at the start, which forbids {command}, and \
-         the program writes that"
-    )?;
+    let message = Sentence::three(
+        "WRITE_PROTECT of {} may be 0x{} at the start, which forbids {}, and the program writes \
+         that",
+        target_word(board, index),
+        Word::Byte(u16::from(protect)),
+        command_word(written),
+    );
     Doubt::new(
         alloc,
         Site::Target(index),
         "start_protects",
-        text,
+        message,
         UNPROTECT,
     )
 }

@@ -6,8 +6,8 @@ use crate::boards::document::with;
 use crate::boards::draft::{Draft, Site};
 use crate::boards::keys::{bad_value, key_help};
 use crate::boards::kind::Kind;
-use crate::quote::Quoted;
 use crate::remark::Remark;
+use crate::sentence::{Advice, Sentence, Word};
 use board::BoardFault;
 use std::alloc::{AllocError, Global};
 use toml::{Table, Value};
@@ -40,16 +40,14 @@ pub(crate) fn bad_address(
     target: &Table,
     value: &Value,
 ) -> Result<Remark, AllocError> {
-    let remark = bad_value(alloc, draft, site, "address", value)?;
-    match shifted_address(alloc, target, value)? {
-        Some(address) => Ok(Remark {
-            message: remark.message,
-            help: Some(format!(in alloc;
-                "without the direction bit, the last of eight, it is {address:#04x}"
-            )?),
-        }),
-        None => Ok(remark),
-    }
+    let help = match shifted_address(alloc, target, value)? {
+        Some(address) => Some(Sentence::one(
+            "without the direction bit, the last of eight, it is {}",
+            Word::Address(address),
+        )),
+        None => key_help(site.kind(), "address"),
+    };
+    bad_value(alloc, draft, site, "address", value, help)
 }
 
 /// What is said of start values that can't be.
@@ -60,18 +58,24 @@ pub(crate) fn bad_start(
     target: &Table,
     key: &str,
 ) -> Result<Remark, AllocError> {
-    let name = name_of(alloc, draft, site)?;
-    let message = match bad_start_value(alloc, target, key)? {
-        Some(value) => {
-            let value = shown(alloc, value)?;
-            format!(in alloc; "\"{key}\" of {name} can't have {value} among its values")?
-        }
-        None => format!(in alloc; "\"{key}\" of {name} has no value")?,
+    let value = match bad_start_value(alloc, target, key)? {
+        Some(value) => shown(alloc, value)?,
+        None => String::new(alloc),
     };
-    Ok(Remark {
-        message,
-        help: key_help(alloc, site.kind(), key)?,
-    })
+    let (key_word, name) = (Word::Text(key), name_of(draft, site));
+    let message = if value.is_empty() {
+        Sentence::two("\"{}\" of {} has no value", key_word, name)
+    } else {
+        let value = Word::Text(&value);
+        Sentence::three(
+            "\"{}\" of {} can't have {} among its values",
+            key_word,
+            name,
+            value,
+        )
+    };
+    let help = key_help(site.kind(), key);
+    Advice { message, help }.told(alloc)
 }
 
 /// Whether an entry's form carries words.
@@ -92,26 +96,19 @@ pub(crate) fn bad_range(
     key: &str,
     value: &Value,
 ) -> Result<Remark, AllocError> {
-    let remark = bad_value(alloc, draft, site, key, value)?;
-    let form = Quoted(draft.text(site, "form").unwrap_or(""));
-    let help = match key {
-        "length" => format!(in alloc;
-            "{form} takes [LOW, HIGH], two numbers from 1 to 255, the first not above the second"
-        )?,
-        _ => {
-            let high = if carries_words(alloc, entry)? {
-                65_535
-            } else {
-                255
-            };
-            format!(in alloc;
-                "{form} takes [LOW, HIGH], two numbers from 0 to {high}, the first not above the \
-                 second"
-            )?
-        }
+    let form = Word::Name(draft.text(site, "form").unwrap_or(""));
+    let help = if key == "length" {
+        Sentence::one(
+            "{} takes [LOW, HIGH], two numbers from 1 to 255, the first not above the second",
+            form,
+        )
+    } else {
+        let carries_words = carries_words(alloc, entry)?;
+        Sentence::two(
+            "{} takes [LOW, HIGH], two numbers from 0 to {}, the first not above the second",
+            form,
+            Word::Number(if carries_words { 65_535 } else { 255 }),
+        )
     };
-    Ok(Remark {
-        message: remark.message,
-        help: Some(help),
-    })
+    bad_value(alloc, draft, site, key, value, Some(help))
 }

@@ -5,11 +5,12 @@ use crate::boards::describe::{name_of, shown};
 use crate::boards::draft::{Draft, Site};
 use crate::boards::twice::{first_alike, same_page};
 use crate::operand::Operand;
-use crate::quote::{Quoted, listed};
+use crate::quote::listed;
 use crate::remark::Remark;
+use crate::sentence::{Advice, Sentence, Word, told};
 use crate::suggestion::lowercase_suggestion;
 use crate::unknown_command::{command_help, forms_help};
-use pmbus_table::by_name;
+use pmbus_table::{Command, by_name};
 use smbus::form_named;
 use std::alloc::{AllocError, Global};
 use toml::{Table, Value};
@@ -43,11 +44,15 @@ fn names_help(
 ) -> Result<Option<String>, AllocError> {
     match lowercase_suggestion(alloc, word, names)? {
         Some(help) => Ok(Some(help)),
-        None => {
-            let names = listed(alloc, names)?;
-            Ok(Some(format!(in alloc; "the {sort} are {names}")?))
-        }
+        None => names_listed(alloc, sort, names),
     }
+}
+
+/// Lists names of a sort.
+fn names_listed(alloc: Global, sort: &str, names: &[&str]) -> Result<Option<String>, AllocError> {
+    let names = listed(alloc, names)?;
+    let sentence = Sentence::two("the {} are {}", Word::Text(sort), Word::Text(&names));
+    told(alloc, Some(sentence))
 }
 
 /// What is said of an entry whose form isn't known.
@@ -56,14 +61,27 @@ pub(crate) fn unknown_form(
     draft: &Draft<'_>,
     site: Site,
 ) -> Result<Remark, AllocError> {
-    let name = name_of(alloc, draft, site)?;
     let word = draft.text(site, "form").unwrap_or("");
     let help = names_help(alloc, word, "forms", &FORMS)?;
-    let word = Quoted(word);
-    Ok(Remark {
-        message: format!(in alloc; "unknown form {word} of {name}")?,
-        help,
-    })
+    Sentence::two(
+        "unknown form {} of {}",
+        Word::Name(word),
+        name_of(draft, site),
+    )
+    .helped_by(alloc, help)
+}
+
+/// What is said of a command that doesn't take the form of its entry.
+fn other_form<'a>(draft: &Draft<'a>, site: Site, command: Command) -> Advice<'a> {
+    Advice {
+        message: Sentence::three(
+            "{} doesn't take \"{}\" in {}",
+            Word::Name(draft.text(site, "form").unwrap_or("")),
+            Word::Command(command.code()),
+            name_of(draft, site),
+        ),
+        help: forms_help(command),
+    }
 }
 
 /// What is said of an entry whose command isn't known, or doesn't take its form.
@@ -72,25 +90,20 @@ pub(crate) fn unknown_command(
     draft: &Draft<'_>,
     site: Site,
 ) -> Result<Remark, AllocError> {
-    let name = name_of(alloc, draft, site)?;
-    let form_word = draft.text(site, "form").unwrap_or("");
     let word = draft.text(site, "command").unwrap_or("");
     if let Some(command) = by_name(word) {
-        let form_word = Quoted(form_word);
-        return Ok(Remark {
-            message: format!(in alloc; "{form_word} doesn't take \"{word}\" in {name}")?,
-            help: forms_help(alloc, command)?,
-        });
+        return other_form(draft, site, command).told(alloc);
     }
-    let help = match form_named(form_word) {
+    let help = match form_named(draft.text(site, "form").unwrap_or("")) {
         Some(form) => command_help(alloc, word, Operand::Command(form), MANUFACTURER_RULE)?,
         None => None,
     };
-    let word = Quoted(word);
-    Ok(Remark {
-        message: format!(in alloc; "unknown command {word} of {name}")?,
-        help,
-    })
+    Sentence::two(
+        "unknown command {} of {}",
+        Word::Name(word),
+        name_of(draft, site),
+    )
+    .helped_by(alloc, help)
 }
 
 /// The names of tables.
@@ -113,30 +126,26 @@ pub(crate) fn unknown_need(
     index: usize,
     rail: &Table,
 ) -> Result<Remark, AllocError> {
-    let name = name_of(alloc, draft, site)?;
     let word = bad_need(alloc, draft, index, rail)?.unwrap_or("");
     let rails = names_of(alloc, draft.rails)?;
     let help = names_help(alloc, word, "rails", &rails)?;
-    let word = Quoted(word);
-    Ok(Remark {
-        message: format!(in alloc; "{name} needs {word}, and no rail has that name")?,
-        help,
-    })
+    let name = name_of(draft, site);
+    Sentence::two(
+        "{} needs {}, and no rail has that name",
+        name,
+        Word::Name(word),
+    )
+    .helped_by(alloc, help)
 }
 
 /// What is said of a rail that needs itself.
-pub(crate) fn self_need(
-    alloc: Global,
-    draft: &Draft<'_>,
-    site: Site,
-) -> Result<Remark, AllocError> {
-    let name = name_of(alloc, draft, site)?;
-    Ok(Remark {
-        message: format!(in alloc; "{name} needs itself")?,
-        help: Some(format!(in alloc;
-            "\"needs\" names the other rails that have to be good before it is turned on"
-        )?),
-    })
+pub(crate) fn self_need<'a>(draft: &Draft<'a>, site: Site) -> Advice<'a> {
+    Advice {
+        message: Sentence::one("{} needs itself", name_of(draft, site)),
+        help: Some(Sentence::plain(
+            "\"needs\" names the other rails that have to be good before it is turned on",
+        )),
+    }
 }
 
 /// What is said of a rail whose target isn't there.
@@ -145,32 +154,55 @@ pub(crate) fn unknown_target(
     draft: &Draft<'_>,
     site: Site,
 ) -> Result<Remark, AllocError> {
-    let name = name_of(alloc, draft, site)?;
     let word = draft.text(site, "target").unwrap_or("");
     let targets = names_of(alloc, draft.targets)?;
     let help = names_help(alloc, word, "targets", &targets)?;
-    let word = Quoted(word);
-    Ok(Remark {
-        message: format!(in alloc; "{name} is on target {word}, which isn't there")?,
-        help,
-    })
+    let name = name_of(draft, site);
+    Sentence::two(
+        "{} is on target {}, which isn't there",
+        name,
+        Word::Name(word),
+    )
+    .helped_by(alloc, help)
 }
 
 /// How many pages the target of a rail has.
-fn pages_help(alloc: Global, draft: &Draft<'_>, site: Site) -> Result<Option<String>, AllocError> {
+fn pages_help<'a>(draft: &Draft<'a>, site: Site) -> Option<Sentence<'a>> {
     let word = draft.text(site, "target").unwrap_or("");
     for index in 0..draft.targets.len() {
         let target = Site::Target(index);
         match (draft.text(target, "name"), draft.value(target, "pages")) {
             (Some(name), Some(Value::Integer(pages))) if name == word => {
-                return Ok(Some(format!(in alloc;
-                    "the \"pages\" of target \"{name}\" is {pages}, and its first page is 0"
-                )?));
+                return Some(Sentence::two(
+                    "the \"pages\" of target \"{}\" is {}, and its first page is 0",
+                    Word::Text(name),
+                    Word::Integer(*pages),
+                ));
             }
             _ => {}
         }
     }
-    Ok(None)
+    None
+}
+
+/// What is said of a rail on a page that its target hasn't.
+fn foreign_page(
+    alloc: Global,
+    draft: &Draft<'_>,
+    site: Site,
+    value: &Value,
+) -> Result<Remark, AllocError> {
+    let page = shown(alloc, value)?;
+    let advice = Advice {
+        message: Sentence::three(
+            "{} is on page {}, which target {} hasn't",
+            name_of(draft, site),
+            Word::Text(&page),
+            Word::Name(draft.text(site, "target").unwrap_or("")),
+        ),
+        help: pages_help(draft, site),
+    };
+    advice.told(alloc)
 }
 
 /// What is said of a rail on a page that its target hasn't, or that has a rail above.
@@ -180,14 +212,8 @@ pub(crate) fn bad_page(
     site: Site,
     value: &Value,
 ) -> Result<Remark, AllocError> {
-    if let Some(other) = first_alike(draft, site, &["target", "page"]) {
-        return same_page(alloc, draft, site, other);
+    match first_alike(draft, site, &["target", "page"]) {
+        Some(other) => same_page(draft, site, other).told(alloc),
+        None => foreign_page(alloc, draft, site, value),
     }
-    let name = name_of(alloc, draft, site)?;
-    let target = Quoted(draft.text(site, "target").unwrap_or(""));
-    let page = shown(alloc, value)?;
-    Ok(Remark {
-        message: format!(in alloc; "{name} is on page {page}, which target {target} hasn't")?,
-        help: pages_help(alloc, draft, site)?,
-    })
 }
