@@ -53,6 +53,28 @@ fn stop_of(alloc: Global, scenario: &Scenario<'_>, index: usize) -> Result<Optio
     }
 }
 
+/// What is said of an answer that doesn't fit where a run stops.
+fn stop_remark(
+    alloc: Global,
+    scenario: &Scenario<'_>,
+    program: &str,
+    index: usize,
+    stop: &Stop,
+) -> Result<Remark, AllocError> {
+    let misfit = step_misfit(alloc, scenario, stop)?;
+    let place = place_text(alloc, program, stop.machine.place)?;
+    Ok(Remark {
+        message: format!(in alloc; "answer {index} doesn't fit: {misfit}")?,
+        help: Some(format!(in alloc; "it answers {place}")?),
+    })
+}
+
+/// The same of an answer to which no run comes.
+fn bare_remark(alloc: Global, index: usize) -> Result<Remark, AllocError> {
+    let message = format!(in alloc; "answer {index} doesn't fit")?;
+    Remark::plain(alloc, &message)
+}
+
 /// What is said of an answer that doesn't fit.
 fn bad_answer(
     alloc: Global,
@@ -62,16 +84,39 @@ fn bad_answer(
 ) -> Result<Remark, AllocError>
     requires { IsOnItsBoard scenario.now }
 {
-    let Some(stop) = stop_of(alloc, scenario, index)? else {
-        let message = format!(in alloc; "answer {index} doesn't fit")?;
-        return Remark::plain(alloc, &message);
-    };
-    let misfit = step_misfit(alloc, scenario, &stop)?;
-    let place = place_text(alloc, program, stop.machine.place)?;
-    Ok(Remark {
-        message: format!(in alloc; "answer {index} doesn't fit: {misfit}")?,
-        help: Some(format!(in alloc; "it answers {place}")?),
-    })
+    match stop_of(alloc, scenario, index)? {
+        Some(stop) => stop_remark(alloc, scenario, program, index, &stop),
+        None => bare_remark(alloc, index),
+    }
+}
+
+/// The place at which a run stops, if it comes so far as to the answer of an index.
+fn last_place(
+    alloc: Global,
+    scenario: &Scenario<'_>,
+    index: usize,
+) -> Result<Option<usize>, AllocError>
+    requires { IsOnItsBoard scenario.now }
+{
+    match stop_of(alloc, scenario, index)? {
+        Some(stop) => Ok(Some(stop.machine.place)),
+        None => Ok(None),
+    }
+}
+
+/// Where a program ended.
+fn end_help(
+    alloc: Global,
+    program: &str,
+    place: Option<usize>,
+) -> Result<Option<String>, AllocError> {
+    match place {
+        Some(place) => {
+            let place = place_text(alloc, program, place)?;
+            Ok(Some(format!(in alloc; "it ended with the answer above, at {place}")?))
+        }
+        None => Ok(None),
+    }
 }
 
 /// What is said of an answer behind the last step.
@@ -83,17 +128,10 @@ fn late_answer(
 ) -> Result<Remark, AllocError>
     requires { IsOnItsBoard scenario.now }
 {
-    let help = match stop_of(alloc, scenario, index)? {
-        Some(stop) => {
-            let place = place_text(alloc, program, stop.machine.place)?;
-            Some(format!(in alloc; "it ended with the answer above, at {place}")?)
-        }
-        None => None,
-    };
-    Ok(Remark {
-        message: format!(in alloc; "answer {index} comes after the end of the program")?,
-        help,
-    })
+    let place = last_place(alloc, scenario, index)?;
+    let help = end_help(alloc, program, place)?;
+    let message = format!(in alloc; "answer {index} comes after the end of the program")?;
+    Ok(Remark { message, help })
 }
 
 /// What is said of a fault.

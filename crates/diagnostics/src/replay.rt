@@ -5,6 +5,7 @@ ghost use Rattle.simulator.specs.declared.fault.RunFault.TheVariants.{Memory};
 ghost use Rattle.simulator.specs.Traces.{Trace};
 ghost use Rattle.session.specs.Scenarios.{IsOnItsBoard, IsRunOf, IsFaultOf};
 
+use bundles::AnswerLines;
 use seq_program::program_is_valid;
 use session::Scenario;
 use simulator::{Entry, Machine, RunFault, runs_go_on, start, step_at};
@@ -18,12 +19,13 @@ pub(crate) struct Stop {
     pub answer: Answer,
 }
 
-/// The machine before the answer of an index, if the run comes so far.
-pub(crate) fn stop_at(
+/// The machine after so many answers, if there are as many. They are taken from those left.
+fn machine_after(
     alloc: Global,
     scenario: &Scenario<'_>,
-    stop: usize,
-) -> Result<Option<Stop>, RunFault>
+    answers: &mut AnswerLines<'_>,
+    count: usize,
+) -> Result<Option<Machine>, RunFault>
     requires { IsOnItsBoard scenario.now }
 {
     let (board, program) = (&scenario.board, &scenario.program);
@@ -31,9 +33,8 @@ pub(crate) fn stop_at(
     let answered = &scenario.answers;
     let mut machine = start(alloc, board, &answered.pages, &answered.protects)?;
     let mut spare = Entry::empty(alloc);
-    let mut answers = answered.answers();
     let mut ticks = 0;
-    for index in 0..stop {
+    for index in 0..count {
         let Some(answer) = answers.next(alloc)? else {
             return Ok(None);
         };
@@ -43,6 +44,21 @@ pub(crate) fn stop_at(
         machine = after;
         spare = entry;
     }
+    Ok(Some(machine))
+}
+
+/// The machine before the answer of an index, if the run comes so far.
+pub(crate) fn stop_at(
+    alloc: Global,
+    scenario: &Scenario<'_>,
+    stop: usize,
+) -> Result<Option<Stop>, RunFault>
+    requires { IsOnItsBoard scenario.now }
+{
+    let mut answers = scenario.answers.answers();
+    let Some(machine) = machine_after(alloc, scenario, &mut answers, stop)? else {
+        return Ok(None);
+    };
     match answers.next(alloc)? {
         Some(answer) => Ok(Some(Stop { machine, answer })),
         None => Ok(None),

@@ -78,12 +78,21 @@ const POLL: &str = "write a OPERATION 0x80 else bad\ncount c0 10\npoll:\n\
     read a STATUS_WORD r0 else next\nif r0 0x0840 0x0000 good\nnext:\nwait 1000\nagain c0 poll\n\
     fail\ngood:\nwrite b OPERATION 0x80 else bad\nend\nbad:\nfail";
 
-/// The verdict on the table that is found for POLL.
+/// The verdict on the table that is found for a program.
+fn searched_again(alloc: Global, board: &Board, program: &Program) -> Option<Verdict> {
+    let table = table_again(alloc, board, program).ok()?;
+    verdict_again(alloc, board, program, &table).ok()
+}
+
+fn poll_again(alloc: Global, board: &Board) -> Option<Verdict> {
+    let program = program_again(alloc, board, POLL).ok()?;
+    searched_again(alloc, board, &program)
+}
+
+/// The same of POLL.
 fn found_again(alloc: Global) -> Option<Verdict> {
     let board = board_again(alloc).ok()?;
-    let program = program_again(alloc, &board, POLL).ok()?;
-    let table = table_again(alloc, &board, &program).ok()?;
-    verdict_again(alloc, &board, &program, &table).ok()
+    poll_again(alloc, &board)
 }
 
 #[test]
@@ -134,12 +143,21 @@ fn spin_table_again(alloc: Global, board: &Board) -> Result<Table, TableFault> {
     }
 }
 
-/// The verdict on SPIN and its table.
+/// The verdict on a program and the table of SPIN.
+fn judged_again(alloc: Global, board: &Board, program: &Program) -> Option<Verdict> {
+    let table = spin_table_again(alloc, board).ok()?;
+    verdict_again(alloc, board, program, &table).ok()
+}
+
+fn spin_again(alloc: Global, board: &Board) -> Option<Verdict> {
+    let program = program_again(alloc, board, SPIN).ok()?;
+    judged_again(alloc, board, &program)
+}
+
+/// The same of SPIN.
 fn checked_again(alloc: Global) -> Option<Verdict> {
     let board = board_again(alloc).ok()?;
-    let program = program_again(alloc, &board, SPIN).ok()?;
-    let table = spin_table_again(alloc, &board).ok()?;
-    verdict_again(alloc, &board, &program, &table).ok()
+    spin_again(alloc, &board)
 }
 
 #[test]
@@ -171,16 +189,40 @@ fn answers_again(alloc: Global) -> Result<Vec<Answer>, AllocError> {
     }
 }
 
-/// How many steps the run of ASKING takes, and how many ticks.
+fn trace_again(
+    alloc: Global,
+    board: &Board,
+    program: &Program,
+    answers: &[Answer],
+) -> Result<Trace, RunFault>
+    requires { All (λ i. IsOnBoard (length board.now.targets) i) program.now }
+{
+    match trace_of(alloc, board, program, 0, answers) {
+        Err(RunFault::Memory) => trace_of(alloc, board, program, 0, answers),
+        trace => trace,
+    }
+}
+
+// Each of these holds one value of many parts, since a proof grows faster than their number.
+
+/// How many steps the run of a program takes with the answers of ASKED, and how many ticks.
+fn counted_again(alloc: Global, board: &Board, program: &Program) -> Option<(usize, u64)>
+    requires { All (λ i. IsOnBoard (length board.now.targets) i) program.now }
+{
+    let answers = answers_again(alloc).ok()?;
+    let trace = trace_again(alloc, board, program, &answers).ok()?;
+    Some((trace.entries.len(), ticks_of(&trace)))
+}
+
+fn asking_again(alloc: Global, board: &Board) -> Option<(usize, u64)> {
+    let program = program_again(alloc, board, ASKING).ok()?;
+    counted_again(alloc, board, &program)
+}
+
+/// The same of ASKING.
 fn run_again(alloc: Global) -> Option<(usize, u64)> {
     let board = alert_board_again(alloc).ok()?;
-    let program = program_again(alloc, &board, ASKING).ok()?;
-    let answers = answers_again(alloc).ok()?;
-    let trace = match trace_of(alloc, &board, &program, 0, &answers) {
-        Err(RunFault::Memory) => trace_of(alloc, &board, &program, 0, &answers).ok()?,
-        trace => trace.ok()?,
-    };
-    Some((trace.entries.len(), ticks_of(&trace)))
+    asking_again(alloc, &board)
 }
 
 #[test]

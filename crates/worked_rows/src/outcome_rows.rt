@@ -7,7 +7,7 @@ use smbus::{Form, Message};
 use std::alloc::Global;
 use std::process::Abort;
 use std::test::*;
-use targets::{Outcome, after, cut_of, ending_of, fits};
+use targets::{BusState, Outcome, after, cut_of, ending_of, fits};
 
 fn ended(
     alloc: Global,
@@ -175,14 +175,28 @@ fn longest_write(alloc: Global) -> Result<Message, BoardFault> {
     Ok(message)
 }
 
-fn longest_write_ends(alloc: Global) -> Result<(bool, Outcome), BoardFault> {
-    let board = range_board(alloc)?;
+/// Whether it fits that nothing is said to a message, and how that ends.
+fn unsaid(
+    alloc: Global,
+    board: &Board,
+    state: &BusState,
+    message: &Message,
+) -> Result<(bool, Outcome), BoardFault> {
+    let answer = answer_of(alloc, NOTHING);
+    let is_fitting = fits(board, state, Some(message), &answer);
+    let (_, outcome) = after(alloc, board, state, Some(message), &answer)?;
+    Ok((is_fitting, outcome))
+}
+
+fn longest_write_on(alloc: Global, board: &Board) -> Result<(bool, Outcome), BoardFault> {
     let state = state_of(alloc, &[0, 0], &[0, 0], 0)?;
     let message = longest_write(alloc)?;
-    let answer = answer_of(alloc, NOTHING);
-    let is_fitting = fits(&board, &state, Some(&message), &answer);
-    let (_, outcome) = after(alloc, &board, &state, Some(&message), &answer)?;
-    Ok((is_fitting, outcome))
+    unsaid(alloc, board, &state, &message)
+}
+
+fn longest_write_ends(alloc: Global) -> Result<(bool, Outcome), BoardFault> {
+    let board = range_board(alloc)?;
+    longest_write_on(alloc, &board)
 }
 
 /// It is done.

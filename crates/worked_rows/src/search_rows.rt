@@ -3,19 +3,31 @@
 
 use crate::boards::two_board;
 use crate::expected::same;
+use board::Board;
 use fact_search::{FindFault, find};
-use seq_program::read_program;
+use seq_program::{Program, read_program};
 use std::alloc::Global;
 use std::test::*;
 use table_check::{Verdict, check, shaped, tables_are_judged_by_place};
 
-/// How many rows the table of a wait has, whether it belongs to the board, and the verdict on it.
-fn found(alloc: Global) -> Option<(usize, bool, Verdict)> {
+/// How many rows a table that is found has, whether it belongs to the board, and its verdict.
+type Found = (usize, bool, Verdict);
+
+fn found_for(alloc: Global, board: &Board, program: &Program) -> Option<Found> {
+    let table = find(alloc, board, program).ok()?;
+    let verdict = check(alloc, board, program, &table).ok()?;
+    Some((table.rows.len(), shaped(board, &table), verdict))
+}
+
+fn found_on(alloc: Global, board: &Board) -> Option<Found> {
+    let program = read_program(alloc, board, "wait 1\nend\n").ok()?;
+    found_for(alloc, board, &program)
+}
+
+/// The same of a wait.
+fn found(alloc: Global) -> Option<Found> {
     let board = two_board(alloc).ok()?;
-    let program = read_program(alloc, &board, "wait 1\nend\n").ok()?;
-    let table = find(alloc, &board, &program).ok()?;
-    let verdict = check(alloc, &board, &program, &table).ok()?;
-    Some((table.rows.len(), shaped(&board, &table), verdict))
+    found_on(alloc, &board)
 }
 
 #[test]

@@ -134,17 +134,25 @@ static PARTS: [(usize, Option<Parts>); 11] = [
     (16, None),
 ];
 
-/// Tries the program of MESSAGES, if it can be read.
-fn compare_messages(rt: &impl Abort, alloc: Global) -> Option<()> {
-    let board = two_board(alloc).ok()?;
-    let program = read_program(alloc, &board, MESSAGES).ok()?;
+fn compare_sent(rt: &impl Abort, alloc: Global, board: &Board, program: &Program) {
     same(rt, program.places(), 16);
-    all_send(rt, alloc, &board, &program, &SENT);
-    let sends_more = sends(alloc, &board, &program, (14, 0, Form::Alert, 0, b""));
+    all_send(rt, alloc, board, program, &SENT);
+    let sends_more = sends(alloc, board, program, (14, 0, Form::Alert, 0, b""));
     same(rt, sends_more, false);
+}
+
+fn compare_messages_on(rt: &impl Abort, alloc: Global, board: &Board) -> Option<()> {
+    let program = read_program(alloc, board, MESSAGES).ok()?;
+    compare_sent(rt, alloc, board, &program);
     all_have(rt, &program, &PARTS);
     same(rt, block_of(program.at(12)), Some(b"\x21"));
     Some(())
+}
+
+/// Tries the program of MESSAGES, if it can be read.
+fn compare_messages(rt: &impl Abort, alloc: Global) -> Option<()> {
+    let board = two_board(alloc).ok()?;
+    compare_messages_on(rt, alloc, &board)
 }
 
 #[test]
@@ -185,13 +193,17 @@ fn mask_and_ticks(program: &Program) -> Option<(u16, u32)> {
     }
 }
 
-/// Tries the program of PLAIN, if it can be read.
-fn compare_plain(rt: &impl Abort, alloc: Global) -> Option<()> {
-    let board = two_board(alloc).ok()?;
-    let program = read_program(alloc, &board, PLAIN).ok()?;
+fn compare_plain_on(rt: &impl Abort, alloc: Global, board: &Board) -> Option<()> {
+    let program = read_program(alloc, board, PLAIN).ok()?;
     all_have(rt, &program, &PLAIN_PARTS);
     same(rt, mask_and_ticks(&program), Some((0x840, 10_000_000)));
     Some(())
+}
+
+/// Tries the program of PLAIN, if it can be read.
+fn compare_plain(rt: &impl Abort, alloc: Global) -> Option<()> {
+    let board = two_board(alloc).ok()?;
+    compare_plain_on(rt, alloc, &board)
 }
 
 #[test]

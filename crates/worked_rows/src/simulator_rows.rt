@@ -36,13 +36,23 @@ fn first_step(alloc: Global, board: &Board, program: &Program) -> Result<Entry, 
     Ok(entry)
 }
 
-fn long_wait(alloc: Global) -> Option<Waited> {
-    let board = alert_board(alloc).ok()?;
-    let program = read_program(alloc, &board, "wait 10000000\nend\n").ok()?;
-    let entry = first_step(alloc, &board, &program).ok()?;
+fn waited(alloc: Global, board: &Board, program: &Program) -> Option<Waited>
+    requires { All (λ i. IsOnBoard (length board.now.targets) i) program.now }
+{
+    let entry = first_step(alloc, board, program).ok()?;
     let last = levels_at(&entry, 10_000_000);
     let behind = levels_at(&entry, 10_000_001);
     Some((entry.ticks, entry.samples.runs().len(), last, behind))
+}
+
+fn waited_on(alloc: Global, board: &Board) -> Option<Waited> {
+    let program = read_program(alloc, board, "wait 10000000\nend\n").ok()?;
+    waited(alloc, board, &program)
+}
+
+fn long_wait(alloc: Global) -> Option<Waited> {
+    let board = alert_board(alloc).ok()?;
+    waited_on(alloc, &board)
 }
 
 #[test]
@@ -91,15 +101,33 @@ fn silences(alloc: Global, count: usize) -> Result<Vec<Answer>, AllocError> {
     Ok(answers)
 }
 
-/// Whether the text of a run that waits again and again, with so many answers, ends like this.
-fn spin(alloc: Global, answers: usize, end: &str) -> Option<Result<bool, RunFault>> {
-    let board = alert_board(alloc).ok()?;
-    let program = read_program(alloc, &board, "spin:\nwait 10000000\ngoto spin\nend\n").ok()?;
+/// Whether the text of a run ends like this, if there is one.
+type Spun = Option<Result<bool, RunFault>>;
+
+fn ends_so(alloc: Global, run: Result<Trace, RunFault>, end: &str) -> Spun {
+    match run {
+        Ok(trace) => Some(Ok(trace_text(alloc, &trace)?.ends_with(end))),
+        Err(fault) => Some(Err(fault)),
+    }
+}
+
+/// The same of a program with so many answers that say nothing.
+fn spun(alloc: Global, board: &Board, program: &Program, answers: usize, end: &str) -> Spun
+    requires { All (λ i. IsOnBoard (length board.now.targets) i) program.now }
+{
     let answers = silences(alloc, answers).ok()?;
-    Some(match trace_of(alloc, &board, &program, 0, &answers) {
-        Ok(trace) => Ok(trace_text(alloc, &trace)?.ends_with(end)),
-        Err(fault) => Err(fault),
-    })
+    ends_so(alloc, trace_of(alloc, board, program, 0, &answers), end)
+}
+
+fn spun_on(alloc: Global, board: &Board, answers: usize, end: &str) -> Spun {
+    let program = read_program(alloc, board, "spin:\nwait 10000000\ngoto spin\nend\n").ok()?;
+    spun(alloc, board, &program, answers, end)
+}
+
+/// The same of a program that waits again and again.
+fn spin(alloc: Global, answers: usize, end: &str) -> Spun {
+    let board = alert_board(alloc).ok()?;
+    spun_on(alloc, &board, answers, end)
 }
 
 #[test]
@@ -123,11 +151,15 @@ fn faults_of_runs(rt: HostRuntime) {
     same(&rt, fault.index(), None);
 }
 
+fn empty_trace_on(alloc: Global, board: &Board) -> Option<Trace> {
+    let program = read_program(alloc, board, "end\n").ok()?;
+    trace_of(alloc, board, &program, 0, &[]).ok()
+}
+
 /// The run of no step.
 fn empty_trace(alloc: Global) -> Option<Trace> {
     let board = alert_board(alloc).ok()?;
-    let program = read_program(alloc, &board, "end\n").ok()?;
-    trace_of(alloc, &board, &program, 0, &[]).ok()
+    empty_trace_on(alloc, &board)
 }
 
 /// How many bytes a writer takes, and whether it fails then.

@@ -130,6 +130,28 @@ fn hollow(alloc: Global, tree: &Table) -> Result<Table, AllocError> {
     Ok(copy)
 }
 
+/// A board file with one target.
+fn with_target(alloc: Global, target: &Table) -> Result<Table, AllocError> {
+    let mut tree = Table::new(alloc);
+    put(alloc, &mut tree, "target", list_of_one(alloc, target)?)?;
+    Ok(tree)
+}
+
+/// The same with one entry.
+fn with_entry(alloc: Global, entry: &Table) -> Result<Table, AllocError> {
+    let mut target = sample(alloc)?;
+    put(alloc, &mut target, "allow", list_of_one(alloc, entry)?)?;
+    with_target(alloc, &target)
+}
+
+/// The same with one rail.
+fn with_rail(alloc: Global, rail: &Table) -> Result<Table, AllocError> {
+    let target = sample(alloc)?;
+    let mut tree = with_target(alloc, &target)?;
+    put(alloc, &mut tree, "rail", list_of_one(alloc, rail)?)?;
+    Ok(tree)
+}
+
 impl Kind {
     fn keys(self) -> &'static [Key] {
         match self {
@@ -162,21 +184,12 @@ impl Kind {
         alloc: Global,
         table: &Table,
     ) -> Result<Option<BoardFault>, AllocError> {
-        let mut tree = Table::new(alloc);
-        match self {
-            Kind::Board => return fault_of(alloc, hollow(alloc, table)?),
-            Kind::Target => put(alloc, &mut tree, "target", list_of_one(alloc, table)?)?,
-            Kind::Entry => {
-                let mut target = sample(alloc)?;
-                put(alloc, &mut target, "allow", list_of_one(alloc, table)?)?;
-                put(alloc, &mut tree, "target", list_of_one(alloc, &target)?)?;
-            }
-            Kind::Rail => {
-                let target = sample(alloc)?;
-                put(alloc, &mut tree, "target", list_of_one(alloc, &target)?)?;
-                put(alloc, &mut tree, "rail", list_of_one(alloc, table)?)?;
-            }
-        }
+        let tree = match self {
+            Kind::Board => hollow(alloc, table)?,
+            Kind::Target => with_target(alloc, table)?,
+            Kind::Entry => with_entry(alloc, table)?,
+            Kind::Rail => with_rail(alloc, table)?,
+        };
         fault_of(alloc, tree)
     }
 

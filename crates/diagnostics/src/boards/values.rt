@@ -50,6 +50,14 @@ pub(crate) fn bad_address(
     bad_value(alloc, draft, site, "address", value, help)
 }
 
+/// The first start value that can't be, if there is one.
+fn shown_start(alloc: Global, target: &Table, key: &str) -> Result<Option<String>, AllocError> {
+    match bad_start_value(alloc, target, key)? {
+        Some(value) => Ok(Some(shown(alloc, value)?)),
+        None => Ok(None),
+    }
+}
+
 /// What is said of start values that can't be.
 pub(crate) fn bad_start(
     alloc: Global,
@@ -58,21 +66,16 @@ pub(crate) fn bad_start(
     target: &Table,
     key: &str,
 ) -> Result<Remark, AllocError> {
-    let value = match bad_start_value(alloc, target, key)? {
-        Some(value) => shown(alloc, value)?,
-        None => String::new(alloc),
-    };
+    let value = shown_start(alloc, target, key)?;
     let (key_word, name) = (Word::Text(key), name_of(draft, site));
-    let message = if value.is_empty() {
-        Sentence::two("\"{}\" of {} has no value", key_word, name)
-    } else {
-        let value = Word::Text(&value);
-        Sentence::three(
+    let message = match &value {
+        Some(value) => Sentence::three(
             "\"{}\" of {} can't have {} among its values",
             key_word,
             name,
-            value,
-        )
+            Word::Text(value),
+        ),
+        None => Sentence::two("\"{}\" of {} has no value", key_word, name),
     };
     let help = key_help(site.kind(), key);
     Advice { message, help }.told(alloc)
