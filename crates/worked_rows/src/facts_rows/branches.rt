@@ -1,7 +1,5 @@
 use super::edges::{Reached, UNCOUNTED, leads};
-use super::known::{Counted, Known, NOTHING, rule_board};
-use crate::expected::same;
-use board::{Board, BoardFault};
+use super::known::{Counted, Known, NOTHING};
 use facts::Source;
 use std::alloc::{AllocError, Global};
 use std::process::Abort;
@@ -30,10 +28,10 @@ fn reached(
 }
 
 /// Tries that an instruction jumps to place 2 and goes on at place 1 like this.
-fn branches(rt: &impl Abort, alloc: Global, board: &Board, line: &str, ways: Ways) {
+fn branches(rt: &impl Abort, alloc: Global, line: &str, ways: Ways) {
     let (before, jump, next) = ways;
     match (before, reached(alloc, jump, next)) {
-        (Some(before), Ok(after)) => leads(rt, alloc, board, line, before, &after),
+        (Some(before), Ok(after)) => leads(rt, alloc, line, before, &after),
         _ => panic!(rt; "no memory, or nothing is known before {line}"),
     }
 }
@@ -101,41 +99,22 @@ fn spanned(source: Source, ends: Option<Ends>) -> Option<Way> {
 }
 
 /// Tries rows in which r0 equals the first source before the instruction, and the second after it.
-fn all_span(
-    rt: &impl Abort,
-    alloc: Global,
-    sources: (Source, Source),
-    rows: &[Spans],
-) -> Result<(), BoardFault> {
-    let board = rule_board(alloc)?;
+fn all_span(rt: &impl Abort, alloc: Global, sources: (Source, Source), rows: &[Spans]) {
     let (source, later) = sources;
     for (line, before, jump, next) in rows {
         let before = spanned(source, Some(*before));
         let ways = (before, spanned(later, *jump), spanned(later, *next));
-        branches(rt, alloc, &board, line, ways);
+        branches(rt, alloc, line, ways);
     }
-    Ok(())
 }
 
 #[test]
 fn branches_on_spans(rt: HostRuntime) {
     let none = Source::None;
     let stored = Source::Page(1);
-    same(
-        &rt,
-        all_span(&rt, rt.alloc(), (stored, stored), &UNTESTED),
-        Ok(()),
-    );
-    same(
-        &rt,
-        all_span(&rt, rt.alloc(), (none, none), &TESTED),
-        Ok(()),
-    );
-    same(
-        &rt,
-        all_span(&rt, rt.alloc(), (stored, none), &COMPUTED),
-        Ok(()),
-    );
+    all_span(&rt, rt.alloc(), (stored, stored), &UNTESTED);
+    all_span(&rt, rt.alloc(), (none, none), &TESTED);
+    all_span(&rt, rt.alloc(), (stored, none), &COMPUTED);
 }
 
 /// A test of r0, the values of what it equals, and those that are left where it jumps and where it
@@ -174,25 +153,18 @@ fn stored(is_page: bool, set: &'static [u8]) -> Option<Way> {
     }
 }
 
-fn all_part(
-    rt: &impl Abort,
-    alloc: Global,
-    is_page: bool,
-    rows: &[Sets],
-) -> Result<(), BoardFault> {
-    let board = rule_board(alloc)?;
+fn all_part(rt: &impl Abort, alloc: Global, is_page: bool, rows: &[Sets]) {
     for (line, before, jump, next) in rows {
         let before = stored(is_page, before);
         let ways = (before, stored(is_page, jump), stored(is_page, next));
-        branches(rt, alloc, &board, line, ways);
+        branches(rt, alloc, line, ways);
     }
-    Ok(())
 }
 
 #[test]
 fn branches_on_sets(rt: HostRuntime) {
-    same(&rt, all_part(&rt, rt.alloc(), true, &PAGES), Ok(()));
-    same(&rt, all_part(&rt, rt.alloc(), false, &PROTECTIONS), Ok(()));
+    all_part(&rt, rt.alloc(), true, &PAGES);
+    all_part(&rt, rt.alloc(), false, &PROTECTIONS);
 }
 
 /// A test of a status word that r0 equals, the word's values where it jumps, and the rails that are
@@ -214,24 +186,16 @@ fn reported(good: &'static [u8], ends: Ends) -> Option<Way> {
     Some(((&[0], &[0], good, ends, Source::Status(0)), UNCOUNTED))
 }
 
-fn all_report(rt: &impl Abort, alloc: Global, rows: &[Reported]) -> Result<(), BoardFault> {
-    let board = rule_board(alloc)?;
+fn all_report(rt: &impl Abort, alloc: Global, rows: &[Reported]) {
     let before = reported(&[1], (0, 65535));
     for (line, jump, good) in rows {
-        branches(
-            rt,
-            alloc,
-            &board,
-            line,
-            (before, reported(good, *jump), before),
-        );
+        branches(rt, alloc, line, (before, reported(good, *jump), before));
     }
-    Ok(())
 }
 
 #[test]
 fn branches_on_status(rt: HostRuntime) {
-    same(&rt, all_report(&rt, rt.alloc(), &STATUS), Ok(()));
+    all_report(&rt, rt.alloc(), &STATUS);
 }
 
 /// What is counted before an instruction, where it jumps, and where it goes on.
@@ -267,16 +231,14 @@ fn counting(counted: Option<Counted>) -> Option<Way> {
     Some((NOTHING, counted?))
 }
 
-fn all_pay(rt: &impl Abort, alloc: Global, rows: &[Counts]) -> Result<(), BoardFault> {
-    let board = rule_board(alloc)?;
+fn all_pay(rt: &impl Abort, alloc: Global, rows: &[Counts]) {
     for (line, before, jump, next) in rows {
         let ways = (counting(Some(*before)), counting(*jump), counting(*next));
-        branches(rt, alloc, &board, line, ways);
+        branches(rt, alloc, line, ways);
     }
-    Ok(())
 }
 
 #[test]
 fn counters_pay(rt: HostRuntime) {
-    same(&rt, all_pay(&rt, rt.alloc(), &COUNTS), Ok(()));
+    all_pay(&rt, rt.alloc(), &COUNTS);
 }

@@ -1,6 +1,6 @@
 use super::known::{row_of, rule_board};
 use crate::expected::same;
-use board::{Board, BoardFault};
+use board::Board;
 use facts::Rule::{self, K1, K2, K3, K4, K5};
 use facts::{Source, duty};
 use seq_program::read_program;
@@ -13,7 +13,7 @@ use std::test::*;
 type Before = (&'static [u8], &'static [u8], &'static [u8], (u16, u16));
 
 /// The duty that isn't met, if the line and what is known are good.
-fn duty_of(alloc: Global, board: &Board, line: &str, before: Before) -> Option<Option<Rule>> {
+fn duty_on(alloc: Global, board: &Board, line: &str, before: Before) -> Option<Option<Rule>> {
     let (pages, protects, good, span) = before;
     let text = format!(in alloc; "{line} else x\nx:\nend").ok()?;
     let program = read_program(alloc, board, &text).ok()?;
@@ -26,16 +26,15 @@ fn duty_of(alloc: Global, board: &Board, line: &str, before: Before) -> Option<O
     Some(duty(board, instr, &row))
 }
 
+// The board is read for each row, so that what goes over the rows holds none.
+fn duty_of(alloc: Global, line: &str, before: Before) -> Option<Option<Rule>> {
+    let board = rule_board(alloc).ok()?;
+    duty_on(alloc, &board, line, before)
+}
+
 /// Tries which duty a message doesn't meet.
-fn owes(
-    rt: &impl Abort,
-    alloc: Global,
-    board: &Board,
-    line: &str,
-    before: Before,
-    want: Option<Rule>,
-) {
-    let found = duty_of(alloc, board, line, before);
+fn owes(rt: &impl Abort, alloc: Global, line: &str, before: Before, want: Option<Rule>) {
+    let found = duty_of(alloc, line, before);
     same(rt, (line, before, found), (line, before, Some(want)));
 }
 
@@ -89,24 +88,15 @@ static ALLOWED: [Message; 42] = [
     ("blockcall a D2 010203 r0", (0, 0), Some(K1)),
 ];
 
-fn all_owe(rt: &impl Abort, alloc: Global, rows: &[Message]) -> Result<(), BoardFault> {
-    let board = rule_board(alloc)?;
+fn all_owe(rt: &impl Abort, alloc: Global, rows: &[Message]) {
     for (line, span, want) in rows {
-        owes(
-            rt,
-            alloc,
-            &board,
-            line,
-            (&[0], &[0], &[0, 1, 2], *span),
-            *want,
-        );
+        owes(rt, alloc, line, (&[0], &[0], &[0, 1, 2], *span), *want);
     }
-    Ok(())
 }
 
 #[test]
 fn what_is_allowed(rt: HostRuntime) {
-    same(&rt, all_owe(&rt, rt.alloc(), &ALLOWED), Ok(()));
+    all_owe(&rt, rt.alloc(), &ALLOWED);
 }
 
 /// A message, what a may store, and the duty that isn't met where nothing is known to be good.
@@ -150,33 +140,22 @@ static PROTECTIONS: [Stored; 21] = [
     ("alert r0", &[0x80], None),
 ];
 
-fn pages_owe(rt: &impl Abort, alloc: Global, rows: &[Stored]) -> Result<(), BoardFault> {
-    let board = rule_board(alloc)?;
+fn pages_owe(rt: &impl Abort, alloc: Global, rows: &[Stored]) {
     for (line, pages, want) in rows {
-        owes(rt, alloc, &board, line, (pages, &[0], &[], (0, 0)), *want);
+        owes(rt, alloc, line, (pages, &[0], &[], (0, 0)), *want);
     }
-    Ok(())
 }
 
-fn protections_owe(rt: &impl Abort, alloc: Global, rows: &[Stored]) -> Result<(), BoardFault> {
-    let board = rule_board(alloc)?;
+fn protections_owe(rt: &impl Abort, alloc: Global, rows: &[Stored]) {
     for (line, protects, want) in rows {
-        owes(
-            rt,
-            alloc,
-            &board,
-            line,
-            (&[0], protects, &[], (0, 0)),
-            *want,
-        );
+        owes(rt, alloc, line, (&[0], protects, &[], (0, 0)), *want);
     }
-    Ok(())
 }
 
 #[test]
 fn what_may_be_stored(rt: HostRuntime) {
-    same(&rt, pages_owe(&rt, rt.alloc(), &PAGES), Ok(()));
-    same(&rt, protections_owe(&rt, rt.alloc(), &PROTECTIONS), Ok(()));
+    pages_owe(&rt, rt.alloc(), &PAGES);
+    protections_owe(&rt, rt.alloc(), &PROTECTIONS);
 }
 
 /// What is written to VOUT_COMMAND, the pages that a may store, and whether the greatest voltage is
@@ -224,41 +203,35 @@ fn unless(holds: bool, rule: Rule) -> Option<Rule> {
     if holds { None } else { Some(rule) }
 }
 
-fn voltages_owe(rt: &impl Abort, alloc: Global, rows: &[Voltage]) -> Result<(), BoardFault> {
-    let board = rule_board(alloc)?;
+fn voltages_owe(rt: &impl Abort, alloc: Global, rows: &[Voltage]) {
     for (span, pages, holds) in rows {
         let before = (*pages, [0].as_slice(), [].as_slice(), *span);
         owes(
             rt,
             alloc,
-            &board,
             "write a VOUT_COMMAND r0",
             before,
             unless(*holds, K4),
         );
     }
-    Ok(())
 }
 
-fn needs_owe(rt: &impl Abort, alloc: Global, rows: &[Need]) -> Result<(), BoardFault> {
-    let board = rule_board(alloc)?;
+fn needs_owe(rt: &impl Abort, alloc: Global, rows: &[Need]) {
     for (pages, good, holds) in rows {
         let before = (*pages, [0].as_slice(), *good, (0, 0));
         owes(
             rt,
             alloc,
-            &board,
             "write a OPERATION 0x80",
             before,
             unless(*holds, K5),
         );
-        owes(rt, alloc, &board, "write a OPERATION 0x40", before, None);
+        owes(rt, alloc, "write a OPERATION 0x40", before, None);
     }
-    Ok(())
 }
 
 #[test]
 fn what_is_touched(rt: HostRuntime) {
-    same(&rt, voltages_owe(&rt, rt.alloc(), &VOLTAGES), Ok(()));
-    same(&rt, needs_owe(&rt, rt.alloc(), &NEEDS), Ok(()));
+    voltages_owe(&rt, rt.alloc(), &VOLTAGES);
+    needs_owe(&rt, rt.alloc(), &NEEDS);
 }

@@ -1,6 +1,6 @@
 use super::known::{Counted, Known, row_of, rule_board};
 use crate::expected::same;
-use board::{Board, BoardFault};
+use board::Board;
 use facts::Source::{self, Page, Protect, Status};
 use facts::{Part, Row, duty, edges};
 use seq_program::read_program;
@@ -48,7 +48,7 @@ fn all_reach(alloc: Global, edges: &[(usize, Row, u64)], wanted: &[Reached]) -> 
 }
 
 /// Whether an instruction leads from what is known to these places and what is known there.
-fn is_led(
+fn is_led_on(
     alloc: Global,
     board: &Board,
     line: &str,
@@ -60,16 +60,21 @@ fn is_led(
     Some(all_reach(alloc, &found, after))
 }
 
+// The board is read for each row, so that what goes over the rows holds none.
+fn is_led(alloc: Global, line: &str, before: (Known, Counted), after: &[Reached]) -> Option<bool> {
+    let board = rule_board(alloc).ok()?;
+    is_led_on(alloc, &board, line, before, after)
+}
+
 /// Tries that it does.
 pub(super) fn leads(
     rt: &impl Abort,
     alloc: Global,
-    board: &Board,
     line: &str,
     before: (Known, Counted),
     after: &[Reached],
 ) {
-    let is_so = is_led(alloc, board, line, before, after);
+    let is_so = is_led(alloc, line, before, after);
     same(rt, (line, is_so), (line, Some(true)));
 }
 
@@ -189,21 +194,19 @@ static MESSAGES: [Sent; 17] = [
     ),
 ];
 
-fn sends(rt: &impl Abort, alloc: Global, board: &Board, sent: Sent) {
+fn sends(rt: &impl Abort, alloc: Global, sent: Sent) {
     let (line, before, done, otherwise) = sent;
     let after = [(1, done, UNCOUNTED), (2, otherwise, UNCOUNTED)];
     match format!(in alloc; "{line} else x") {
-        Ok(text) => leads(rt, alloc, board, &text, (before, UNCOUNTED), &after),
+        Ok(text) => leads(rt, alloc, &text, (before, UNCOUNTED), &after),
         Err(_) => panic!(rt; "no memory"),
     }
 }
 
-fn all_send(rt: &impl Abort, alloc: Global, rows: &[Sent]) -> Result<(), BoardFault> {
-    let board = rule_board(alloc)?;
+fn all_send(rt: &impl Abort, alloc: Global, rows: &[Sent]) {
     for sent in rows {
-        sends(rt, alloc, &board, *sent);
+        sends(rt, alloc, *sent);
     }
-    Ok(())
 }
 
 /// Messages that return a number, and the numbers. The register equals nothing then.
@@ -232,32 +235,28 @@ fn with_register(ends: (u16, u16), source: Source) -> Known {
     (&[0], &[0], &[0, 1, 2], ends, source)
 }
 
-fn all_load(rt: &impl Abort, alloc: Global, rows: &[Load]) -> Result<(), BoardFault> {
-    let board = rule_board(alloc)?;
+fn all_load(rt: &impl Abort, alloc: Global, rows: &[Load]) {
     let before = with_register((5, 5), Status(0));
     for (line, ends) in rows {
         let loaded = with_register(*ends, NO);
-        sends(rt, alloc, &board, (line, before, loaded, before));
+        sends(rt, alloc, (line, before, loaded, before));
     }
-    Ok(())
 }
 
-fn none_changes(rt: &impl Abort, alloc: Global, lines: &[&'static str]) -> Result<(), BoardFault> {
-    let board = rule_board(alloc)?;
+fn none_changes(rt: &impl Abort, alloc: Global, lines: &[&'static str]) {
     let before = with_register((5, 5), Status(0));
     for line in lines {
-        sends(rt, alloc, &board, (line, before, before, before));
+        sends(rt, alloc, (line, before, before, before));
     }
-    Ok(())
 }
 
 #[test]
 fn edges_of_messages(rt: HostRuntime) {
-    same(&rt, all_send(&rt, rt.alloc(), &MESSAGES), Ok(()));
+    all_send(&rt, rt.alloc(), &MESSAGES);
 }
 
 #[test]
 fn edges_of_other_messages(rt: HostRuntime) {
-    same(&rt, all_load(&rt, rt.alloc(), &LOADS), Ok(()));
-    same(&rt, none_changes(&rt, rt.alloc(), &UNCHANGING), Ok(()));
+    all_load(&rt, rt.alloc(), &LOADS);
+    none_changes(&rt, rt.alloc(), &UNCHANGING);
 }
