@@ -10,6 +10,7 @@ use Rattle.smbus.specs.Answered.{Answered}
 use Rattle.targets.specs.States.{IsStart}
 use Rattle.simulator.specs.declared.fault.RunFault.{RunFault}
 use Rattle.simulator.specs.declared.fault.RunFault.TheVariants as faults
+use Rattle.simulator.specs.declared.machine.Ending.{Ending}
 use Rattle.simulator.specs.Faults.{most_ticks, IsStepFault, FailsAt}
 use Rattle.simulator.specs.Machines.{Machine, Entry, start_at, IsMachine}
 use Rattle.simulator.specs.Steps.{IsStep, IsRun, total_ticks}
@@ -18,8 +19,10 @@ use Rattle.simulator.specs.Traces.{Trace, HasItsFrame}
 use Rattle.session.specs.declared.scenario.Scenario.{Scenario}
 use Rattle.session.specs.declared.report.Report.{Report}
 use Rattle.session.specs.declared.report.Telling.{Telling}
-use Rattle.session.specs.Reports.{IsReport, HasRoom, IsWhole}
-use Rattle.session.specs.RunReplies.{IsRunText}
+use Rattle.session.specs.Reports.{IsReport, HasRoom, IsWhole, telling_of}
+use Rattle.session.specs.declared.report.Report.TheVariants as reports
+use Rattle.session.specs.declared.report.Telling.TheVariants.{Lines, Levels}
+use Rattle.session.specs.RunReplies.{IsToldRun, IsRunText}
 use Rattle.session.specs.Scenarios.{start_of, IsFaultOf}
 
 -- the steps of the answers before an index, and what is told of them
@@ -101,17 +104,11 @@ told_more go_on add_up telling s index ticks m next old new a e h here n more =
       told = more telling h.entries h.told;
     }
 
--- what the text of a report says
-abbrev pub IsAll : Report → Machine → ℕ → List ℕ → Type 0
-IsAll report m ticks text = (telling : Telling) (trace : Trace)
-    → IsReport telling trace.entries report → m.ended ≡ trace.last.ended
-    → ticks ≡ total_ticks trace.entries → IsWhole telling trace text
-
-pub told_whole : (telling : Telling) (s : Scenario) (index ticks : ℕ) (m : Machine)
-    (report : Report) (text : List ℕ) → IsTold telling s index ticks m report
-    → length s.answers.answers ≤ index → IsStart s.board (start_of s) → IsAll report m ticks text
-    → IsRunText telling s text
-told_whole telling s index ticks m report text h le start all = record {
+pub told_run : (telling : Telling) (s : Scenario) (index ticks : ℕ) (m : Machine)
+    (report : Report) → IsTold telling s index ticks m report
+    → length s.answers.answers ≤ index → IsStart s.board (start_of s)
+    → IsToldRun telling s report m.ended ticks
+told_run telling s index ticks m report h le start = record {
   trace = record { entries = h.entries; last = m };
   is_run = record {
     may_start = start;
@@ -123,7 +120,9 @@ told_whole telling s index ticks m report text h le start all = record {
       within = subst (λ (n : ℕ). n ≤ most_ticks) h.sum h.few;
     };
   };
-  prints = all telling (record { entries = h.entries; last = m }) h.told refl h.sum;
+  told = h.told;
+  last = refl;
+  sum = h.sum;
 }
 
 is_fault : (s : Scenario) (fault : RunFault) → IsStart s.board (start_of s)
@@ -184,11 +183,41 @@ told_to_fault telling s left later index ticks m report a fault h first start wh
     told_fault telling s index ticks m report a fault h.told at.here start why
 
 pub told_to_end : (telling : Telling) (s : Scenario) (left : List Answered) (index ticks : ℕ)
-    (m : Machine) (report : Report) (text : List ℕ) → IsToldTo telling s left index ticks m report
-    → left ≡ [] → IsStart s.board (start_of s) → IsAll report m ticks text
-    → IsRunText telling s text
-told_to_end telling s left index ticks m report text h none start all =
+    (m : Machine) (report : Report) → IsToldTo telling s left index ticks m report
+    → left ≡ [] → IsStart s.board (start_of s) → IsToldRun telling s report m.ended ticks
+told_to_end telling s left index ticks m report h none start =
     let answers = s.answers.answers in
     let gone : length (drop index answers) ≡ 0 = ap length (h.rest ∙ none) in
     let count = length-drop index answers in
-    told_whole telling s index ticks m report text h.told (omega (arith, gone, count)) start all
+    told_run telling s index ticks m report h.told (omega (arith, gone, count)) start
+
+telling_is : (telling : Telling) (entries : List Entry) (report : Report)
+    → IsReport telling entries report → telling_of report ≡ telling
+telling_is Lines entries (reports.Lines text) h = refl
+telling_is Lines entries (reports.Wave wave) h = absurd h
+telling_is Levels entries (reports.Lines text) h = absurd h
+telling_is Levels entries (reports.Wave wave) h = refl
+
+-- a report of nothing is one as it tells
+pub empty_told : (telling : Telling) (report : Report) → IsReport telling [] report
+    → IsReport (telling_of report) [] report
+empty_told telling report h =
+    rw (telling_is telling [] report h) h
+
+-- what the text of a report says
+abbrev pub IsAll : Report → Ending → ℕ → List ℕ → Type 0
+IsAll report ended ticks text = (telling : Telling) (trace : Trace)
+    → IsReport telling trace.entries report → ended ≡ trace.last.ended
+    → ticks ≡ total_ticks trace.entries → IsWhole telling trace text
+
+pub run_told : (telling : Telling) (s : Scenario) (empty report : Report) (ended : Ending)
+    (ticks : ℕ) (text : List ℕ) → IsReport telling [] empty
+    → IsToldRun (telling_of empty) s report ended ticks → IsAll report ended ticks text
+    → IsRunText telling s text
+run_told telling s empty report ended ticks text none told all =
+    let t = rw (telling_is telling [] empty none) at told in
+    record {
+      trace = t.trace;
+      is_run = t.is_run;
+      prints = all telling t.trace t.told t.last t.sum;
+    }

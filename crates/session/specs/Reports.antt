@@ -16,6 +16,11 @@ use Rattle.session.specs.declared.report.Telling.TheVariants.{Lines, Levels}
 abbrev pub steps_of : List Entry → List Step
 steps_of entries = map (λ (e : Entry). (e.place, e.samples)) entries
 
+-- how a report tells
+abbrev pub telling_of : Report → Telling
+telling_of (reports.Lines text) = Lines
+telling_of (reports.Wave wave) = Levels
+
 -- what is told of these steps
 abbrev pub IsReport : Telling → List Entry → Report → Type 0
 IsReport Lines entries (reports.Lines text) = AreLines entries (string_bytes text)

@@ -1,4 +1,4 @@
-ghost use Rattle.std.specs.Prelude.{◌≡◌, ◌∷◌, ◌++◌, [], List, IfOk, string_bytes};
+ghost use Rattle.std.specs.Prelude.{◌≡◌, ◌∷◌, ◌++◌, [], List, IfOk, OnOk, string_bytes};
 ghost use Rattle.simulator.specs.Machines.{Entry as Step};
 ghost use Rattle.simulator.specs.Steps.{total_ticks};
 ghost use Rattle.simulator.specs.Traces.{Trace, HasItsFrame};
@@ -35,23 +35,23 @@ impl Report {
         }
     }
 
-    /// The report with one step more. Fails only for want of memory.
-    pub fn and(self, alloc: Global, entry: &Entry) -> Result<Report, AllocError>
+    /// Adds a step. Fails only for want of memory, and then the report is of no more use.
+    pub fn add(&mut self, alloc: Global, entry: &Entry) -> Result<(), AllocError>
         requires seen { HasItsFrame entry.now }
-        requires room { HasRoom self entry.now }
-        ensures { IfOk result (λ report. (telling : Telling) → (entries : List Step)
-            → IsReport telling entries self
-            → IsReport telling (entries ++ entry.now ∷ []) report) }
+        requires room { HasRoom self.old entry.now }
+        ensures { OnOk result ((telling : Telling) → (entries : List Step)
+            → IsReport telling entries self.old
+            → IsReport telling (entries ++ entry.now ∷ []) self.new) }
     {
         match self {
-            Report::Lines(mut text) => {
-                push_line(alloc, &mut text, entry)?;
-                Ok(Report::Lines(text))
+            Report::Lines(text) => {
+                push_line(alloc, text, entry)?;
+                Ok(())
             }
-            Report::Wave(mut wave) => {
+            Report::Wave(wave) => {
                 runs_go_on();
                 wave.push(entry.place, &entry.samples)?;
-                Ok(Report::Wave(wave))
+                Ok(())
             }
         }
     }

@@ -1,7 +1,7 @@
 use Rattle.std.proofs.Common.{ap}
 use Rattle.simulator.specs.Machines.{Entry}
 use Rattle.session.proofs.Reported.{line_told, levels_told}
-use Rattle.session.proofs.report.Report.and.Goals as goal
+use Rattle.session.proofs.report.Report.add.Goals as goal
 
 pub returns-in_ok-push_line-in-Lines : goal.returns-in_ok-push_line-in-Lines
 returns-in_ok-push_line-in-Lines c = λ telling entries so_far.
