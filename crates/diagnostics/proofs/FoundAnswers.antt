@@ -11,7 +11,6 @@ use Rattle.std.proofs.lemmas.Option.{slice_get-map}
 use Rattle.std.proofs.lemmas.Bool.Decides.{nat_tests}
 use Rattle.texts.specs.Reading.{◌>>=◌, some_or}
 use Rattle.texts.specs.Words.{words_of}
-use Rattle.diagnostics.proofs.EndedRuns.{same_some}
 use Rattle.smbus.specs.Answered.{Answered}
 use Rattle.bundles.specs.declared.fault.BundleFault.{BundleFault}
 use Rattle.bundles.specs.AnswerLines.{answer_line_of, bad_answer}
@@ -20,6 +19,9 @@ use Rattle.bundles.specs.Bundles.{Line, Section}
 use Rattle.bundles.specs.CountedLines.{is_counted, counted_lines}
 use Rattle.diagnostics.specs.AnswerLaws.{AnswersAreFound}
 use Rattle.diagnostics.specs.Notes.{line_at}
+
+same_some : {X : Type 0} (x y : X) → Some x ≡ Some y → x ≡ y
+same_some x y e = cc
 
 -- ---- the lines stand at their numbers
 

@@ -1,17 +1,4 @@
 pub mod Feeds
 pub mod CountedNames
-pub mod JudgedRuns
-pub mod EndedRuns
-pub mod Replayed
 pub mod FoundAnswers
-pub mod Places
-pub mod Sources
-pub mod Rules
-pub mod Slots
-pub mod Told
-pub mod Stored
-pub mod Gained
-pub mod Judged
 pub mod CountedLines
-pub mod MessagesSent
-pub mod Circles

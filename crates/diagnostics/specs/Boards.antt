@@ -4,7 +4,7 @@ use Rattle.std.specs.Prelude.{option_map, string_bytes, unwrap_or}
 use Rattle.std.specs.Global.{Global}
 use Rattle.texts.specs.Words.{lines_by_feed}
 use Rattle.session.specs.SectionTexts.{section_text}
-use Rattle.diagnostics.specs.BundlePlaces.{section_in}
+use Rattle.session.specs.Parts.{section_in}
 use Rattle.diagnostics.specs.Notes.{line_at, IsNote, IsNoteOf}
 
 -- the number of one of these lines, or 1 where there is none

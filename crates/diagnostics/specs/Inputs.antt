@@ -23,7 +23,8 @@ use Rattle.table_check.specs.Obligations.{IsVerdict}
 use Rattle.table_check.specs.Tables.{Table}
 use Rattle.table_check.specs.Texts.{IsFirstBadLine, IsTextOf}
 use Rattle.diagnostics.specs.AnswerPlaces.{run_line}
-use Rattle.diagnostics.specs.BundlePlaces.{section_in, IsOnFault}
+use Rattle.session.specs.Parts.{section_in}
+use Rattle.diagnostics.specs.BundlePlaces.{IsOnFault}
 use Rattle.diagnostics.specs.Notes.{IsNote}
 use Rattle.diagnostics.specs.ProgramPlaces.{IsOnPlaceIn}
 

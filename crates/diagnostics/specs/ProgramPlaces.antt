@@ -4,9 +4,9 @@ use Rattle.std.specs.Prelude.{codes, option_map, string_bytes, unwrap_or}
 use Rattle.std.specs.Global.{Global}
 use Rattle.texts.specs.Words.{lines_by_feed}
 use Rattle.session.specs.SectionTexts.{section_text}
-use Rattle.diagnostics.specs.BundlePlaces.{section_in}
+use Rattle.session.specs.Parts.{section_in}
 use Rattle.diagnostics.specs.Notes.{IsNoteOf}
-use Rattle.diagnostics.specs.Places.{place_line}
+use Rattle.session.specs.Places.{place_line}
 
 -- a note of a kind is on the line of a program's place, if it has one
 abbrev pub IsOnPlace : List ℕ → List (List ℕ) → ℕ → Option (String Global) → Type 0

@@ -9,9 +9,9 @@ use Rattle.table_check.specs.Obligations.{IsInductive}
 use Rattle.table_check.specs.Tables.{Table}
 use Rattle.session.specs.Commands.{Task, Frame, Run, Wave, Check, Find, Verify, task_in}
 use Rattle.session.specs.declared.scenario.Scenario.{Scenario}
-use Rattle.diagnostics.specs.Breaches.{IsFirstBreach}
-use Rattle.diagnostics.specs.Doubts.{AreDoubts}
-use Rattle.diagnostics.specs.declared.breach.Breach.{Breach}
+use Rattle.session.specs.Breaches.{IsFirstBreach}
+use Rattle.session.specs.Doubts.{AreDoubts}
+use Rattle.session.specs.declared.breach.Breach.{Breach}
 use Rattle.diagnostics.specs.ProgramPlaces.{IsWarningAt}
 
 -- a breach has a warning on the line of its place, and without one there is none

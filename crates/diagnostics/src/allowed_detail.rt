@@ -180,10 +180,7 @@ fn entry_detail(
         Form::BlockProcessCall => both_detail(entry, &most.out),
         _ => None,
     };
-    match detail {
-        Some(detail) => Some(detail),
-        None => known_values(device, most),
-    }
+    detail.or(known_values(device, most))
 }
 
 /// Why no entry permits what an instruction may send, from its least values to its greatest.

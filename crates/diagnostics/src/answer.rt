@@ -12,11 +12,10 @@ use crate::counted::run_line;
 use crate::lines::line_at;
 use crate::misfit::misfit;
 use crate::note::note_of;
-use crate::place::place_line;
 use crate::remark::Remark;
 use crate::replay::{Stop, stop_at};
 use seq_program::{message_of, without_comment};
-use session::Scenario;
+use session::{Scenario, place_line};
 use simulator::RunFault;
 use std::alloc::{AllocError, Global};
 

@@ -2,18 +2,39 @@
 
 ghost use Rattle.std.specs.Prelude.{◌≡◌, All, IfOk, length, string_bytes};
 ghost use Rattle.diagnostics.specs.Boards.{board_lines, board_text, IsBoardWarning};
-ghost use Rattle.diagnostics.specs.Doubts.{AreDoubts};
+ghost use Rattle.session.specs.Doubts.{AreDoubts};
 ghost use Rattle.texts.specs.Words.{lines_by_feed};
 
-use crate::boards::{Doubt, doubts_on, lines_of, number_of, number_within};
+use crate::boards::{lines_of, number_of, number_within, remark_of, site_of};
 use crate::note::warning_of;
-use crate::part::section_of;
 use board::Board;
 use seq_program::Program;
+use session::{Doubt, doubts_on, section_of};
 use std::alloc::{AllocError, Global};
 
+/// The warning of a doubt about a board file with these lines, on one of them.
+fn warning_on(
+    alloc: Global,
+    text: &str,
+    lines: &[&str],
+    board: &Board,
+    doubt: &Doubt,
+) -> Result<String, AllocError>
+    ensures { IfOk result (IsBoardWarning (lines_by_feed text.now)) }
+{
+    let (site, key) = site_of(doubt);
+    let number = number_within(text, number_of(lines, site, Some(key)));
+    let remark = remark_of(alloc, board, doubt)?;
+    warning_of(alloc, "%board", text, number, &remark)
+}
+
 /// The warnings of doubts about a board file, each on a line of it.
-fn notes_of(alloc: Global, text: &str, doubts: &[Doubt]) -> Result<Vec<String>, AllocError>
+fn notes_of(
+    alloc: Global,
+    text: &str,
+    board: &Board,
+    doubts: &[Doubt],
+) -> Result<Vec<String>, AllocError>
     ensures lines { IfOk result
         (λ notes. All (IsBoardWarning (lines_by_feed text.now)) notes.items) }
     ensures each { IfOk result (λ notes. length notes.items ≡ length doubts.now) }
@@ -21,8 +42,7 @@ fn notes_of(alloc: Global, text: &str, doubts: &[Doubt]) -> Result<Vec<String>, 
     let lines = lines_of(alloc, text)?;
     let mut notes = Vec::new(alloc);
     for doubt in doubts {
-        let number = number_within(text, number_of(&lines, doubt.site, doubt.key));
-        notes.push(warning_of(alloc, "%board", text, number, &doubt.remark)?)?;
+        notes.push(warning_on(alloc, text, &lines, board, doubt)?)?;
     }
     Ok(notes)
 }
@@ -57,5 +77,5 @@ pub(crate) fn board_warnings(
         return Ok(Vec::new(alloc));
     }
     let text = board_text(alloc, text)?;
-    notes_of(alloc, &text, &doubts)
+    notes_of(alloc, &text, board, &doubts)
 }

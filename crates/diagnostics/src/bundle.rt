@@ -2,15 +2,16 @@
 
 ghost use Rattle.std.specs.Prelude.{string_bytes, IfOk};
 ghost use Rattle.diagnostics.specs.BundlePlaces.{IsOnFault, IsOnBundleLine, IsOnSectionLine};
-ghost use Rattle.diagnostics.specs.BundlePlaces.{IsOnPartLine, part_view};
+ghost use Rattle.diagnostics.specs.BundlePlaces.{IsOnPartLine};
+ghost use Rattle.session.specs.Parts.{part_view};
 
 use crate::header::{missing_section, unexpected_line, unknown_command};
 use crate::lines::line_at;
 use crate::note::note_of;
-use crate::part::{Part, part_at};
 use crate::remark::{Remark, help_of};
 use crate::spot::{Spot, spot_remark};
 use bundles::{BundleFault, Header};
+use session::{Part, part_at};
 use std::alloc::{AllocError, Global};
 
 /// The note on a line of the bundle.

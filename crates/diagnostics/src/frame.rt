@@ -3,9 +3,9 @@
 use crate::counted::counted_line;
 use crate::misfit::refuse_misfit;
 use crate::note::note_of;
-use crate::part::part_at;
 use crate::sentence::{Advice, Sentence, Word};
 use bundles::Exchange;
+use session::part_at;
 use smbus::{Form, Message, SmbusFault, frame_slots};
 use std::alloc::{AllocError, Global};
 

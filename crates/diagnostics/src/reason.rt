@@ -2,12 +2,12 @@
 
 use crate::cause::Cause;
 use crate::detail::detail_of;
-use crate::place::place_lines;
 use crate::roads::{Judged, Roads};
 use crate::route::route_of;
 use crate::way::{loop_through, way_to};
 use facts::Rule;
 use seq_program::Program;
+use session::place_lines;
 use std::alloc::{AllocError, Global};
 
 /// The shortest way that leads to a place, unless that is the first.

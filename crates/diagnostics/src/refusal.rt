@@ -6,9 +6,9 @@ ghost use Rattle.diagnostics.specs.ProgramPlaces.{IsOnPlace};
 
 use crate::cause::Cause;
 use crate::note::background_note;
-use crate::place::place_line;
 use crate::remark::{Remark, help_of};
 use facts::Rule;
+use session::place_line;
 use std::alloc::{AllocError, Global};
 
 /// Why a program isn't accepted.

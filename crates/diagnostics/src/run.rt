@@ -5,9 +5,7 @@ ghost use Rattle.session.specs.Scenarios.{IsOnItsBoard};
 ghost use Rattle.diagnostics.specs.Inputs.{NamesRunFault};
 
 use crate::answer::answer_note;
-use crate::part::section_of;
-use crate::replay::run_through;
-use session::Scenario;
+use session::{Scenario, run_through, section_of};
 use simulator::RunFault;
 use std::alloc::{AllocError, Global};
 

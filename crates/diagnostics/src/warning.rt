@@ -1,35 +1,29 @@
 //! Warnings of boards and of runs.
 
-ghost use Rattle.std.specs.Prelude.{◌≡◌, [], false, None, is_some, length, option_map};
-ghost use Rattle.std.specs.Prelude.{string_bytes, All, Err, IfOk};
-ghost use Rattle.facts.specs.Requests.{sent_in};
-ghost use Rattle.table_check.specs.Obligations.{IsInductive};
-ghost use Rattle.table_check.specs.Tables.{Table};
+ghost use Rattle.std.specs.Prelude.{◌≡◌, [], None, length, string_bytes, All, Err, IfOk};
 ghost use Rattle.session.specs.Commands.{task_in, task_view, IsReady};
 ghost use Rattle.session.specs.declared.fault.InputFault.{InputFault as AnyFault};
 ghost use Rattle.session.specs.Scenarios.{IsOnItsBoard};
 ghost use Rattle.diagnostics.specs.Boards.{board_lines, IsBoardWarning};
-ghost use Rattle.diagnostics.specs.Breaches.{IsFirstBreach};
 ghost use Rattle.diagnostics.specs.ProgramPlaces.{IsWarningAt};
-ghost use Rattle.diagnostics.specs.Runs.{SendsNothing};
-ghost use Rattle.diagnostics.specs.Doubts.{AreDoubts};
+ghost use Rattle.session.specs.Doubts.{AreDoubts};
 ghost use Rattle.diagnostics.specs.Warnings.{SparesAccepted, WarnsOf, WarnsOfRun};
 ghost use Rattle.diagnostics.specs.Warnings.{WarnsOfTask, WarnsOfRuns};
 ghost use Rattle.diagnostics.specs.Warnings.{WarnsOfBoard, WarnsOfBoards};
 
 use crate::board_warning::board_warnings;
-use crate::breach::{Breach, Reached, first_breach};
 use crate::cause::Cause;
 use crate::detail::instr_cause;
 use crate::note::warning_of;
-use crate::part::section_of;
-use crate::place::place_line;
 use crate::refusal::{Refusal, blaming};
 use crate::remark::Remark;
 use board::Board;
 use facts::{Row, Rule};
-use seq_program::{Instr, Program};
-use session::{Scenario, Sequence, Task, Trial, read_task};
+use seq_program::Program;
+use session::{
+    Breach, Reached, Scenario, Sequence, Task, Trial, first_breach, place_line, read_task,
+    section_of,
+};
 use std::alloc::{AllocError, Global};
 use texts::ReadError;
 
@@ -96,53 +90,6 @@ fn breach_warning(
     warning_of(alloc, "%program", program, number, &remark)
 }
 
-/// Whether an instruction sends something to a target.
-fn sends(instr: &Instr) -> bool
-    ensures { result ≡ is_some (sent_in instr.now) }
-{
-    match instr {
-        Instr::Quick { .. }
-        | Instr::Send { .. }
-        | Instr::Receive { .. }
-        | Instr::Write { .. }
-        | Instr::Read { .. }
-        | Instr::Call { .. }
-        | Instr::BlockWrite { .. }
-        | Instr::BlockRead { .. }
-        | Instr::BlockCall { .. } => true,
-        _ => false,
-    }
-}
-
-/// Whether some instruction does.
-fn sends_something(program: &Program) -> bool
-    ensures { result ≡ false → SendsNothing program.now }
-{
-    for place in 0..program.places() {
-        match program.at(place) {
-            Some(instr) if sends(instr) => return true,
-            _ => {}
-        }
-    }
-    false
-}
-
-/// The first breach of a run. Where nothing is sent to a target, there is none, and the run isn't
-/// gone through.
-fn breach_in(alloc: Global, scenario: &Scenario<'_>) -> Result<Option<Reached>, AllocError>
-    requires { IsOnItsBoard scenario.now }
-    ensures first { IfOk result
-        (λ found. IsFirstBreach scenario.now (option_map (λ x. x.breach) found)) }
-    ensures spares { IfOk result (λ found. (t : Table)
-        → IsInductive scenario.now.board scenario.now.program t → found ≡ None) }
-{
-    if sends_something(&scenario.program) {
-        first_breach(alloc, scenario)
-    } else {
-        Ok(None)
-    }
-}
-
 /// The warning of a run.
 fn run_warning(
     alloc: Global,
@@ -153,7 +100,7 @@ fn run_warning(
     ensures warns { IfOk result (WarnsOfRun text.now scenario.now) }
     ensures spares { IfOk result (SparesAccepted scenario.now.board scenario.now.program) }
 {
-    match breach_in(alloc, scenario)? {
+    match first_breach(alloc, scenario)? {
         Some(Reached { breach, row }) => {
             Ok(Some(breach_warning(alloc, text, scenario, breach, &row)?))
         }

@@ -4,8 +4,8 @@
 #![tactic(auto)]
 
 use bundles::BundleFault;
-use diagnostics::{Keeping, Warnings, bundle_note, note_on, warnings_on};
-use session::{Status, session};
+use diagnostics::{Warnings, bundle_note, note_on, warnings_on};
+use session::{Keeping, Status, session};
 use std::alloc::{AllocError, Global};
 use std::io::{Stderr, Write};
 use std::process::ExitCode;

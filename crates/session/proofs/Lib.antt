@@ -4,3 +4,16 @@ pub mod Told
 pub mod Reported
 pub mod GaveUp
 pub mod Promised
+pub mod Replayed
+pub mod Places
+pub mod Sources
+pub mod Rules
+pub mod Slots
+pub mod Reporting
+pub mod Stored
+pub mod Gained
+pub mod Judged
+pub mod JudgedRuns
+pub mod EndedRuns
+pub mod MessagesSent
+pub mod Circles

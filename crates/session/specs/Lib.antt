@@ -15,3 +15,13 @@ pub mod Commands
 pub mod Sessions
 pub mod Promises
 pub mod Devices
+pub mod Parts
+pub mod Places
+pub mod Keeping
+pub mod Known
+pub mod Telling
+pub mod Runs
+pub mod Breaches
+pub mod Accepted
+pub mod Ready
+pub mod Doubts

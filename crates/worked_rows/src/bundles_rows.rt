@@ -149,7 +149,7 @@ fn bad_answer_lines(rt: HostRuntime) {
 }
 
 /// The answers of a bundle for a run.
-fn answers_of(alloc: Global, text: &str) -> Result<Answers<'_>, ReadError<BundleFault>> {
+pub(crate) fn answers_of(alloc: Global, text: &str) -> Result<Answers<'_>, ReadError<BundleFault>> {
     let bundle = read_bundle(alloc, text)?;
     match bundle.sections.last() {
         Some(section) => answers_in(alloc, section),

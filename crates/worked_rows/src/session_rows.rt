@@ -2,6 +2,7 @@
 //! what no file shows.
 
 mod devices;
+mod found;
 
 use crate::expected::says;
 use crate::runs::answer_of;

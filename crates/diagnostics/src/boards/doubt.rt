@@ -1,57 +1,151 @@
-//! What of a board without faults may be meant otherwise.
+//! What is said of a doubt.
 
-ghost use Rattle.std.specs.Prelude.{IfOk, length};
-ghost use Rattle.diagnostics.specs.Doubts.{AreDoubts};
-
-use crate::boards::circle::push_circles;
 use crate::boards::draft::Site;
-use crate::boards::idle::push_idle_rails;
-use crate::boards::loose::push_loose_limits;
-use crate::boards::unready::{messages_of, push_unready_targets};
+use crate::facts_here::{rail_word, target_word};
+use crate::quote::Quoted;
 use crate::remark::Remark;
-use crate::sentence::{Advice, Sentence};
+use crate::sentence::{Advice, Sentence, Word};
 use board::Board;
-use seq_program::Program;
+use session::{Doubt, Lack};
 use std::alloc::{AllocError, Global};
 
-/// A table of a board file, a key of it, and what is said of it.
-#[derive(Drop)]
-pub(crate) struct Doubt {
-    pub site: Site,
-    pub key: Option<&'static str>,
-    pub remark: Remark,
-}
+const UNPROTECT: &str =
+    "the program has to write WRITE_PROTECT before, or the target doesn't start so";
 
-impl Doubt {
-    pub(crate) fn new(
-        alloc: Global,
-        site: Site,
-        key: &'static str,
-        message: Sentence,
-        help: &'static str,
-    ) -> Result<Doubt, AllocError> {
-        let help = Some(Sentence::plain(help));
-        Ok(Doubt {
-            site,
-            key: Some(key),
-            remark: Advice { message, help }.told(alloc)?,
-        })
+const SELECT: &str = "the program has to write PAGE before, or the target doesn't start so";
+
+const NONE_GOOD: &str = "none of them can ever be turned on, since each waits for another";
+
+const NO_ENTRY: &str =
+    "to turn it on, `allow` needs {form = \"writebyte\", command = \"OPERATION\"} with 0x80 within \
+     its `values`";
+
+const NO_VALUE: &str =
+    "to turn it on, the `values` of its target's entry for OPERATION need 0x80 within them";
+
+const NO_PAGE: &str =
+    "neither `start_pages` nor an entry {form = \"writebyte\", command = \"PAGE\"} has its page, \
+     or 255 for all pages";
+
+const SAFE: &str =
+    "set the highest voltage that is safe, in microvolts, or widen the entry's `values` up to it";
+
+/// The table of a board file that a doubt is about, and its key.
+pub(crate) fn site_of(doubt: &Doubt) -> (Site, &'static str) {
+    match doubt {
+        Doubt::AllPages { target, .. } => (Site::Target(*target), "start_pages"),
+        Doubt::Protected { target, .. } => (Site::Target(*target), "start_protects"),
+        Doubt::Circle(rails) => (Site::Rail(rails.first().copied().unwrap_or(0)), "needs"),
+        Doubt::IdleRail { rail, .. } => (Site::Rail(*rail), "name"),
+        Doubt::LooseLimit { rail, .. } => (Site::Rail(*rail), "limit_uv"),
     }
 }
 
-/// All doubts about a board and a program on it.
-pub(crate) fn doubts_on(
-    alloc: Global,
-    board: &Board,
-    program: &Program,
-) -> Result<Vec<Doubt>, AllocError>
-    ensures { IfOk result (λ doubts. AreDoubts board.now program.now (length doubts.items)) }
-{
-    let messages = messages_of(alloc, board, program)?;
-    let mut doubts = Vec::new(alloc);
-    push_unready_targets(alloc, &mut doubts, board, &messages)?;
-    push_circles(alloc, &mut doubts, board)?;
-    push_idle_rails(alloc, &mut doubts, board)?;
-    push_loose_limits(alloc, &mut doubts, board)?;
-    Ok(doubts)
+/// What is said, and what may help.
+fn advice<'a>(message: Sentence<'a>, help: &'static str) -> Advice<'a> {
+    Advice {
+        message,
+        help: Some(Sentence::plain(help)),
+    }
+}
+
+fn of_pages(board: &Board, target: usize, read: u8) -> Advice<'_> {
+    let message = Sentence::two(
+        "PAGE of {} may be 255 at the start, all pages, and the program reads {}, which needs one",
+        target_word(board, target),
+        Word::Command(read),
+    );
+    advice(message, SELECT)
+}
+
+fn of_protect(board: &Board, target: usize, protect: u8, written: u8) -> Advice<'_> {
+    let message = Sentence::three(
+        "WRITE_PROTECT of {} may be 0x{} at the start, which forbids {}, and the program writes \
+         that",
+        target_word(board, target),
+        Word::Byte(u16::from(protect)),
+        Word::Command(written),
+    );
+    advice(message, UNPROTECT)
+}
+
+/// The needs from the first rail of a circle to itself.
+fn circle_text(alloc: Global, board: &Board, circle: &[usize]) -> Result<String, AllocError> {
+    let mut text = String::new(alloc);
+    for rail in circle {
+        let name = Quoted(board.rail_name(*rail).unwrap_or(""));
+        write!(text, "{name} needs ")?;
+    }
+    let first = circle.first().copied().unwrap_or(0);
+    let name = Quoted(board.rail_name(first).unwrap_or(""));
+    write!(text, "{name}")?;
+    Ok(text)
+}
+
+fn of_circle(alloc: Global, board: &Board, circle: &[usize]) -> Result<Remark, AllocError> {
+    let text = circle_text(alloc, board, circle)?;
+    let message = Sentence::one("needs in a circle: {}", Word::Text(&text));
+    advice(message, NONE_GOOD).told(alloc)
+}
+
+/// The target of a rail in a sentence.
+fn target_of(board: &Board, rail: usize) -> Word<'_> {
+    match board.rail(rail) {
+        Some(rail) => target_word(board, rail.target()),
+        None => Word::Nothing,
+    }
+}
+
+fn of_idle(board: &Board, rail: usize, lacks: Lack) -> Advice<'_> {
+    let (target, name) = (target_of(board, rail), rail_word(board, rail));
+    let message = Sentence::two("no entry of {} can turn on rail {}", target, name);
+    let help = match lacks {
+        Lack::Entry => NO_ENTRY,
+        Lack::Value => NO_VALUE,
+        Lack::Page => NO_PAGE,
+    };
+    advice(message, help)
+}
+
+/// A voltage in microvolts, rounded down: its mantissa times two to the exponent.
+fn microvolts(mantissa: u16, exponent: i8) -> u64 {
+    let scaled = u64::from(mantissa) * 1_000_000;
+    scaled
+        .checked_shr(u32::from(exponent.unsigned_abs()))
+        .unwrap_or(0)
+}
+
+/// The limit of a rail, and the exponent of its target's voltages.
+fn limit_of(board: &Board, rail: usize) -> Option<(u32, i8)> {
+    let rail = board.rail(rail)?;
+    let device = board.target(rail.target())?;
+    Some((rail.limit_uv(), device.exponent()))
+}
+
+fn of_limit(board: &Board, rail: usize, greatest: u16) -> Advice<'_> {
+    let (limit, exponent) = limit_of(board, rail).unwrap_or((0, 0));
+    let message = Sentence::five(
+        "no voltage that {} takes is over the limit of rail {}, {} uV: it takes up to {}, {} uV",
+        target_of(board, rail),
+        rail_word(board, rail),
+        Word::Number(u64::from(limit)),
+        Word::Number(u64::from(greatest)),
+        Word::Number(microvolts(greatest, exponent)),
+    );
+    advice(message, SAFE)
+}
+
+/// What is said of a doubt about a board.
+pub(crate) fn remark_of(alloc: Global, board: &Board, doubt: &Doubt) -> Result<Remark, AllocError> {
+    match doubt {
+        Doubt::AllPages { target, read } => of_pages(board, *target, *read).told(alloc),
+        Doubt::Protected {
+            target,
+            protect,
+            written,
+        } => of_protect(board, *target, *protect, *written).told(alloc),
+        Doubt::Circle(circle) => of_circle(alloc, board, circle),
+        Doubt::IdleRail { rail, lacks } => of_idle(board, *rail, *lacks).told(alloc),
+        Doubt::LooseLimit { rail, greatest } => of_limit(board, *rail, *greatest).told(alloc),
+    }
 }

@@ -1,11 +1,10 @@
 //! Notes on programs that are refused, and on whole inputs.
 
 use crate::boards::TWO;
-use crate::expected::{Noted, begins, notes, same};
-use diagnostics::{Keeping, Refusal, note_on, refusal_note};
+use crate::expected::{Noted, begins, notes};
+use diagnostics::{Refusal, note_on, refusal_note};
 use facts::Rule;
 use std::alloc::Global;
-use std::io::Read;
 use std::process::Abort;
 use std::test::*;
 
@@ -102,35 +101,4 @@ fn inputs(rt: HostRuntime) {
     notes(&rt, verified_note(rt.alloc(), "end\n"), None);
     let bare = note_on(rt.alloc(), "%verify\n");
     begins(&rt, bare, "bundle:1: error: the section %board");
-}
-
-/// How many bytes are read, and whether they are kept: those that aren't over 1 MiB.
-static KEPT: [(usize, bool); 4] = [
-    (0, true),
-    (5, true),
-    (1 << 20, true),
-    ((1 << 20) + 1, false),
-];
-
-/// Whether so many bytes are kept as they were, or none.
-fn is_kept(alloc: Global, count: usize) -> Option<bool> {
-    let bytes = "x".repeat(alloc, count).ok()?;
-    let mut reader = Keeping::new(alloc, bytes.as_bytes());
-    let mut text = String::new(alloc);
-    reader.read_to_string(&mut text).ok()?;
-    match reader.kept() {
-        Some(kept) => (kept == bytes.as_bytes()).then_some(true),
-        None => Some(false),
-    }
-}
-
-fn all_are_kept(rt: &impl Abort, alloc: Global, rows: &[(usize, bool)]) {
-    for (count, want) in rows {
-        same(rt, (*count, is_kept(alloc, *count)), (*count, Some(*want)));
-    }
-}
-
-#[test]
-fn kept_input(rt: HostRuntime) {
-    all_are_kept(&rt, rt.alloc(), &KEPT);
 }

@@ -10,15 +10,9 @@ loop-doubt-preserved c =
     let lines = lines_by_feed c.args.text.now in
     record {
       lines = subst (All (IsBoardWarning lines)) (sym c.in_ok-push.ensures.items)
-          (All-push (IsBoardWarning lines) c.loop-doubt.notes.items c.in_ok-warning_of.field-0
-          c.loop-doubt.invariant.lines (
-            c.number_within-number.result,
-            (
-              c.number_within-number.ensures,
-              c.in_ok-warning_of.ensures,
-            ),
-          ));
+          (All-push (IsBoardWarning lines) c.loop-doubt.notes.items c.in_ok-warning_on.field-0
+          c.loop-doubt.invariant.lines c.in_ok-warning_on.ensures);
       each = ap (λ notes. length notes) c.in_ok-push.ensures.items
-          ∙ length_push c.loop-doubt.notes.items c.in_ok-warning_of.field-0
+          ∙ length_push c.loop-doubt.notes.items c.in_ok-warning_on.field-0
           ∙ ap (λ n. n + 1) c.loop-doubt.invariant.each;
     }

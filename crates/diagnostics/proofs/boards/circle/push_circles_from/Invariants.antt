@@ -1,9 +1,0 @@
-use Rattle.std.proofs.Common.{◌<◌, length}
-use Rattle.diagnostics.specs.Ready.{AreRails}
-use Rattle.diagnostics.proofs.boards.circle.push_circles_from.Given as goal
-
-abbrev pub invariant-loop : goal.invariant-loop
-invariant-loop l = record {
-  rails : AreRails l.board l.ready.items;
-  more : length l.fn.doubts.items < length l.doubts.items;
-}

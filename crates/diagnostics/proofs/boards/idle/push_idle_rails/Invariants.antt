@@ -1,8 +1,0 @@
-use Rattle.std.proofs.Common.{◌≡◌, ◌+◌, length, take, count_by}
-use Rattle.diagnostics.specs.Doubts.{is_idle_rail}
-use Rattle.diagnostics.proofs.boards.idle.push_idle_rails.Given as goal
-
-abbrev pub invariant-loop-index : goal.invariant-loop-index
-invariant-loop-index l =
-    length l.doubts.items
-    ≡ length l.fn.doubts.items + count_by (is_idle_rail l.board) (take l.index l.board.rails)

@@ -1,5 +1,0 @@
-use Rattle.diagnostics.specs.Ready.{AreRails}
-use Rattle.diagnostics.proofs.boards.ready.with_rails.Given as goal
-
-abbrev pub invariant-loop-other : goal.invariant-loop-other
-invariant-loop-other l = AreRails l.board l.more.items

@@ -1,6 +1,0 @@
-use Rattle.facts.specs.Sets.{rails_in}
-use Rattle.diagnostics.proofs.Judged.{nothing_known}
-use Rattle.diagnostics.proofs.judge.Judge.new.Goals as goal
-
-pub returns : goal.returns
-returns c = λ b. nothing_known b (rails_in c.empty.result) c.empty.ensures

@@ -1,0 +1,93 @@
+-- What is known after a step.
+use Rattle.std.proofs.Common.{◌≡◌, ◌<◌, ◌∙◌, ◌∷◌, ℕ, List, [], length, slice_get, Option, Some}
+use Rattle.std.proofs.Common.{None, inl, inr, sym, ap, subst}
+use Rattle.std.specs.Prelude.{IsTrue}
+use Rattle.smbus.specs.Asked.{Asked}
+use Rattle.smbus.specs.Answered.{Answered}
+use Rattle.board.specs.Boards.{Board}
+use Rattle.seq_program.specs.declared.instr.Instr.{Instr}
+use Rattle.seq_program.specs.Messages.{message_of}
+use Rattle.simulator.specs.Machines.{Machine, Entry}
+use Rattle.simulator.specs.Reports.{LastReport, IsReportedGood}
+use Rattle.simulator.specs.StepDoes.{StepDoes}
+use Rattle.simulator.specs.StepLaws.{StepIsSeen}
+use Rattle.facts.specs.declared.rule.Rule.{Rule}
+use Rattle.facts.specs.Duties.{IsFirstFailing, duties}
+use Rattle.facts.specs.Rows.{Row}
+use Rattle.facts.specs.Sets.{Set, empty}
+use Rattle.session.specs.Known.{Knows}
+use Rattle.session.specs.Telling.{TellsAfter}
+
+pub nothing_known : (b : Board) (s : Set) → s ≡ empty → Knows b [] s
+nothing_known b s is = record {
+  reported = λ d lt. (λ t. absurd (none d t), λ k. absurd k.last);
+  rails = λ d t. absurd (none d t);
+}
+  where
+    none : (d : ℕ) → IsTrue (s d) → ⊥
+    none d t = let off = ap (λ (x : Set). x d) is in cc (off, t)
+
+same_instr : (p : List Instr) (place : ℕ) (i j : Instr) → slice_get p place ≡ Some i
+    → slice_get p place ≡ Some j → i ≡ j
+same_instr p place i j x y = cc (x, y)
+
+pub first_failing : (b : Board) (p : List Instr) (place : ℕ) (i j : Instr) (row known : Row)
+    (found : Option Rule) → slice_get p place ≡ Some i → slice_get p place ≡ Some j → row ≡ known
+    → IsFirstFailing b row i duties found → IsFirstFailing b known j duties found
+first_failing b p place i j row known found x y same k =
+    let P : Instr → Type 0 = λ z. IsFirstFailing b known z duties found in
+    let Q : Row → Type 0 = λ z. IsFirstFailing b z i duties found in
+    subst P (same_instr p place i j x y) (subst Q same k)
+
+-- what the message of the instruction does
+does : (b : Board) (p : List Instr) (m next : Machine) (a : Answered) (e : Entry) (i : Instr)
+    (message : Option Asked) → StepIsSeen b p m a e next → slice_get p m.place ≡ Some i
+    → message ≡ message_of b i m.regs → StepDoes b m.bus message a e
+does b p m next a e i message seen here is =
+    let P : Option Asked → Type 0 = λ x. StepDoes b m.bus x a e in
+    let same : i ≡ seen.instr = same_instr p m.place i seen.instr here seen.here in
+    subst P (sym (is ∙ ap (λ (x : Instr). message_of b x m.regs) same)) seen.does
+
+pub after_message : (b : Board) (p : List Instr) (m next : Machine) (a : Answered) (e : Entry)
+    (i : Instr) (message : Asked) (history : List Entry) (old new : Set)
+    → StepIsSeen b p m a e next → slice_get p m.place ≡ Some i
+    → Some message ≡ message_of b i m.regs
+    → ((d : ℕ) → d < length b.rails → TellsAfter b m.bus (Some message) a d (old d) (new d))
+    → ((d : ℕ) → IsTrue (new d) → d < length b.rails)
+    → Knows b history old → Knows b (e ∷ history) new
+after_message b p m next a e i message history old new seen here is tells rails known = record {
+  reported = λ d lt. tells d lt history e (does b p m next a e i (Some message) seen here is)
+      (known.reported d lt);
+  rails = rails;
+}
+
+pub after_silence : (b : Board) (p : List Instr) (m next : Machine) (a : Answered) (e : Entry)
+    (i : Instr) (history : List Entry) (good : Set)
+    → StepIsSeen b p m a e next → slice_get p m.place ≡ Some i → None ≡ message_of b i m.regs
+    → Knows b history good → Knows b (e ∷ history) good
+after_silence b p m next a e i history good seen here is known = record {
+  reported = λ d lt. (to d lt, from d lt);
+  rails = known.rails;
+}
+  where
+    quiet : StepDoes b m.bus None a e
+    quiet = does b p m next a e i None seen here is
+
+    to : (d : ℕ) → d < length b.rails → IsTrue (good d) → IsReportedGood b (e ∷ history) d
+    to d lt t = let k = (known.reported d lt).0 t in record {
+      word = k.word;
+      last = inr (
+        λ other r. ((quiet.reports d other).0 r).reports,
+        λ w. ((quiet.withdraws d).0 w).written,
+        k.last,
+      );
+      good = k.good;
+    }
+
+    by : (d word : ℕ) → LastReport b (e ∷ history) d word → LastReport b history d word
+    by d word (inl x) = absurd ((quiet.reports d word).0 x).reports
+    by d word (inr x) = x.2
+
+    from : (d : ℕ) → d < length b.rails → IsReportedGood b (e ∷ history) d → IsTrue (good d)
+    from d lt k = (known.reported d lt).1
+        (record { word = k.word; last = by d k.word k.last; good = k.good })

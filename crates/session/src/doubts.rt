@@ -1,0 +1,75 @@
+//! What of a board without faults may be meant otherwise.
+
+ghost use Rattle.std.specs.Prelude.{IfOk, length};
+ghost use Rattle.session.specs.Doubts.{AreDoubts};
+
+mod circle;
+mod idle;
+mod loose;
+mod ready;
+mod unready;
+
+use board::Board;
+use circle::push_circles;
+use idle::push_idle_rails;
+use loose::push_loose_limits;
+use seq_program::Program;
+use std::alloc::{AllocError, Global};
+use unready::{messages_of, push_unready_targets};
+
+/// What may be meant otherwise, and of which target or rail, counted from 0.
+#[derive(Debug, PartialEq, Eq, Drop)]
+pub enum Doubt {
+    /// PAGE of the target may be FFh at the start, all pages, and the program reads by this command
+    /// what a page has, and doesn't write PAGE.
+    AllPages {
+        target: usize,
+        read: u8,
+    },
+    /// WRITE_PROTECT of the target may be this at the start, which forbids a write of this command,
+    /// and the program has one, and doesn't write WRITE_PROTECT.
+    Protected {
+        target: usize,
+        protect: u8,
+        written: u8,
+    },
+    /// Each of these rails needs the next one, and the last the first.
+    Circle(Vec<usize>),
+    /// No entry of its target can turn the rail on.
+    IdleRail {
+        rail: usize,
+        lacks: Lack,
+    },
+    /// No voltage that its target takes is over the rail's limit; this is the greatest, a mantissa.
+    LooseLimit {
+        rail: usize,
+        greatest: u16,
+    },
+}
+
+/// What a rail lacks to be turned on.
+#[derive(Clone, Copy, Debug, PartialEq, Eq)]
+pub enum Lack {
+    /// Its target has no entry for OPERATION.
+    Entry,
+    /// The entry has no value that enables.
+    Value,
+    /// Neither at the start nor by an entry can PAGE come to select it.
+    Page,
+}
+
+/// All doubts about a board and a program on it: targets that may start so that they don't take
+/// what the program sends them, needs that go round in a circle, rails that no entry of their
+/// target can turn on, and limits that no voltage can break. Memory is answered where a growth was
+/// refused.
+pub fn doubts_on(alloc: Global, board: &Board, program: &Program) -> Result<Vec<Doubt>, AllocError>
+    ensures { IfOk result (λ doubts. AreDoubts board.now program.now (length doubts.items)) }
+{
+    let messages = messages_of(alloc, board, program)?;
+    let mut doubts = Vec::new(alloc);
+    push_unready_targets(&mut doubts, board, &messages)?;
+    push_circles(alloc, &mut doubts, board)?;
+    push_idle_rails(&mut doubts, board)?;
+    push_loose_limits(&mut doubts, board)?;
+    Ok(doubts)
+}

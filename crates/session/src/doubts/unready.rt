@@ -1,0 +1,205 @@
+//! Targets that may start so that they don't take what a program sends them.
+
+ghost use Rattle.std.specs.Prelude.{◌≡◌, ◌+◌, length, IfOk, OnOk};
+ghost use Rattle.std.specs.List.{list_any, sum_by};
+ghost use Rattle.session.specs.Doubts.{message_at, sent_by, is_write_of, is_forbidden};
+ghost use Rattle.session.specs.Doubts.{is_read_of_page, starts_at_all_pages, starts_protected};
+ghost use Rattle.session.specs.Doubts.{target_doubts};
+
+use crate::doubts::Doubt;
+use crate::doubts::idle::{ALL_PAGES, is_among};
+use board::{Board, Target};
+use pmbus_table::code::{PAGE, WRITE_PROTECT};
+use pmbus_table::{by_code, permits};
+use seq_program::{Program, message_of};
+use smbus::{Form, Message, carries_code};
+use std::alloc::{AllocError, Global};
+
+/// The message of a program's place, with 0 in its registers.
+fn message_at(
+    alloc: Global,
+    board: &Board,
+    program: &Program,
+    place: usize,
+) -> Result<Option<Message>, AllocError>
+    ensures { IfOk result (λ message. message ≡ message_at board.now program.now place) }
+{
+    match program.at(place) {
+        Some(instr) => message_of(alloc, board, instr, &[0; 8]),
+        None => Ok(None),
+    }
+}
+
+/// The messages of a program's places.
+pub(crate) fn messages_of(
+    alloc: Global,
+    board: &Board,
+    program: &Program,
+) -> Result<Vec<Message>, AllocError>
+    ensures { IfOk result (λ messages. messages.items ≡ sent_by board.now program.now) }
+{
+    let mut messages = Vec::new(alloc);
+    for place in 0..program.places() {
+        if let Some(message) = message_at(alloc, board, program, place)? {
+            messages.push(message)?;
+        }
+    }
+    Ok(messages)
+}
+
+fn is_write_of(device: &Target, code: u8, message: &Message) -> bool
+    ensures { result ≡ is_write_of device.now code message.now }
+{
+    message.address == device.address()
+        && matches!(message.form, Form::WriteByte)
+        && message.code == code
+}
+
+/// Whether a command of a target is written by one of the messages.
+fn is_written(messages: &[Message], device: &Target, code: u8) -> bool
+    ensures { result ≡ list_any (is_write_of device.now code) messages.now }
+{
+    messages
+        .iter()
+        .any(|message| is_write_of(device, code, message))
+}
+
+/// Whether a message to a target is a write that a protection forbids.
+fn is_forbidden(device: &Target, protect: u8, message: &Message) -> bool
+    ensures { result ≡ is_forbidden device.now protect message.now }
+{
+    if message.address != device.address() || !carries_code(message.form) {
+        return false;
+    }
+    match by_code(message.code) {
+        Some(command) => {
+            command.counts_as_write(message.form) && permits(protect, message.code) == Some(false)
+        }
+        None => false,
+    }
+}
+
+/// Whether a message to a target reads what one of its pages has.
+fn is_read_of_page(device: &Target, message: &Message) -> bool
+    ensures { result ≡ is_read_of_page device.now message.now }
+{
+    if message.address != device.address() || !carries_code(message.form) {
+        return false;
+    }
+    match by_code(message.code) {
+        Some(command) => command.paged() && command.form_read() == Some(message.form),
+        None => false,
+    }
+}
+
+fn is_page_read(messages: &[Message], device: &Target) -> bool
+    ensures { result ≡ list_any (is_read_of_page device.now) messages.now }
+{
+    messages
+        .iter()
+        .any(|message| is_read_of_page(device, message))
+}
+
+/// Whether a protection forbids one of the messages.
+fn forbids(messages: &[Message], device: &Target, protect: u8) -> bool
+    ensures { result ≡ list_any (is_forbidden device.now protect) messages.now }
+{
+    messages
+        .iter()
+        .any(|message| is_forbidden(device, protect, message))
+}
+
+fn may_forbid(messages: &[Message], device: &Target) -> bool
+    ensures { result ≡ list_any (λ protect. list_any (is_forbidden device.now protect)
+        messages.now) device.now.start_protects }
+{
+    device
+        .start_protects()
+        .iter()
+        .any(|protect| forbids(messages, device, *protect))
+}
+
+/// Whether all pages are a start value, and the program reads one.
+fn starts_at_all_pages(messages: &[Message], device: &Target) -> bool
+    ensures { result ≡ starts_at_all_pages messages.now device.now }
+{
+    !is_written(messages, device, PAGE)
+        && is_among(device.start_pages(), ALL_PAGES)
+        && is_page_read(messages, device)
+}
+
+/// Whether a start value of WRITE_PROTECT forbids what the program writes.
+fn starts_protected(messages: &[Message], device: &Target) -> bool
+    ensures { result ≡ starts_protected messages.now device.now }
+{
+    !is_written(messages, device, WRITE_PROTECT) && may_forbid(messages, device)
+}
+
+/// The command that a message carries.
+fn code_of(message: Option<&Message>) -> u8 {
+    match message {
+        Some(message) => message.code,
+        None => 0,
+    }
+}
+
+fn page_doubt(target: usize, device: &Target, messages: &[Message]) -> Doubt {
+    let read = messages
+        .iter()
+        .find(|message| is_read_of_page(device, message));
+    Doubt::AllPages {
+        target,
+        read: code_of(read),
+    }
+}
+
+fn protect_doubt(target: usize, device: &Target, messages: &[Message]) -> Doubt {
+    let protect = device
+        .start_protects()
+        .iter()
+        .copied()
+        .find(|protect| forbids(messages, device, *protect))
+        .unwrap_or(0);
+    let written = messages
+        .iter()
+        .find(|message| is_forbidden(device, protect, message));
+    Doubt::Protected {
+        target,
+        protect,
+        written: code_of(written),
+    }
+}
+
+/// Doubts about the start values of a target.
+fn push_target_doubts(
+    doubts: &mut Vec<Doubt>,
+    index: usize,
+    device: &Target,
+    messages: &[Message],
+) -> Result<(), AllocError>
+    ensures { OnOk result (length doubts.new.items
+        ≡ length doubts.old.items + target_doubts messages.now device.now) }
+{
+    if starts_at_all_pages(messages, device) {
+        doubts.push(page_doubt(index, device, messages))?;
+    }
+    if starts_protected(messages, device) {
+        doubts.push(protect_doubt(index, device, messages))?;
+    }
+    Ok(())
+}
+
+/// Doubts about the start values of targets, of which these messages need others.
+pub(crate) fn push_unready_targets(
+    doubts: &mut Vec<Doubt>,
+    board: &Board,
+    messages: &[Message],
+) -> Result<(), AllocError>
+    ensures { OnOk result (length doubts.new.items
+        ≡ length doubts.old.items + sum_by (target_doubts messages.now) board.now.targets) }
+{
+    for (index, device) in board.targets().iter().enumerate() {
+        push_target_doubts(doubts, index, device, messages)?;
+    }
+    Ok(())
+}

@@ -1,0 +1,215 @@
+//! What is found of an input beside the reply to it: what was read, where its sections and places
+//! stand, doubts about its board, and the first breach of its run.
+
+ghost use Rattle.std.specs.Prelude.{length, All};
+ghost use Rattle.seq_program.specs.Valid.{IsOnBoard};
+ghost use Rattle.session.specs.Scenarios.{IsOnItsBoard};
+
+use crate::boards::{TWO, two_board};
+use crate::bundles_rows::answers_of;
+use crate::expected::{holds, same};
+use board::{Board, read_board};
+use bundles::Answers;
+use facts::Rule;
+use seq_program::{Program, read_program};
+use session::{
+    Breach, Doubt, Keeping, Reached, Scenario, doubts_on, first_breach, part_at, place_line,
+    place_lines, run_through, section_of,
+};
+use std::alloc::{AllocError, Global};
+use std::io::Read;
+use std::process::Abort;
+use std::test::*;
+
+/// How many bytes are read, and whether they are kept: those that aren't over 1 MiB.
+static KEPT: [(usize, bool); 4] = [
+    (0, true),
+    (5, true),
+    (1 << 20, true),
+    ((1 << 20) + 1, false),
+];
+
+/// Whether so many bytes are kept as they were, or none.
+fn is_kept(alloc: Global, count: usize) -> Option<bool> {
+    let bytes = "x".repeat(alloc, count).ok()?;
+    let mut reader = Keeping::new(alloc, bytes.as_bytes());
+    let mut text = String::new(alloc);
+    reader.read_to_string(&mut text).ok()?;
+    match reader.kept() {
+        Some(kept) => (kept == bytes.as_bytes()).then_some(true),
+        None => Some(false),
+    }
+}
+
+fn all_are_kept(rt: &impl Abort, alloc: Global, rows: &[(usize, bool)]) {
+    for (count, want) in rows {
+        same(rt, (*count, is_kept(alloc, *count)), (*count, Some(*want)));
+    }
+}
+
+#[test]
+fn kept_input(rt: HostRuntime) {
+    all_are_kept(&rt, rt.alloc(), &KEPT);
+}
+
+const BUNDLE: &str = "%check\n%board\n# none\n%program\nend\n\nfail\n%table\n";
+
+/// The text of a section, and how many lines stand above it.
+fn part_of(alloc: Global, index: usize) -> Result<Option<(String, usize)>, AllocError> {
+    match part_at(alloc, BUNDLE, index)? {
+        Some(part) => Ok(Some((part.text, part.above))),
+        None => Ok(None),
+    }
+}
+
+#[test]
+fn sections(rt: HostRuntime) {
+    let program = String::from_str(rt.alloc(), "end\n\nfail\n").map(|text| Some((text, 4)));
+    same(&rt, part_of(rt.alloc(), 1), program);
+    same(&rt, part_of(rt.alloc(), 3), Ok(None));
+    let board = String::from_str(rt.alloc(), "# none\n").map(|text| Some(text));
+    same(&rt, section_of(rt.alloc(), BUNDLE, 0), board);
+}
+
+/// A place is an instruction: no label is one, and no line without words.
+const PLACES: &str = "# first\nend\n\nthen:\nfail # last\n";
+
+#[test]
+fn places(rt: HostRuntime) {
+    holds(&rt, place_lines(rt.alloc(), PLACES), &[2, 5]);
+    same(&rt, place_line(rt.alloc(), PLACES, 1), Ok(Some(5)));
+    same(&rt, place_line(rt.alloc(), PLACES, 2), Ok(None));
+}
+
+/// The doubts about a board, and a program that does nothing.
+fn doubts_of(alloc: Global, board: &Board) -> Result<Vec<Doubt>, AllocError> {
+    match read_program(alloc, board, "end") {
+        Ok(program) => doubts_on(alloc, board, &program),
+        Err(_) => Err(AllocError),
+    }
+}
+
+/// The doubts about TWO with a text in place of another.
+fn doubts_where(alloc: Global, old: &str, new: &str) -> Result<Vec<Doubt>, AllocError> {
+    match read_board(alloc, &TWO.replace(alloc, old, new)?) {
+        Ok(board) => doubts_of(alloc, &board),
+        Err(_) => Err(AllocError),
+    }
+}
+
+/// No voltage is over this limit.
+const LOOSE: Doubt = Doubt::LooseLimit {
+    rail: 1,
+    greatest: 65_535,
+};
+
+#[test]
+fn doubts(rt: HostRuntime) {
+    holds(&rt, doubts_where(rt.alloc(), "", ""), &[]);
+    holds(
+        &rt,
+        doubts_where(rt.alloc(), "3300000", "4294967295"),
+        &[LOOSE],
+    );
+}
+
+/// Whether a run comes to its last answer, and what it breaks first.
+type Found = (bool, Option<Breach>);
+
+fn breach_of(alloc: Global, scenario: &Scenario<'_>) -> Result<Option<Breach>, AllocError>
+    requires { IsOnItsBoard scenario.now }
+{
+    match first_breach(alloc, scenario)? {
+        Some(Reached { breach, .. }) => Ok(Some(breach)),
+        None => Ok(None),
+    }
+}
+
+fn of_scenario(alloc: Global, scenario: &Scenario<'_>) -> Result<Found, AllocError>
+    requires { IsOnItsBoard scenario.now }
+{
+    let is_whole = run_through(alloc, scenario).is_ok();
+    Ok((is_whole, breach_of(alloc, scenario)?))
+}
+
+fn of_answers(
+    alloc: Global,
+    board: Board,
+    program: Program,
+    answers: Answers<'_>,
+) -> Result<Found, AllocError>
+    requires { All (λ i. IsOnBoard (length board.targets) i) program }
+{
+    of_scenario(
+        alloc,
+        &Scenario {
+            board,
+            program,
+            answers,
+        },
+    )
+}
+
+fn of_program(
+    alloc: Global,
+    board: Board,
+    program: Program,
+    answers: &str,
+) -> Result<Found, AllocError>
+    requires { All (λ i. IsOnBoard (length board.targets) i) program }
+{
+    match answers_of(alloc, answers) {
+        Ok(answers) => of_answers(alloc, board, program, answers),
+        Err(_) => Err(AllocError),
+    }
+}
+
+/// What is found of the run of a program on a board, whose answers are the last section of a
+/// bundle.
+fn found_in(
+    alloc: Global,
+    board: Board,
+    program: &str,
+    answers: &str,
+) -> Result<Found, AllocError> {
+    match read_program(alloc, &board, program) {
+        Ok(program) => of_program(alloc, board, program, answers),
+        Err(_) => Err(AllocError),
+    }
+}
+
+/// The second rail needs the first, which wasn't turned on.
+const EARLY: &str = "wait 1\nwrite b OPERATION 0x80 else bad\nend\nbad:\nfail\n";
+
+/// The answers to it, and what is found: a read's value doesn't fit a write.
+static FOUND: [(&str, Found); 3] = [
+    ("-\n-\n", (true, Some(K5))),
+    ("-\nvalue=7\n", (false, Some(K5))),
+    ("-\n", (true, None)),
+];
+
+const K5: Breach = Breach {
+    index: 1,
+    place: 1,
+    rule: Rule::K5,
+};
+
+fn early_found(alloc: Global, answers: &str) -> Result<Found, AllocError> {
+    let start = "%run\n%board\n%program\n%answers\nstart 00,00 00,00\n";
+    let text = format!(in alloc; "{start}{answers}")?;
+    match two_board(alloc) {
+        Ok(board) => found_in(alloc, board, EARLY, &text),
+        Err(_) => Err(AllocError),
+    }
+}
+
+fn all_are_found(rt: &impl Abort, alloc: Global, rows: &[(&str, Found)]) {
+    for (answers, want) in rows {
+        same(rt, early_found(alloc, answers), Ok(*want));
+    }
+}
+
+#[test]
+fn breaches(rt: HostRuntime) {
+    all_are_found(&rt, rt.alloc(), &FOUND);
+}
