@@ -11,4 +11,6 @@ pub mod WellFormedBundles
 pub mod ReadBundles
 pub mod NumberedSections
 pub mod CheckedLines
+pub mod ListedBytes
+pub mod ListedHolds
 pub mod Silence
