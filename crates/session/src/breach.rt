@@ -1,9 +1,8 @@
 //! The first step of a run that breaks a rule.
 
-ghost use Rattle.std.specs.Prelude.{◌≡◌, ◌≤◌, None, Some, All, IfOk, IfSome, false, is_some};
+ghost use Rattle.std.specs.Prelude.{◌≡◌, ◌≤◌, None, Some, All, IfOk, IfSome, false};
 ghost use Rattle.std.specs.Prelude.{length};
 ghost use Rattle.std.specs.Prelude.{option_map, slice_get};
-ghost use Rattle.facts.specs.Requests.{sent_in};
 ghost use Rattle.facts.specs.Rows.{row_view};
 ghost use Rattle.facts.specs.Sets.{rails_in};
 ghost use Rattle.seq_program.specs.Valid.{IsOnBoard};
@@ -22,7 +21,7 @@ mod judge;
 mod known;
 mod reporting;
 
-use crate::breach::judge::Judge;
+use crate::breach::judge::{Judge, sends};
 use crate::law::accepted_runs_keep_rules;
 use crate::scenario::Scenario;
 use board::{Board, board_is_valid};
@@ -146,25 +145,7 @@ fn run_breach(alloc: Global, scenario: &Scenario<'_>) -> Result<Option<Reached>,
     Ok(None)
 }
 
-/// Whether an instruction sends something to a target.
-fn sends(instr: &Instr) -> bool
-    ensures { result ≡ is_some (sent_in instr.now) }
-{
-    match instr {
-        Instr::Quick { .. }
-        | Instr::Send { .. }
-        | Instr::Receive { .. }
-        | Instr::Write { .. }
-        | Instr::Read { .. }
-        | Instr::Call { .. }
-        | Instr::BlockWrite { .. }
-        | Instr::BlockRead { .. }
-        | Instr::BlockCall { .. } => true,
-        _ => false,
-    }
-}
-
-/// Whether some instruction does.
+/// Whether some instruction sends something to a target.
 fn sends_something(program: &Program) -> bool
     ensures { result ≡ false → SendsNothing program.now }
 {

@@ -1,7 +1,8 @@
 //! The judge of a run.
 
 ghost use Rattle.std.specs.Prelude.{◌≡◌, ◌∷◌, ◌<◌, ◌||◌, ◌&&◌, ◌==◌, [], ℕ, IsTrue, Some};
-ghost use Rattle.std.specs.Prelude.{length, slice_get};
+ghost use Rattle.std.specs.Prelude.{length, slice_get, is_some};
+ghost use Rattle.facts.specs.Requests.{sent_in};
 ghost use Rattle.facts.specs.Sets.{rails_in};
 ghost use Rattle.session.specs.Telling.{TellsAfter};
 
@@ -81,6 +82,24 @@ fn instr_of<'a>(program: &'a Program, machine: &Machine) -> &'a Instr
     }
 }
 
+/// Whether an instruction sends something to a target.
+pub(crate) fn sends(instr: &Instr) -> bool
+    ensures { result ≡ is_some (sent_in instr.now) }
+{
+    match instr {
+        Instr::Quick { .. }
+        | Instr::Send { .. }
+        | Instr::Receive { .. }
+        | Instr::Write { .. }
+        | Instr::Read { .. }
+        | Instr::Call { .. }
+        | Instr::BlockWrite { .. }
+        | Instr::BlockRead { .. }
+        | Instr::BlockCall { .. } => true,
+        _ => false,
+    }
+}
+
 impl Judge {
     ghost use Rattle.std.specs.Prelude.{◌≡◌, ◌∷◌, ◌<◌, [], List, IfOk, OnOk, OnErr, Some, length};
     ghost use Rattle.std.specs.Prelude.{slice_get};
@@ -128,8 +147,12 @@ impl Judge {
             → slice_get program.now machine.now.place ≡ Some i
             → IsBreach board.now (rails_in self.now.good) machine.now i found) }
     {
+        let instr = instr_of(program, machine);
+        if !sends(instr) {
+            return Ok(None);
+        }
         let row = self.row(alloc, board, machine)?;
-        Ok(duty(board, instr_of(program, machine), &row))
+        Ok(duty(board, instr, &row))
     }
 
     /// Takes notice of the step that a machine makes under an answer. The machine is one of the
