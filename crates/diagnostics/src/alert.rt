@@ -30,7 +30,7 @@ pub(crate) fn alert_misfit(alloc: Global, step: &Step) -> Sentence<'static> {
     match alert_byte(alloc, step) {
         Some(byte) => Sentence::one(
             "the target that wins the alert response is told by \"value={}\" alone",
-            Word::Digits(byte),
+            Word::Hex(byte, 1),
         ),
         None => Sentence::plain("nobody alerts here, and that is told by \"refuse=0\" alone"),
     }

@@ -66,79 +66,6 @@ fn number(number: u16) -> Word<'static> {
     Word::Number(u64::from(number))
 }
 
-/// What may be written, where that isn't within a range.
-fn value_detail(range: Range, least: u16, most: u16) -> Option<Advice<'static>> {
-    let Range { low, high } = range;
-    if low <= least && most <= high {
-        return None;
-    }
-    let (low, high) = (number(low), number(high));
-    if least == most {
-        let message = Sentence::three(
-            "{} is written, and its entry takes {} to {}",
-            number(most),
-            low,
-            high,
-        );
-        return blamed(message, NARROWER);
-    }
-    let message = Sentence::four(
-        "{} to {} may be written, and its entry takes {} to {}",
-        number(least),
-        number(most),
-        low,
-        high,
-    );
-    blamed(message, BOUNDED)
-}
-
-fn is_in(range: Range, number: usize) -> bool {
-    usize::from(range.low) <= number && number <= usize::from(range.high)
-}
-
-/// What of a block that is written isn't within an entry's ranges.
-fn block_detail(entry: &Allow, out: &[u8]) -> Option<Advice<'static>> {
-    let count = out.len();
-    let Range { low, high } = entry.length();
-    if !is_in(entry.length(), count) {
-        let message = Sentence::three(
-            "{} bytes are written, and its entry takes {} to {}",
-            Word::Count(count),
-            number(low),
-            number(high),
-        );
-        return blamed(message, OTHER_COUNT);
-    }
-    let values = entry.values();
-    let byte = out
-        .iter()
-        .copied()
-        .find(|byte| !is_in(values, usize::from(*byte)))?;
-    let Range { low, high } = values;
-    let message = Sentence::three(
-        "the byte {} is written, and its entry takes {} to {}",
-        Word::Byte(u16::from(byte)),
-        Word::Byte(low),
-        Word::Byte(high),
-    );
-    blamed(message, NARROWER)
-}
-
-/// Why both blocks of a call have too many bytes together.
-fn both_detail(entry: &Allow, out: &[u8]) -> Option<Advice<'static>> {
-    let (count, most) = (out.len(), entry.length().high);
-    if count.saturating_add(usize::from(most)) <= MOST_OF_BOTH {
-        return None;
-    }
-    let message = Sentence::three(
-        "{} bytes are written and up to {} come back, over {} together",
-        Word::Count(count),
-        number(most),
-        Word::Count(MOST_OF_BOTH),
-    );
-    blamed(message, FEWER)
-}
-
 /// Which values PAGE takes.
 fn known_pages(device: &Target) -> Option<Advice<'static>> {
     let last = device.pages().saturating_sub(1);
@@ -155,14 +82,116 @@ fn known_pages(device: &Target) -> Option<Advice<'static>> {
 }
 
 /// Which values a command takes, of those that take few.
-fn known_values(device: &Target, message: &Message) -> Option<Advice<'static>> {
-    let text = match message.code {
+fn known_values(device: &Target, code: u8) -> Option<Advice<'static>> {
+    let text = match code {
         PAGE => return known_pages(device),
         WRITE_PROTECT => "WRITE_PROTECT takes 0, 0x20, 0x40 and 0x80",
         OPERATION => "OPERATION takes 0, 0x40 and 0x80 in a program",
         _ => return None,
     };
     blamed(Sentence::plain(text), ONE_OF_THESE)
+}
+
+/// What one number is that isn't within a range.
+fn number_detail(range: Range, written: u16) -> Option<Advice<'static>> {
+    let message = Sentence::three(
+        "{} is written, and its entry takes {} to {}",
+        number(written),
+        number(range.low),
+        number(range.high),
+    );
+    blamed(message, NARROWER)
+}
+
+/// What may be written, where that isn't within a range.
+fn value_detail(range: Range, least: u16, most: u16) -> Option<Advice<'static>> {
+    if least == most {
+        return number_detail(range, most);
+    }
+    let message = Sentence::four(
+        "{} to {} may be written, and its entry takes {} to {}",
+        number(least),
+        number(most),
+        number(range.low),
+        number(range.high),
+    );
+    blamed(message, BOUNDED)
+}
+
+/// Why an entry doesn't permit the values that are written, from the least to the greatest.
+fn written_detail(
+    device: &Target,
+    range: Range,
+    least: &Message,
+    most: &Message,
+) -> Option<Advice<'static>> {
+    let (code, least, most) = (most.code, number_of(&least.out), number_of(&most.out));
+    if range.low <= least && most <= range.high {
+        known_values(device, code)
+    } else {
+        value_detail(range, least, most)
+    }
+}
+
+fn is_in(range: Range, number: usize) -> bool {
+    usize::from(range.low) <= number && number <= usize::from(range.high)
+}
+
+/// What is wrong with the count of a block.
+fn count_detail(range: Range, count: usize) -> Option<Advice<'static>> {
+    let message = Sentence::three(
+        "{} bytes are written, and its entry takes {} to {}",
+        Word::Count(count),
+        number(range.low),
+        number(range.high),
+    );
+    blamed(message, OTHER_COUNT)
+}
+
+/// What is wrong with a byte of a block.
+fn byte_detail(range: Range, byte: u8) -> Option<Advice<'static>> {
+    let message = Sentence::three(
+        "the byte {} is written, and its entry takes {} to {}",
+        Word::Hex(u16::from(byte), 2),
+        Word::Hex(range.low, 2),
+        Word::Hex(range.high, 2),
+    );
+    blamed(message, NARROWER)
+}
+
+/// The first byte of a block that isn't within a range.
+fn first_outside(range: Range, block: &[u8]) -> Option<u8> {
+    block
+        .iter()
+        .copied()
+        .find(|byte| !is_in(range, usize::from(*byte)))
+}
+
+/// What of a block that is written isn't within an entry's ranges.
+fn block_detail(device: &Target, entry: &Allow, message: &Message) -> Option<Advice<'static>> {
+    let count = message.out.len();
+    if !is_in(entry.length(), count) {
+        return count_detail(entry.length(), count);
+    }
+    match first_outside(entry.values(), &message.out) {
+        Some(byte) => byte_detail(entry.values(), byte),
+        None => known_values(device, message.code),
+    }
+}
+
+/// Why both blocks of a call have too many bytes together.
+fn both_detail(device: &Target, entry: &Allow, message: &Message) -> Option<Advice<'static>> {
+    let (count, most) = (message.out.len(), entry.length().high);
+    if count.saturating_add(usize::from(most)) <= MOST_OF_BOTH {
+        return known_values(device, message.code);
+    }
+    let message = Sentence::three(
+        "{} bytes are written and up to {} come back, over {} together",
+        Word::Count(count),
+        number(most),
+        Word::Count(MOST_OF_BOTH),
+    );
+    blamed(message, FEWER)
 }
 
 /// Why an entry doesn't permit what may be sent, from its least values to its greatest.
@@ -172,15 +201,12 @@ fn entry_detail(
     least: &Message,
     most: &Message,
 ) -> Option<Advice<'static>> {
-    let detail = match most.form {
-        Form::WriteByte | Form::WriteWord => {
-            value_detail(entry.values(), number_of(&least.out), number_of(&most.out))
-        }
-        Form::BlockWrite => block_detail(entry, &most.out),
-        Form::BlockProcessCall => both_detail(entry, &most.out),
-        _ => None,
-    };
-    detail.or(known_values(device, most))
+    match most.form {
+        Form::WriteByte | Form::WriteWord => written_detail(device, entry.values(), least, most),
+        Form::BlockWrite => block_detail(device, entry, most),
+        Form::BlockProcessCall => both_detail(device, entry, most),
+        _ => known_values(device, most.code),
+    }
 }
 
 /// Why no entry permits what an instruction may send, from its least values to its greatest.

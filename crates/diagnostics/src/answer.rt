@@ -62,10 +62,9 @@ fn stop_remark(
 ) -> Result<Remark, AllocError> {
     let misfit = step_misfit(alloc, scenario, stop)?;
     let place = place_text(alloc, program, stop.machine.place)?;
-    Ok(Remark {
-        message: format!(in alloc; "answer {index} doesn't fit: {misfit}")?,
-        help: Some(format!(in alloc; "it answers {place}")?),
-    })
+    let message = format!(in alloc; "answer {index} doesn't fit: {misfit}")?;
+    let help = format!(in alloc; "it answers {place}")?;
+    Ok(Remark::new(message, Some(help)))
 }
 
 /// The same of an answer to which no run comes.
@@ -130,7 +129,7 @@ fn late_answer(
     let place = last_place(alloc, scenario, index)?;
     let help = end_help(alloc, program, place)?;
     let message = format!(in alloc; "answer {index} comes after the end of the program")?;
-    Ok(Remark { message, help })
+    Ok(Remark::new(message, help))
 }
 
 /// What is said of a fault.

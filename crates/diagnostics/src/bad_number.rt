@@ -52,6 +52,22 @@ fn first_misplaced<'a>(operands: &[Operand], words: &[&'a str]) -> Option<Mispla
     None
 }
 
+/// The same behind an instruction.
+fn misplaced_in<'a>(words: &[&'a str]) -> Option<Misplaced<'a>> {
+    let (instruction, words) = words.split_first()?;
+    first_misplaced(operands_of(instruction)?, words)
+}
+
+/// How a command of the instruction `write` is written, where that is the word's.
+fn write_help<'a>(words: &[&'a str], high: u32) -> Option<Sentence<'a>> {
+    if words.first().copied() != Some("write") {
+        return None;
+    }
+    let command = Word::Name(words.get(2)?);
+    let size = if high == 255 { "byte" } else { "word" };
+    Some(Sentence::two("{} is written as a {}", command, Word::Text(size)))
+}
+
 /// What may help where a number can't stand.
 fn number_help<'a>(words: &[&'a str], misplaced: Misplaced) -> Option<Sentence<'a>> {
     if let Some(habit) = habit_in(words) {
@@ -60,30 +76,12 @@ fn number_help<'a>(words: &[&'a str], misplaced: Misplaced) -> Option<Sentence<'
     if number_within(0, u32::MAX, misplaced.word).is_none() {
         return Some(Sentence::plain(FORM));
     }
-    match words {
-        ["write", _, command, ..] => {
-            let size = if misplaced.high == 255 {
-                "byte"
-            } else {
-                "word"
-            };
-            let command = Word::Name(command);
-            Some(Sentence::two("{} is written as a {}", command, Word::Text(size)))
-        }
-        _ => None,
-    }
+    write_help(words, misplaced.high)
 }
 
-/// What is said of a line with such a word.
-pub(crate) fn bad_number(alloc: Global, words: &[&str]) -> Result<Remark, AllocError> {
-    let [instruction, operand_words @ ..] = words else {
-        return Remark::plain(alloc, "a bad number");
-    };
-    let operands = operands_of(instruction).unwrap_or(&[]);
-    let Some(misplaced) = first_misplaced(operands, operand_words) else {
-        return Remark::plain(alloc, "a bad number");
-    };
-    let advice = Advice {
+/// What is said of a word in a line that stands in the place of a number.
+fn advice_on<'a>(words: &[&'a str], misplaced: Misplaced<'a>) -> Advice<'a> {
+    Advice {
         message: Sentence::three(
             "expected a number from {} to {}, found {}",
             Word::Number(u64::from(misplaced.low)),
@@ -91,6 +89,13 @@ pub(crate) fn bad_number(alloc: Global, words: &[&str]) -> Result<Remark, AllocE
             Word::Name(misplaced.word),
         ),
         help: number_help(words, misplaced),
-    };
-    advice.told(alloc)
+    }
+}
+
+/// What is said of a line with such a word.
+pub(crate) fn bad_number(alloc: Global, words: &[&str]) -> Result<Remark, AllocError> {
+    match misplaced_in(words) {
+        Some(misplaced) => advice_on(words, misplaced).told(alloc),
+        None => Remark::plain(alloc, "a bad number"),
+    }
 }

@@ -93,7 +93,7 @@ fn bad_value(
             "{} doesn't start with {} {}",
             target_word(board, index),
             Word::Text(kept.command()),
-            Word::Byte(u16::from(value)),
+            Word::Hex(u16::from(value), 2),
         ),
         help: Some(Sentence::two(
             "its \"{}\" on the board: {}",

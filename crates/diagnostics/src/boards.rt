@@ -6,6 +6,7 @@ ghost use Rattle.texts.specs.Words.{lines_by_feed};
 ghost use Rattle.diagnostics.specs.Boards.{IsLineNumber, IsOnSomeLine};
 
 mod blame;
+mod blamed;
 mod describe;
 mod document;
 mod doubt;

@@ -80,13 +80,12 @@ fn no_text(alloc: Global, text: &str, fault: BundleFault) -> Result<Remark, Allo
 
 /// What is said of an input without a line.
 fn no_command(alloc: Global) -> Result<Remark, AllocError> {
-    Ok(Remark {
-        message: String::from_str(alloc, "the input is empty")?,
-        help: help_of(
-            alloc,
-            Some("the first line is a command, as %verify, and its sections follow, as %board"),
-        )?,
-    })
+    let message = String::from_str(alloc, "the input is empty")?;
+    let help = help_of(
+        alloc,
+        Some("the first line is a command, as %verify, and its sections follow, as %board"),
+    )?;
+    Ok(Remark::new(message, help))
 }
 
 /// What a person needs to mend a text that is no bundle: the fault's line with its number, what is

@@ -21,17 +21,16 @@ impl Cause {
     pub(crate) fn of(blame: Option<Remark>, known: Option<String>) -> Cause {
         Cause {
             blame,
-            background: Background { known, way: None },
+            background: Background::of(known),
         }
     }
 
     /// The same, and how the place is reached.
     pub(crate) fn reached_by(self, way: Option<String>) -> Cause {
         let Cause { blame, background } = self;
-        let Background { known, .. } = background;
         Cause {
             blame,
-            background: Background { known, way },
+            background: background.reached_by(way),
         }
     }
 }

@@ -4,7 +4,7 @@ use crate::allowed_detail::allowed_detail;
 use crate::cause::Cause;
 use crate::edge_detail::edge_detail;
 use crate::facts_here::{facts_here, has_rail, rail_word, target_word};
-use crate::remark::bare;
+use crate::remark::{Remark, bare};
 use crate::roads::Judged;
 use crate::sent::{greatest_sent, least_sent, number_of};
 use crate::sentence::{Sentence, Word, advised, told};
@@ -77,7 +77,7 @@ fn protection_detail<'a>(
     Some(Sentence::two(
         "{} may store {}h here",
         target,
-        Word::Byte(u16::from(value)),
+        Word::Hex(u16::from(value), 2),
     ))
 }
 
@@ -111,7 +111,41 @@ fn limit_detail<'a>(board: &'a Board, row: &Row, target: usize, most: u16) -> Op
     None
 }
 
-/// What is to blame for a message to a target that breaks a rule, and what is known there.
+/// What is to blame for a message to a target that breaks another rule than the first.
+fn sentence_on<'a>(
+    board: &'a Board,
+    row: &Row,
+    target: usize,
+    rule: Rule,
+    most: &Message,
+) -> Option<Sentence<'a>> {
+    match rule {
+        Rule::K2 => page_detail(board, target, most.code),
+        Rule::K3 => protection_detail(board, row, target, most.code),
+        Rule::K4 => limit_detail(board, row, target, number_of(&most.out)),
+        Rule::K5 => need_detail(board, row, target),
+        _ => None,
+    }
+}
+
+/// The same of any rule, and for the first what may mend it.
+fn message_blame(
+    alloc: Global,
+    board: &Board,
+    row: &Row,
+    target: usize,
+    rule: Rule,
+    least: &Message,
+    most: &Message,
+) -> Result<Option<Remark>, AllocError> {
+    if let Rule::K1 = rule {
+        return advised(alloc, allowed_detail(board, target, least, most));
+    }
+    let sentence = sentence_on(board, row, target, rule, most);
+    Ok(bare(told(alloc, sentence)?))
+}
+
+/// What is to blame for a message that breaks a rule, and what is known there.
 fn message_cause(
     alloc: Global,
     board: &Board,
@@ -123,17 +157,7 @@ fn message_cause(
     let Some(target) = board.target_at(most.address) else {
         return Ok(Cause::none());
     };
-    let blame = match rule {
-        Rule::K1 => advised(alloc, allowed_detail(board, target, least, most))?,
-        Rule::K2 => bare(told(alloc, page_detail(board, target, most.code))?),
-        Rule::K3 => bare(told(alloc, protection_detail(board, row, target, most.code))?),
-        Rule::K4 => bare(told(
-            alloc,
-            limit_detail(board, row, target, number_of(&most.out)),
-        )?),
-        Rule::K5 => bare(told(alloc, need_detail(board, row, target))?),
-        _ => None,
-    };
+    let blame = message_blame(alloc, board, row, target, rule, least, most)?;
     let known = facts_here(alloc, board, row, target, rule)?;
     Ok(Cause::of(blame, known))
 }

@@ -50,13 +50,12 @@ fn end_message(alloc: Global, text: &str) -> Result<String, AllocError> {
 
 /// What is said of a program that doesn't end.
 pub(crate) fn no_end(alloc: Global, text: &str) -> Result<Remark, AllocError> {
-    Ok(Remark {
-        message: end_message(alloc, text)?,
-        help: help_of(
-            alloc,
-            Some("a program's last instruction is \"end\" or \"fail\""),
-        )?,
-    })
+    let message = end_message(alloc, text)?;
+    let help = help_of(
+        alloc,
+        Some("a program's last instruction is \"end\" or \"fail\""),
+    )?;
+    Ok(Remark::new(message, help))
 }
 
 /// What is said of the first instruction that is too many.

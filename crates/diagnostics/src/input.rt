@@ -48,10 +48,7 @@ fn bare_note(alloc: Global, number: usize, fault: ProgramFault) -> Result<String
     ensures { IfOk result (λ note. IsNote (codes "%program") number [] (string_bytes note)) }
 {
     let message = format!(in alloc; "{fault}")?;
-    let remark = Remark {
-        message,
-        help: None,
-    };
+    let remark = Remark::new(message, None);
     note_of(alloc, "%program", "", number, &remark)
 }
 

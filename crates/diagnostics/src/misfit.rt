@@ -60,7 +60,7 @@ fn first_silent(board: &Board, alerts: u16) -> Option<usize> {
 
 /// What is wrong with targets that begin to alert.
 fn alerts_misfit(board: &Board, alerts: u16) -> Sentence<'_> {
-    let digits = Word::Digits(alerts);
+    let digits = Word::Hex(alerts, 1);
     let Some(index) = first_silent(board, alerts) else {
         return Sentence::one("alerts={}", digits);
     };

@@ -1,24 +1,14 @@
 //! The text of a note.
 
 ghost use Rattle.std.specs.Prelude.{◌≡◌, ◌++◌, codes, option_copied, string_bytes};
-ghost use Rattle.std.specs.Prelude.{IfOk, IfSome, OnOk};
+ghost use Rattle.std.specs.Prelude.{IfOk, OnOk};
 ghost use Rattle.texts.specs.Words.{lines_by_feed};
-ghost use Rattle.diagnostics.specs.Notes.{NoFeed, head, quoted, noted, helped, IsNote, IsNoteOf};
+ghost use Rattle.diagnostics.specs.Notes.{head, quoted, noted, helped, IsNote, IsNoteOf};
 
 use crate::background::Background;
 use crate::lines::line_at;
 use crate::remark::Remark;
 use std::alloc::{AllocError, Global};
-
-/// What stands before the first line feed.
-fn one_line(text: &str) -> &str
-    ensures { NoFeed result.now }
-{
-    match text.split_once('\n') {
-        Some((line, _)) => line,
-        None => text,
-    }
-}
 
 /// Adds the first line of a note.
 fn push_message(
@@ -67,16 +57,6 @@ fn push_help(note: &mut String, help: Option<&str>) -> Result<(), AllocError>
     }
 }
 
-/// What stands before the first line feed, where there is a text.
-fn one_line_of(text: &Option<String>) -> Option<&str>
-    ensures { IfSome (option_copied result) NoFeed }
-{
-    match text {
-        Some(text) => Some(one_line(text)),
-        None => None,
-    }
-}
-
 /// The note of a kind on the line of a section with this number: what is said of it, the line, what
 /// is known beside, and what may help.
 fn made(
@@ -92,11 +72,11 @@ fn made(
         IsNoteOf kind.now section.now number (lines_by_feed text.now) (string_bytes note)) }
 {
     let mut note = String::new(alloc);
-    push_message(&mut note, kind, section, number, one_line(&remark.message))?;
+    push_message(&mut note, kind, section, number, remark.message())?;
     push_line(&mut note, line_at(text, number))?;
-    push_noted(&mut note, one_line_of(&background.known))?;
-    push_noted(&mut note, one_line_of(&background.way))?;
-    push_help(&mut note, one_line_of(&remark.help))?;
+    push_noted(&mut note, background.known())?;
+    push_noted(&mut note, background.way())?;
+    push_help(&mut note, remark.help())?;
     Ok(note)
 }
 

@@ -97,16 +97,15 @@ pub(crate) fn blaming(
     let Some(blame) = blame else {
         let message = String::from_str(alloc, sentence)?;
         let help = help_of(alloc, help_on(refusal))?;
-        return Ok(Remark { message, help });
+        return Ok(Remark::new(message, help));
     };
-    let detail = blame.message;
-    Ok(Remark {
-        message: format!(in alloc; "{sentence}: {detail}")?,
-        help: match blame.help {
-            Some(help) => Some(help),
-            None => help_of(alloc, help_on(refusal))?,
-        },
-    })
+    let detail = blame.message();
+    let message = format!(in alloc; "{sentence}: {detail}")?;
+    let help = match blame.into_help() {
+        Some(help) => Some(help),
+        None => help_of(alloc, help_on(refusal))?,
+    };
+    Ok(Remark::new(message, help))
 }
 
 /// The note on a refusal, with what is to blame for it.

@@ -12,8 +12,8 @@ use std::alloc::Global;
 /// A number with as many digits as the form's values have.
 fn digits_of(form: Form, number: u16) -> Word<'static> {
     match form {
-        Form::ReadWord | Form::ProcessCall => Word::Value(number),
-        _ => Word::Byte(number),
+        Form::ReadWord | Form::ProcessCall => Word::Hex(number, 4),
+        _ => Word::Hex(number, 2),
     }
 }
 
@@ -29,9 +29,9 @@ fn target_name<'a>(board: &'a Board, message: &Message) -> &'a str {
 fn subject_of<'a>(board: &'a Board, message: &Message) -> Word<'a> {
     let target = target_name(board, message);
     if by_code(message.code).is_some() && carries_code(message.form) {
-        Word::Read(message.code, target)
+        Word::Read(Some(message.code), target)
     } else {
-        Word::Sent(target)
+        Word::Read(None, target)
     }
 }
 
@@ -55,7 +55,7 @@ fn form_text(form: Form) -> &'static str {
 fn nothing_misfit(form: Form, answer: &Answer) -> Sentence<'static> {
     let text = Word::Text(form_text(form));
     if answer.value != 0 {
-        let value = Word::Value(answer.value);
+        let value = Word::Hex(answer.value, 4);
         return Sentence::two("value {} for {}, whose answer is \"-\"", value, text);
     }
     Sentence::one("a block for {}, whose answer is \"-\"", text)
@@ -69,8 +69,8 @@ fn stored_misfit<'a>(step: &Step<'a>, message: &Message, stored: &[u8]) -> Sente
     Sentence::three(
         "{} is {} here, the answer says {}",
         subject_of(board, message),
-        Word::Byte(u16::from(byte)),
-        Word::Byte(answer.value),
+        Word::Hex(u16::from(byte), 2),
+        Word::Hex(answer.value, 2),
     )
 }
 
@@ -126,10 +126,10 @@ fn bytes_misfit<'a>(step: &Step<'a>, message: &Message, entry: &Allow) -> Senten
     });
     Sentence::four(
         "byte {} in the block; those of {} are {} to {} on the board",
-        Word::Byte(u16::from(outside.unwrap_or(0))),
+        Word::Hex(u16::from(outside.unwrap_or(0)), 2),
         subject,
-        Word::Byte(low),
-        Word::Byte(high),
+        Word::Hex(low, 2),
+        Word::Hex(high, 2),
     )
 }
 
@@ -138,7 +138,7 @@ fn block_misfit<'a>(step: &Step<'a>, message: &Message) -> Sentence<'a> {
     let text = Word::Text(form_text(message.form));
     let (board, answer) = (step.board, step.answer);
     if answer.value != 0 {
-        let value = Word::Value(answer.value);
+        let value = Word::Hex(answer.value, 4);
         return Sentence::two("value {} for {}, whose answer is \"bytes=\"", value, text);
     }
     let (count, written) = (answer.bytes.len(), message.out.len());

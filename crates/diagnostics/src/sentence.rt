@@ -20,33 +20,16 @@ pub(crate) enum Word<'a> {
     Number(u64),
     /// The numbers from the first to the second.
     Span(u16, u16),
-    /// Hexadecimal digits, as many as it takes.
-    Digits(u16),
-    /// Two of them, or as many as it takes.
-    Byte(u16),
-    /// Four of them.
-    Value(u16),
+    /// Hexadecimal digits, at least so many: 1, 2 or 4.
+    Hex(u16, usize),
     /// The values of PAGE in a set.
     Pages(&'a PageSet),
     /// The values of WRITE_PROTECT in a set.
     Protects(&'a ProtectSet),
     /// The name of the command with this code.
     Command(u8),
-    /// What is read by it from the target of this name.
-    Read(u8, &'a str),
-    /// What the target of this name sends by itself.
-    Sent(&'a str),
-    /// A target or a rail of a board file, and its name.
-    Named(&'a str, &'a str),
-    /// A target or a rail without a name, and its number.
-    Numbered(&'a str, usize),
-    /// The number of an entry, and the name of its target.
-    Entry(usize, &'a str),
-    /// The number of an entry, and that of its target, which has no name.
-    EntryOfNumbered(usize, usize),
-    /// An address with two hexadecimal digits.
-    Address(i64),
-    Integer(i64),
+    /// What is read by it from the target of this name, or what that sends by itself.
+    Read(Option<u8>, &'a str),
 }
 
 /// Adds the name of a command.
@@ -69,10 +52,29 @@ fn push_span(text: &mut String, low: u16, high: u16) -> Result<(), AllocError> {
     }
 }
 
-/// Adds what is read by a command from a target.
-fn push_read(alloc: Global, text: &mut String, code: u8, name: &str) -> Result<(), AllocError> {
-    push_command(alloc, text, code)?;
-    write!(text, " of {}", Quoted(name))
+/// Adds hexadecimal digits.
+fn push_hex(text: &mut String, number: u16, digits: usize) -> Result<(), AllocError> {
+    match digits {
+        4 => write!(text, "{number:04X}"),
+        2 => write!(text, "{number:02X}"),
+        _ => write!(text, "{number:X}"),
+    }
+}
+
+/// Adds what is read by a command from a target, or what that sends by itself.
+fn push_read(
+    alloc: Global,
+    text: &mut String,
+    code: Option<u8>,
+    name: &str,
+) -> Result<(), AllocError> {
+    match code {
+        Some(code) => {
+            push_command(alloc, text, code)?;
+            write!(text, " of {}", Quoted(name))
+        }
+        None => write!(text, "what {} sends", Quoted(name)),
+    }
 }
 
 /// Adds a word.
@@ -84,24 +86,11 @@ fn push_word(alloc: Global, text: &mut String, word: Word) -> Result<(), AllocEr
         Word::Count(count) => write!(text, "{count}"),
         Word::Number(number) => write!(text, "{number}"),
         Word::Span(low, high) => push_span(text, low, high),
-        Word::Digits(number) => write!(text, "{number:X}"),
-        Word::Byte(byte) => write!(text, "{byte:02X}"),
-        Word::Value(value) => write!(text, "{value:04X}"),
+        Word::Hex(number, digits) => push_hex(text, number, digits),
         Word::Pages(pages) => push_pages(text, pages),
         Word::Protects(protects) => push_protects(text, protects),
         Word::Command(code) => push_command(alloc, text, code),
         Word::Read(code, name) => push_read(alloc, text, code, name),
-        Word::Sent(name) => write!(text, "what {} sends", Quoted(name)),
-        Word::Named(word, name) => write!(text, "{word} {}", Quoted(name)),
-        Word::Numbered(word, number) => write!(text, "{word} {number}"),
-        Word::Entry(number, target) => {
-            write!(text, "entry {number} of target {}", Quoted(target))
-        }
-        Word::EntryOfNumbered(number, target) => {
-            write!(text, "entry {number} of target {target}")
-        }
-        Word::Address(address) => write!(text, "{address:#04x}"),
-        Word::Integer(number) => write!(text, "{number}"),
     }
 }
 
@@ -174,7 +163,7 @@ impl<'a> Sentence<'a> {
         help: Option<String>,
     ) -> Result<Remark, AllocError> {
         let message = self.told(alloc)?;
-        Ok(Remark { message, help })
+        Ok(Remark::new(message, help))
     }
 
     /// The sentence with its words in its gaps.
@@ -211,7 +200,7 @@ impl Advice<'_> {
     pub(crate) fn told(&self, alloc: Global) -> Result<Remark, AllocError> {
         let message = self.message.told(alloc)?;
         let help = told(alloc, self.help)?;
-        Ok(Remark { message, help })
+        Ok(Remark::new(message, help))
     }
 }
 

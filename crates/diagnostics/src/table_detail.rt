@@ -31,7 +31,7 @@ fn foreign_page<'a>(board: &'a Board, row: &Row) -> Option<Sentence<'a>> {
         let count = device.pages();
         if let Some(page) = (count..32).find(|page| pages.contains(*page)) {
             let name = target_word(board, target);
-            return Some(Sentence::two("{} has no page {}", name, Word::Byte(u16::from(page))));
+            return Some(Sentence::two("{} has no page {}", name, Word::Hex(u16::from(page), 2)));
         }
     }
     None
@@ -109,7 +109,7 @@ fn start_page<'a>(
     Some(Sentence::three(
         "PAGE of {} may be {} at the start, and row 0 has {}",
         name,
-        Word::Byte(u16::from(*page)),
+        Word::Hex(u16::from(*page), 2),
         Word::Pages(pages),
     ))
 }
@@ -129,7 +129,7 @@ fn start_protect<'a>(
     Some(Sentence::three(
         "WRITE_PROTECT of {} may be {} at the start, and row 0 has {}",
         name,
-        Word::Byte(u16::from(*protect)),
+        Word::Hex(u16::from(*protect), 2),
         Word::Protects(protects),
     ))
 }

@@ -20,19 +20,23 @@ fn target_names<'b>(alloc: Global, board: &'b Board) -> Result<Vec<&'b str>, All
     Ok(names)
 }
 
-/// What is said of a word that is no target's name.
-fn target_remark(alloc: Global, board: &Board, word: &str) -> Result<Remark, AllocError>
-    ensures { IfOk result (λ remark. IfSome remark.help
+/// Proposes one of the board's targets.
+fn target_help(alloc: Global, board: &Board, word: &str) -> Result<Option<String>, AllocError>
+    ensures { IfOk result (λ help. IfSome help
         (λ h. IsProposal board.now.target_names (string_bytes h))) }
 {
     let names = target_names(alloc, board)?;
-    let help = lowercase_suggestion(alloc, word, &names)?;
+    lowercase_suggestion(alloc, word, &names)
+}
+
+/// What is said of a word that is no target's name.
+fn target_remark(alloc: Global, board: &Board, word: &str) -> Result<Remark, AllocError> {
+    let help = target_help(alloc, board, word)?;
+    let names = target_names(alloc, board)?;
     let names = listed(alloc, &names)?;
     let word = Quoted(word);
-    Ok(Remark {
-        message: format!(in alloc; "unknown target {word}: the board has {names}")?,
-        help,
-    })
+    let message = format!(in alloc; "unknown target {word}: the board has {names}")?;
+    Ok(Remark::new(message, help))
 }
 
 /// What is said of a line with such a word.

@@ -39,11 +39,11 @@ fn zero(alloc: Global) -> Result<Value, AllocError> {
 }
 
 /// The first list of start values that can't be.
-fn bad_start(alloc: Global, target: &Table) -> Result<&'static str, AllocError> {
+fn bad_start(alloc: Global, target: &Table) -> Result<Option<&'static str>, AllocError> {
     let other = with(alloc, target, "start_protects", zero(alloc)?)?;
     match Kind::Target.fault_of(alloc, &other)? {
-        Some(BoardFault::BadStart) => Ok("start_pages"),
-        _ => Ok("start_protects"),
+        Some(BoardFault::BadStart) => Ok(Some("start_pages")),
+        _ => Ok(Some("start_protects")),
     }
 }
 
@@ -68,23 +68,35 @@ pub(crate) fn bad_start_value<'a>(
 }
 
 /// The first range of an entry that can't be.
-fn bad_range(alloc: Global, entry: &Table) -> Result<&'static str, AllocError> {
+fn bad_range(alloc: Global, entry: &Table) -> Result<Option<&'static str>, AllocError> {
     let other = without(alloc, entry, "length")?;
     match Kind::Entry.fault_of(alloc, &other)? {
-        Some(BoardFault::BadRange) => Ok("values"),
-        _ => Ok("length"),
+        Some(BoardFault::BadRange) => Ok(Some("values")),
+        _ => Ok(Some("length")),
+    }
+}
+
+/// The range of a table that can't be.
+fn range_key(alloc: Global, site: Site, table: &Table) -> Result<Option<&'static str>, AllocError> {
+    match site {
+        Site::Rail(_) => Ok(Some("limit_uv")),
+        _ => bad_range(alloc, table),
     }
 }
 
 /// What of a rail's place isn't there, the target or its page.
-fn bad_place(alloc: Global, draft: &Draft<'_>, rail: &Table) -> Result<&'static str, AllocError> {
+fn bad_place(
+    alloc: Global,
+    draft: &Draft<'_>,
+    rail: &Table,
+) -> Result<Option<&'static str>, AllocError> {
     let targets = all_without(alloc, draft.targets, "allow")?;
     let bare = without(alloc, rail, "needs")?;
     let mut rails = Vec::new(alloc);
     rails.push(Value::Table(with(alloc, &bare, "page", Value::Integer(0))?))?;
     match fault_of_lists(alloc, targets, rails)? {
-        Some(BoardFault::BadRail) => Ok("target"),
-        _ => Ok("page"),
+        Some(BoardFault::BadRail) => Ok(Some("target")),
+        _ => Ok(Some("page")),
     }
 }
 
@@ -109,11 +121,27 @@ pub(crate) fn bad_need<'a>(
     }
 }
 
-/// Whether the form of an entry is known.
-fn has_form(draft: &Draft<'_>, site: Site) -> bool {
+/// Where an entry names a command that isn't known, or a form.
+fn word_key(draft: &Draft<'_>, site: Site) -> &'static str {
     match draft.text(site, "form") {
-        Some(word) => form_named(word).is_some(),
-        None => false,
+        Some(word) if form_named(word).is_some() => "command",
+        _ => "form",
+    }
+}
+
+/// The key that counts too much, where that is at one.
+fn count_key(draft: &Draft<'_>, site: Site) -> Option<&'static str> {
+    match site {
+        Site::Target(_) if draft.targets.len() <= 16 => Some("pages"),
+        _ => None,
+    }
+}
+
+/// The key of a name that stands twice, where that is at one.
+fn name_key(site: Site) -> Option<&'static str> {
+    match site {
+        Site::Target(_) | Site::Rail(_) => Some("name"),
+        _ => None,
     }
 }
 
@@ -124,20 +152,18 @@ pub(crate) fn blamed_key<'a>(
     site: Site,
     table: &'a Table,
 ) -> Result<Option<&'a str>, AllocError> {
-    Ok(match (draft.fault, site) {
-        (BoardFault::BadKey, _) => bad_key(alloc, site.kind(), table)?,
-        (BoardFault::BadAddress | BoardFault::SameAddress, _) => Some("address"),
-        (BoardFault::SameName, Site::Target(_) | Site::Rail(_)) => Some("name"),
-        (BoardFault::TooMany, Site::Target(_)) if draft.targets.len() <= 16 => Some("pages"),
-        (BoardFault::BadExponent, _) => Some("exponent"),
-        (BoardFault::BadStretch, _) => Some("stretch"),
-        (BoardFault::BadStart, _) => Some(bad_start(alloc, table)?),
-        (BoardFault::BadRange, Site::Rail(_)) => Some("limit_uv"),
-        (BoardFault::BadRange, _) => Some(bad_range(alloc, table)?),
-        (BoardFault::UnknownCommand, _) if has_form(draft, site) => Some("command"),
-        (BoardFault::UnknownCommand, _) => Some("form"),
-        (BoardFault::UnknownNeed | BoardFault::SelfNeed, _) => Some("needs"),
-        (BoardFault::BadRail, _) => Some(bad_place(alloc, draft, table)?),
-        _ => None,
-    })
+    match draft.fault {
+        BoardFault::BadKey => bad_key(alloc, site.kind(), table),
+        BoardFault::BadAddress | BoardFault::SameAddress => Ok(Some("address")),
+        BoardFault::SameName => Ok(name_key(site)),
+        BoardFault::TooMany => Ok(count_key(draft, site)),
+        BoardFault::BadExponent => Ok(Some("exponent")),
+        BoardFault::BadStretch => Ok(Some("stretch")),
+        BoardFault::BadStart => bad_start(alloc, table),
+        BoardFault::BadRange => range_key(alloc, site, table),
+        BoardFault::UnknownCommand => Ok(Some(word_key(draft, site))),
+        BoardFault::UnknownNeed | BoardFault::SelfNeed => Ok(Some("needs")),
+        BoardFault::BadRail => bad_place(alloc, draft, table),
+        _ => Ok(None),
+    }
 }

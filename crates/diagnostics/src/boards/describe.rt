@@ -3,40 +3,56 @@
 use crate::boards::document::put;
 use crate::boards::draft::{Draft, Site};
 use crate::quote::{Quoted, beginning_of};
-use crate::sentence::Word;
 use std::alloc::{AllocError, Global};
 use toml::ser::Error;
 use toml::{Table, Value};
 
-/// A target or a rail by its number.
-pub(crate) fn numbered(word: &'static str, index: usize) -> Word<'static> {
-    Word::Numbered(word, index.saturating_add(1))
+/// A target or a rail by its name, or by its number, counted from 1.
+fn named(
+    alloc: Global,
+    word: &str,
+    name: Option<&str>,
+    index: usize,
+) -> Result<String, AllocError> {
+    match name {
+        Some(name) => {
+            let name = Quoted(name);
+            format!(in alloc; "{word} {name}")
+        }
+        None => {
+            let number = index.saturating_add(1);
+            format!(in alloc; "{word} {number}")
+        }
+    }
 }
 
-/// A target or a rail by its name, or by its number, counted from 1.
-fn named<'a>(draft: &Draft<'a>, site: Site, word: &'static str, index: usize) -> Word<'a> {
-    match draft.text(site, "name") {
-        Some(name) => Word::Named(word, name),
-        None => numbered(word, index),
+/// What a target or a rail is called.
+fn simple_name(alloc: Global, draft: &Draft<'_>, site: Site) -> Result<String, AllocError> {
+    let name = draft.text(site, "name");
+    match site {
+        Site::Target(index) => named(alloc, "target", name, index),
+        Site::Rail(index) => named(alloc, "rail", name, index),
+        _ => String::from_str(alloc, "the board"),
     }
 }
 
 /// What an entry is called.
-fn entry_name<'a>(draft: &Draft<'a>, target: usize, entry: usize) -> Word<'a> {
+fn entry_name(
+    alloc: Global,
+    draft: &Draft<'_>,
+    target: usize,
+    entry: usize,
+) -> Result<String, AllocError> {
+    let target = simple_name(alloc, draft, Site::Target(target))?;
     let number = entry.saturating_add(1);
-    match draft.text(Site::Target(target), "name") {
-        Some(name) => Word::Entry(number, name),
-        None => Word::EntryOfNumbered(number, target.saturating_add(1)),
-    }
+    format!(in alloc; "entry {number} of {target}")
 }
 
 /// What a table is called.
-pub(crate) fn name_of<'a>(draft: &Draft<'a>, site: Site) -> Word<'a> {
+pub(crate) fn name_of(alloc: Global, draft: &Draft<'_>, site: Site) -> Result<String, AllocError> {
     match site {
-        Site::Board => Word::Text("the board"),
-        Site::Target(index) => named(draft, site, "target", index),
-        Site::Rail(index) => named(draft, site, "rail", index),
-        Site::Entry { target, entry } => entry_name(draft, target, entry),
+        Site::Entry { target, entry } => entry_name(alloc, draft, target, entry),
+        _ => simple_name(alloc, draft, site),
     }
 }
 

@@ -63,7 +63,7 @@ fn of_protect(board: &Board, target: usize, protect: u8, written: u8) -> Advice<
         "WRITE_PROTECT of {} may be 0x{} at the start, which forbids {}, and the program writes \
          that",
         target_word(board, target),
-        Word::Byte(u16::from(protect)),
+        Word::Hex(u16::from(protect), 2),
         Word::Command(written),
     );
     advice(message, UNPROTECT)

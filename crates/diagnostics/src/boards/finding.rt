@@ -1,6 +1,7 @@
 //! What is found out about the fault of a board file.
 
 use crate::boards::blame::blamed_key;
+use crate::boards::blamed::Blamed;
 use crate::boards::draft::{Draft, Site};
 use crate::boards::keys::{bad_key, bad_value, key_help, missing_key};
 use crate::boards::locate::site_of;
@@ -13,7 +14,7 @@ use crate::boards::words::{
 use crate::remark::Remark;
 use board::BoardFault;
 use std::alloc::{AllocError, Global};
-use toml::{Table, Value};
+use toml::Value;
 
 /// A line of a board file, and what is said of it.
 #[derive(Drop)]
@@ -47,47 +48,82 @@ fn too_many(alloc: Global, site: Site) -> Result<Remark, AllocError> {
 }
 
 /// What is said of a table, where no key is to blame.
-fn table_remark(
-    alloc: Global,
-    draft: &Draft<'_>,
-    site: Site,
-    table: &Table,
-) -> Result<Remark, AllocError> {
-    match draft.fault {
-        BoardFault::MissingKey => missing_key(alloc, draft, site, table),
-        BoardFault::SameName => same_name(draft, site).told(alloc),
-        BoardFault::TooMany => too_many(alloc, site),
+fn table_remark(alloc: Global, blamed: &Blamed<'_>) -> Result<Remark, AllocError> {
+    match blamed.draft.fault {
+        BoardFault::MissingKey => missing_key(alloc, blamed),
+        BoardFault::SameName => same_name(alloc, blamed),
+        BoardFault::TooMany => too_many(alloc, blamed.site),
         fault => bare(alloc, fault),
+    }
+}
+
+/// What is said of the target or the page of a rail.
+fn rail_remark(
+    alloc: Global,
+    blamed: &Blamed<'_>,
+    key: &str,
+    value: &Value,
+) -> Result<Remark, AllocError> {
+    match key {
+        "target" => unknown_target(alloc, blamed),
+        _ => bad_page(alloc, blamed, value),
+    }
+}
+
+/// What is said of the form or the command of an entry.
+fn entry_remark(alloc: Global, blamed: &Blamed<'_>, key: &str) -> Result<Remark, AllocError> {
+    match key {
+        "form" => unknown_form(alloc, blamed),
+        _ => unknown_command(alloc, blamed),
+    }
+}
+
+/// What is said of a range.
+fn range_remark(
+    alloc: Global,
+    blamed: &Blamed<'_>,
+    key: &str,
+    value: &Value,
+) -> Result<Remark, AllocError> {
+    match key {
+        "values" | "length" => bad_range(alloc, blamed, key, value),
+        _ => bad_value(alloc, blamed, key, value, key_help(blamed.kind(), key)),
     }
 }
 
 /// What is said of what stands at a key of a table.
 fn key_remark(
     alloc: Global,
-    draft: &Draft<'_>,
-    site: Site,
-    table: &Table,
+    blamed: &Blamed<'_>,
     key: &str,
     value: &Value,
 ) -> Result<Remark, AllocError> {
-    match (draft.fault, key, site) {
-        (BoardFault::BadKey, ..) => bad_key(alloc, draft, site, table, key),
-        (BoardFault::SameName, ..) => same_name(draft, site).told(alloc),
-        (BoardFault::BadAddress, ..) => bad_address(alloc, draft, site, table, value),
-        (BoardFault::SameAddress, ..) => same_address(draft, site, value).told(alloc),
-        (BoardFault::BadStart, ..) => bad_start(alloc, draft, site, table, key),
-        (BoardFault::BadRange, "values" | "length", _) => {
-            bad_range(alloc, draft, site, table, key, value)
-        }
-        (BoardFault::UnknownCommand, "form", _) => unknown_form(alloc, draft, site),
-        (BoardFault::UnknownCommand, ..) => unknown_command(alloc, draft, site),
-        (BoardFault::UnknownNeed, _, Site::Rail(index)) => {
-            unknown_need(alloc, draft, site, index, table)
-        }
-        (BoardFault::SelfNeed, ..) => self_need(draft, site).told(alloc),
-        (BoardFault::BadRail, "target", _) => unknown_target(alloc, draft, site),
-        (BoardFault::BadRail, ..) => bad_page(alloc, draft, site, value),
-        _ => bad_value(alloc, draft, site, key, value, key_help(site.kind(), key)),
+    match blamed.draft.fault {
+        BoardFault::BadKey => bad_key(alloc, blamed, key),
+        BoardFault::SameName => same_name(alloc, blamed),
+        BoardFault::BadAddress => bad_address(alloc, blamed, value),
+        BoardFault::SameAddress => same_address(alloc, blamed, value),
+        BoardFault::BadStart => bad_start(alloc, blamed, key),
+        BoardFault::UnknownCommand => entry_remark(alloc, blamed, key),
+        BoardFault::UnknownNeed => unknown_need(alloc, blamed),
+        BoardFault::SelfNeed => self_need(alloc, blamed),
+        BoardFault::BadRail => rail_remark(alloc, blamed, key, value),
+        _ => range_remark(alloc, blamed, key, value),
+    }
+}
+
+/// What is said of a table, or of the key that is to blame.
+fn blamed_remark(
+    alloc: Global,
+    blamed: &Blamed<'_>,
+    key: Option<&str>,
+) -> Result<Remark, AllocError> {
+    let Some(key) = key else {
+        return table_remark(alloc, blamed);
+    };
+    match blamed.table.get(key) {
+        Some(value) => key_remark(alloc, blamed, key, value),
+        None => bare(alloc, blamed.draft.fault),
     }
 }
 
@@ -95,21 +131,12 @@ fn key_remark(
 pub(crate) fn finding_in(alloc: Global, draft: &Draft<'_>) -> Result<Finding, AllocError> {
     let site = site_of(alloc, draft)?;
     let Some(table) = draft.table(site) else {
-        return Ok(Finding {
-            number: 1,
-            remark: bare(alloc, draft.fault)?,
-        });
+        return unsearched(alloc, draft.fault);
     };
     let key = blamed_key(alloc, draft, site, table)?;
-    let remark = match key {
-        Some(key) => match table.get(key) {
-            Some(value) => key_remark(alloc, draft, site, table, key, value)?,
-            None => bare(alloc, draft.fault)?,
-        },
-        None => table_remark(alloc, draft, site, table)?,
-    };
+    let blamed = Blamed::new(alloc, draft, site, table)?;
     Ok(Finding {
         number: number_of(&draft.lines, site, key),
-        remark,
+        remark: blamed_remark(alloc, &blamed, key)?,
     })
 }

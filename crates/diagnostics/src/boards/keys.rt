@@ -1,7 +1,7 @@
 //! Keys that are missing or can't be, and what can't stand at a key.
 
-use crate::boards::describe::{name_of, shown};
-use crate::boards::draft::{Draft, Site};
+use crate::boards::blamed::Blamed;
+use crate::boards::describe::shown;
 use crate::boards::kind::Kind;
 use crate::quote::listed;
 use crate::remark::Remark;
@@ -45,64 +45,49 @@ fn no_target(alloc: Global) -> Result<Remark, AllocError> {
 }
 
 /// What is said of a table without a key that it needs.
-pub(crate) fn missing_key(
-    alloc: Global,
-    draft: &Draft<'_>,
-    site: Site,
-    table: &Table,
-) -> Result<Remark, AllocError> {
-    let kind = site.kind();
+pub(crate) fn missing_key(alloc: Global, blamed: &Blamed<'_>) -> Result<Remark, AllocError> {
+    let kind = blamed.kind();
     if kind == Kind::Board {
         return no_target(alloc);
     }
-    let Some(key) = missing_name(alloc, kind, table)? else {
+    let Some(key) = missing_name(alloc, kind, blamed.table)? else {
         return Remark::plain(alloc, "a key is missing");
     };
     let advice = Advice {
-        message: Sentence::two(
-            "{} has no key \"{}\"",
-            name_of(draft, site),
-            Word::Text(key),
-        ),
+        message: Sentence::two("{} has no key \"{}\"", blamed.word(), Word::Text(key)),
         help: key_help(kind, key),
     };
     advice.told(alloc)
 }
 
 /// What is said of a key that no table of its kind has.
-fn unknown_key(
-    alloc: Global,
-    draft: &Draft<'_>,
-    site: Site,
-    key: &str,
-) -> Result<Remark, AllocError> {
-    let names = site.kind().key_names(alloc)?;
+fn unknown_key(alloc: Global, blamed: &Blamed<'_>, key: &str) -> Result<Remark, AllocError> {
+    let names = blamed.kind().key_names(alloc)?;
     let help = lowercase_suggestion(alloc, key, &names)?;
     let names = listed(alloc, &names)?;
     let message = Sentence::three(
         "unknown key {} of {}; its keys are {}",
         Word::Name(key),
-        name_of(draft, site),
+        blamed.word(),
         Word::Text(&names),
     );
     message.helped_by(alloc, help)
 }
 
 /// What is said of a key that an entry of this form hasn't.
-fn key_of_other_form<'a>(draft: &Draft<'a>, site: Site, key: &'a str) -> Sentence<'a> {
+fn key_of_other_form<'a>(blamed: &'a Blamed<'_>, key: &'a str) -> Sentence<'a> {
     Sentence::three(
         "{} can't have \"{}\": {} has none",
-        name_of(draft, site),
+        blamed.word(),
         Word::Text(key),
-        Word::Name(draft.text(site, "form").unwrap_or("")),
+        Word::Name(blamed.text("form")),
     )
 }
 
 /// What is said of a key with this value, which can't stand there.
 pub(crate) fn bad_value(
     alloc: Global,
-    draft: &Draft<'_>,
-    site: Site,
+    blamed: &Blamed<'_>,
     key: &str,
     value: &Value,
     help: Option<Sentence>,
@@ -112,7 +97,7 @@ pub(crate) fn bad_value(
         message: Sentence::three(
             "\"{}\" of {} can't be {}",
             Word::Text(key),
-            name_of(draft, site),
+            blamed.word(),
             Word::Text(&value),
         ),
         help,
@@ -123,8 +108,7 @@ pub(crate) fn bad_value(
 /// What is said of a key at which something of another sort stands.
 fn bad_sort(
     alloc: Global,
-    draft: &Draft<'_>,
-    site: Site,
+    blamed: &Blamed<'_>,
     key: &str,
     value: &Value,
 ) -> Result<Remark, AllocError> {
@@ -134,32 +118,26 @@ fn bad_sort(
         message: Sentence::four(
             "\"{}\" of {} can't be the {} {}",
             Word::Text(key),
-            name_of(draft, site),
+            blamed.word(),
             Word::Text(sort),
             Word::Text(&value),
         ),
-        help: key_help(site.kind(), key),
+        help: key_help(blamed.kind(), key),
     };
     advice.told(alloc)
 }
 
 /// What is said of a key that can't be, or not with what stands there.
-pub(crate) fn bad_key(
-    alloc: Global,
-    draft: &Draft<'_>,
-    site: Site,
-    table: &Table,
-    key: &str,
-) -> Result<Remark, AllocError> {
-    let kind = site.kind();
-    let Some(value) = table.get(key) else {
+pub(crate) fn bad_key(alloc: Global, blamed: &Blamed<'_>, key: &str) -> Result<Remark, AllocError> {
+    let kind = blamed.kind();
+    let Some(value) = blamed.table.get(key) else {
         return Remark::plain(alloc, "a bad key");
     };
     if kind.holds(key).is_none() {
-        return unknown_key(alloc, draft, site, key);
+        return unknown_key(alloc, blamed, key);
     }
-    if kind.is_bad(alloc, table, key)? {
-        return bad_sort(alloc, draft, site, key, value);
+    if kind.is_bad(alloc, blamed.table, key)? {
+        return bad_sort(alloc, blamed, key, value);
     }
-    key_of_other_form(draft, site, key).helped_by(alloc, None)
+    key_of_other_form(blamed, key).helped_by(alloc, None)
 }

@@ -37,12 +37,10 @@ fn line_help(line: &str) -> Option<&'static str> {
 
 /// What is said of a text that ends too early: its last line is told.
 fn cut_short(alloc: Global, number: usize, message: &str) -> Result<Finding, AllocError> {
+    let message = format!(in alloc; "no TOML document: {message}, behind the last line")?;
     Ok(Finding {
         number: number.saturating_sub(1),
-        remark: Remark {
-            message: format!(in alloc; "no TOML document: {message}, behind the last line")?,
-            help: None,
-        },
+        remark: Remark::new(message, None),
     })
 }
 
@@ -57,11 +55,10 @@ pub(crate) fn not_toml(alloc: Global, text: &str, error: &Error) -> Result<Findi
     let Some(refused) = line_at(text, line) else {
         return cut_short(alloc, line, message);
     };
+    let message = format!(in alloc; "no TOML document: {message}, in column {column}")?;
+    let help = help_of(alloc, line_help(refused))?;
     Ok(Finding {
         number: line,
-        remark: Remark {
-            message: format!(in alloc; "no TOML document: {message}, in column {column}")?,
-            help: help_of(alloc, line_help(refused))?,
-        },
+        remark: Remark::new(message, help),
     })
 }

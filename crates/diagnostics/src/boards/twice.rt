@@ -1,9 +1,12 @@
 //! What stands twice in a board file.
 
-use crate::boards::describe::{name_of, numbered};
+use crate::boards::blamed::Blamed;
+use crate::boards::describe::name_of;
 use crate::boards::draft::{Draft, Site};
 use crate::boards::scan::number_of;
-use crate::sentence::{Advice, Sentence, Word};
+use crate::remark::Remark;
+use crate::sentence::{Sentence, Word};
+use std::alloc::{AllocError, Global};
 use toml::Value;
 
 /// The table of an index in the same list.
@@ -57,71 +60,105 @@ pub(crate) fn first_alike(draft: &Draft<'_>, site: Site, keys: &[&str]) -> Optio
 }
 
 /// Where another table stands, or a key of it.
-pub(crate) fn place_help<'a>(draft: &Draft<'a>, other: Site, key: Option<&str>) -> Sentence<'a> {
-    let number = number_of(&draft.lines, other, key);
-    let name = match (key, other) {
-        (Some("name"), Site::Target(index)) => numbered("target", index),
-        (Some("name"), Site::Rail(index)) => numbered("rail", index),
-        _ => name_of(draft, other),
-    };
-    Sentence::two("{} has it in line {}", name, Word::Count(number))
+fn place_help(
+    alloc: Global,
+    draft: &Draft<'_>,
+    other: Site,
+    key: Option<&str>,
+) -> Result<String, AllocError> {
+    let name = name_of(alloc, draft, other)?;
+    let line = number_of(&draft.lines, other, key);
+    format!(in alloc; "{name} has it in line {line}")
 }
 
-/// What is said of a table that has the same at these keys as one above it.
-fn twice<'a>(draft: &Draft<'a>, site: Site, keys: &[&str], message: Sentence<'a>) -> Advice<'a> {
-    let help = match (first_alike(draft, site, keys), keys) {
-        (Some(other), [key]) => Some(place_help(draft, other, Some(*key))),
-        (Some(other), _) => Some(place_help(draft, other, None)),
-        (None, _) => None,
-    };
-    Advice { message, help }
+/// Where a table above has the same at these keys: its line, or that of one key.
+fn alike_help(
+    alloc: Global,
+    blamed: &Blamed<'_>,
+    keys: &[&str],
+    key: Option<&str>,
+) -> Result<Option<String>, AllocError> {
+    match first_alike(blamed.draft, blamed.site, keys) {
+        Some(other) => Ok(Some(place_help(alloc, blamed.draft, other, key)?)),
+        None => Ok(None),
+    }
 }
 
-/// What is said of a name, or of an entry, that stands above.
-pub(crate) fn same_name<'a>(draft: &Draft<'a>, site: Site) -> Advice<'a> {
-    let name = Word::Name(draft.text(site, "name").unwrap_or(""));
-    let message = match site {
-        Site::Target(index) => {
-            let target = numbered("target", index);
-            Sentence::two("two targets have the name {}: this is {}", name, target)
-        }
-        Site::Rail(index) => {
-            let rail = numbered("rail", index);
-            Sentence::two("two rails have the name {}: this is {}", name, rail)
-        }
-        _ => return same_entry(draft, site),
+/// Where a target or a rail above has the same name. It is told by its number.
+fn name_help(alloc: Global, blamed: &Blamed<'_>, sort: &str) -> Result<Option<String>, AllocError> {
+    let Some(other) = first_alike(blamed.draft, blamed.site, &["name"]) else {
+        return Ok(None);
     };
-    twice(draft, site, &["name"], message)
+    let number = count_above(other).saturating_add(1);
+    let line = number_of(&blamed.draft.lines, other, Some("name"));
+    Ok(Some(format!(in alloc; "{sort} {number} has it in line {line}")?))
+}
+
+/// What is said of a target or a rail whose name stands above.
+fn same_word(alloc: Global, blamed: &Blamed<'_>, sort: &'static str) -> Result<Remark, AllocError> {
+    let help = name_help(alloc, blamed, sort)?;
+    Sentence::four(
+        "two {}s have the name {}: this is {} {}",
+        Word::Text(sort),
+        Word::Name(blamed.text("name")),
+        Word::Text(sort),
+        Word::Count(count_above(blamed.site).saturating_add(1)),
+    )
+    .helped_by(alloc, help)
 }
 
 /// What is said of an entry whose form and command stand above.
-fn same_entry<'a>(draft: &Draft<'a>, site: Site) -> Advice<'a> {
-    let name = name_of(draft, site);
-    let form = Word::Name(draft.text(site, "form").unwrap_or(""));
-    let message = match draft.text(site, "command") {
-        Some(command) => {
-            let command = Word::Name(command);
-            Sentence::three("{} has {} {}, which stands above", name, form, command)
-        }
-        None => Sentence::two("{} has {}, which stands above", name, form),
+fn same_entry(alloc: Global, blamed: &Blamed<'_>) -> Result<Remark, AllocError> {
+    let help = alike_help(alloc, blamed, &["form", "command"], None)?;
+    let form = Word::Name(blamed.text("form"));
+    let message = match blamed.table.get("command") {
+        Some(_) => Sentence::three(
+            "{} has {} {}, which stands above",
+            blamed.word(),
+            form,
+            Word::Name(blamed.text("command")),
+        ),
+        None => Sentence::two("{} has {}, which stands above", blamed.word(), form),
     };
-    twice(draft, site, &["form", "command"], message)
+    message.helped_by(alloc, help)
+}
+
+/// What is said of a name, or of an entry, that stands above.
+pub(crate) fn same_name(alloc: Global, blamed: &Blamed<'_>) -> Result<Remark, AllocError> {
+    match blamed.site {
+        Site::Target(_) => same_word(alloc, blamed, "target"),
+        Site::Rail(_) => same_word(alloc, blamed, "rail"),
+        _ => same_entry(alloc, blamed),
+    }
 }
 
 /// What is said of an address that a target above has.
-pub(crate) fn same_address<'a>(draft: &Draft<'a>, site: Site, value: &Value) -> Advice<'a> {
-    let address = Word::Address(value.as_integer().unwrap_or(0));
-    let name = name_of(draft, site);
-    let message = Sentence::two("{} has the address {} of another target", name, address);
-    twice(draft, site, &["address"], message)
+pub(crate) fn same_address(
+    alloc: Global,
+    blamed: &Blamed<'_>,
+    value: &Value,
+) -> Result<Remark, AllocError> {
+    let help = alike_help(alloc, blamed, &["address"], Some("address"))?;
+    let address = u16::try_from(value.as_integer().unwrap_or(0)).unwrap_or(0);
+    Sentence::two(
+        "{} has the address 0x{} of another target",
+        blamed.word(),
+        Word::Hex(address, 2),
+    )
+    .helped_by(alloc, help)
 }
 
 /// What is said of a rail whose page has a rail above.
-pub(crate) fn same_page<'a>(draft: &Draft<'a>, site: Site, other: Site) -> Advice<'a> {
-    let target = Word::Name(draft.text(site, "target").unwrap_or(""));
-    let name = name_of(draft, site);
-    Advice {
-        message: Sentence::two("{} is on a page of target {} that has a rail", name, target),
-        help: Some(place_help(draft, other, Some("page"))),
-    }
+pub(crate) fn same_page(
+    alloc: Global,
+    blamed: &Blamed<'_>,
+    other: Site,
+) -> Result<Remark, AllocError> {
+    let help = place_help(alloc, blamed.draft, other, Some("page"))?;
+    Sentence::two(
+        "{} is on a page of target {} that has a rail",
+        blamed.word(),
+        Word::Name(blamed.text("target")),
+    )
+    .helped_by(alloc, Some(help))
 }

@@ -1,8 +1,9 @@
 //! Words that name nothing: forms, commands, targets and rails.
 
 use crate::boards::blame::bad_need;
-use crate::boards::describe::{name_of, shown};
-use crate::boards::draft::{Draft, Site};
+use crate::boards::blamed::Blamed;
+use crate::boards::describe::shown;
+use crate::boards::draft::Site;
 use crate::boards::twice::{first_alike, same_page};
 use crate::operand::Operand;
 use crate::quote::listed;
@@ -13,7 +14,7 @@ use crate::unknown_command::{command_help, forms_help};
 use pmbus_table::{Command, by_name};
 use smbus::form_named;
 use std::alloc::{AllocError, Global};
-use toml::{Table, Value};
+use toml::Value;
 
 /// The words of all forms.
 const FORMS: [&str; 12] = [
@@ -56,54 +57,38 @@ fn names_listed(alloc: Global, sort: &str, names: &[&str]) -> Result<Option<Stri
 }
 
 /// What is said of an entry whose form isn't known.
-pub(crate) fn unknown_form(
-    alloc: Global,
-    draft: &Draft<'_>,
-    site: Site,
-) -> Result<Remark, AllocError> {
-    let word = draft.text(site, "form").unwrap_or("");
+pub(crate) fn unknown_form(alloc: Global, blamed: &Blamed<'_>) -> Result<Remark, AllocError> {
+    let word = blamed.text("form");
     let help = names_help(alloc, word, "forms", &FORMS)?;
-    Sentence::two(
-        "unknown form {} of {}",
-        Word::Name(word),
-        name_of(draft, site),
-    )
-    .helped_by(alloc, help)
+    Sentence::two("unknown form {} of {}", Word::Name(word), blamed.word()).helped_by(alloc, help)
 }
 
 /// What is said of a command that doesn't take the form of its entry.
-fn other_form<'a>(draft: &Draft<'a>, site: Site, command: Command) -> Advice<'a> {
+fn other_form<'a>(blamed: &'a Blamed<'_>, command: Command) -> Advice<'a> {
     Advice {
         message: Sentence::three(
             "{} doesn't take \"{}\" in {}",
-            Word::Name(draft.text(site, "form").unwrap_or("")),
+            Word::Name(blamed.text("form")),
             Word::Command(command.code()),
-            name_of(draft, site),
+            blamed.word(),
         ),
         help: forms_help(command),
     }
 }
 
 /// What is said of an entry whose command isn't known, or doesn't take its form.
-pub(crate) fn unknown_command(
-    alloc: Global,
-    draft: &Draft<'_>,
-    site: Site,
-) -> Result<Remark, AllocError> {
-    let word = draft.text(site, "command").unwrap_or("");
+pub(crate) fn unknown_command(alloc: Global, blamed: &Blamed<'_>) -> Result<Remark, AllocError> {
+    let word = blamed.text("command");
     if let Some(command) = by_name(word) {
-        return other_form(draft, site, command).told(alloc);
+        return other_form(blamed, command).told(alloc);
     }
-    let help = match form_named(draft.text(site, "form").unwrap_or("")) {
+    let help = match form_named(blamed.text("form")) {
         Some(form) => command_help(alloc, word, Operand::Command(form), MANUFACTURER_RULE)?,
         None => None,
     };
-    Sentence::two(
-        "unknown command {} of {}",
-        Word::Name(word),
-        name_of(draft, site),
+    Sentence::two("unknown command {} of {}", Word::Name(word), blamed.word()).helped_by(
+        alloc, help,
     )
-    .helped_by(alloc, help)
 }
 
 /// The names of tables.
@@ -118,89 +103,84 @@ fn names_of<'a>(alloc: Global, tables: &'a [Value]) -> Result<Vec<&'a str>, Allo
     Ok(names)
 }
 
+/// The need of a rail that isn't there.
+fn missing_need<'a>(alloc: Global, blamed: &Blamed<'a>) -> Result<&'a str, AllocError> {
+    match blamed.site {
+        Site::Rail(index) => {
+            Ok(bad_need(alloc, blamed.draft, index, blamed.table)?.unwrap_or(""))
+        }
+        _ => Ok(""),
+    }
+}
+
 /// What is said of a rail that needs a rail that isn't there.
-pub(crate) fn unknown_need(
-    alloc: Global,
-    draft: &Draft<'_>,
-    site: Site,
-    index: usize,
-    rail: &Table,
-) -> Result<Remark, AllocError> {
-    let word = bad_need(alloc, draft, index, rail)?.unwrap_or("");
-    let rails = names_of(alloc, draft.rails)?;
+pub(crate) fn unknown_need(alloc: Global, blamed: &Blamed<'_>) -> Result<Remark, AllocError> {
+    let word = missing_need(alloc, blamed)?;
+    let rails = names_of(alloc, blamed.draft.rails)?;
     let help = names_help(alloc, word, "rails", &rails)?;
-    let name = name_of(draft, site);
     Sentence::two(
         "{} needs {}, and no rail has that name",
-        name,
+        blamed.word(),
         Word::Name(word),
     )
     .helped_by(alloc, help)
 }
 
 /// What is said of a rail that needs itself.
-pub(crate) fn self_need<'a>(draft: &Draft<'a>, site: Site) -> Advice<'a> {
-    Advice {
-        message: Sentence::one("{} needs itself", name_of(draft, site)),
-        help: Some(Sentence::plain(
-            "\"needs\" names the other rails that have to be good before it is turned on",
-        )),
-    }
+pub(crate) fn self_need(alloc: Global, blamed: &Blamed<'_>) -> Result<Remark, AllocError> {
+    let help = "\"needs\" names the other rails that have to be good before it is turned on";
+    let advice = Advice {
+        message: Sentence::one("{} needs itself", blamed.word()),
+        help: Some(Sentence::plain(help)),
+    };
+    advice.told(alloc)
 }
 
 /// What is said of a rail whose target isn't there.
-pub(crate) fn unknown_target(
-    alloc: Global,
-    draft: &Draft<'_>,
-    site: Site,
-) -> Result<Remark, AllocError> {
-    let word = draft.text(site, "target").unwrap_or("");
-    let targets = names_of(alloc, draft.targets)?;
+pub(crate) fn unknown_target(alloc: Global, blamed: &Blamed<'_>) -> Result<Remark, AllocError> {
+    let word = blamed.text("target");
+    let targets = names_of(alloc, blamed.draft.targets)?;
     let help = names_help(alloc, word, "targets", &targets)?;
-    let name = name_of(draft, site);
     Sentence::two(
         "{} is on target {}, which isn't there",
-        name,
+        blamed.word(),
         Word::Name(word),
     )
     .helped_by(alloc, help)
 }
 
-/// How many pages the target of a rail has.
-fn pages_help<'a>(draft: &Draft<'a>, site: Site) -> Option<Sentence<'a>> {
-    let word = draft.text(site, "target").unwrap_or("");
-    for index in 0..draft.targets.len() {
-        let target = Site::Target(index);
-        match (draft.text(target, "name"), draft.value(target, "pages")) {
-            (Some(name), Some(Value::Integer(pages))) if name == word => {
-                return Some(Sentence::two(
-                    "the \"pages\" of target \"{}\" is {}, and its first page is 0",
-                    Word::Text(name),
-                    Word::Integer(*pages),
-                ));
-            }
-            _ => {}
+/// How many pages the first target of a name has.
+fn pages_of(targets: &[Value], name: &str) -> Option<u64> {
+    for target in targets {
+        if target.get("name")?.as_str() == Some(name) {
+            return u64::try_from(target.get("pages")?.as_integer()?).ok();
         }
     }
     None
 }
 
+/// How many pages the target of a rail has.
+fn pages_help<'a>(blamed: &'a Blamed<'_>) -> Option<Sentence<'a>> {
+    let word = blamed.text("target");
+    let pages = pages_of(blamed.draft.targets, word)?;
+    Some(Sentence::two(
+        "the \"pages\" of target \"{}\" is {}, and its first page is 0",
+        Word::Text(word),
+        Word::Number(pages),
+    ))
+}
+
 /// What is said of a rail on a page that its target hasn't.
-fn foreign_page(
-    alloc: Global,
-    draft: &Draft<'_>,
-    site: Site,
-    value: &Value,
-) -> Result<Remark, AllocError> {
+fn foreign_page(alloc: Global, blamed: &Blamed<'_>, value: &Value) -> Result<Remark, AllocError> {
     let page = shown(alloc, value)?;
     let advice = Advice {
         message: Sentence::three(
             "{} is on page {}, which target {} hasn't",
-            name_of(draft, site),
+            blamed.word(),
             Word::Text(&page),
-            Word::Name(draft.text(site, "target").unwrap_or("")),
+            Word::Name(blamed.text("target")),
         ),
-        help: pages_help(draft, site),
+        help: pages_help(blamed),
     };
     advice.told(alloc)
 }
@@ -208,12 +188,11 @@ fn foreign_page(
 /// What is said of a rail on a page that its target hasn't, or that has a rail above.
 pub(crate) fn bad_page(
     alloc: Global,
-    draft: &Draft<'_>,
-    site: Site,
+    blamed: &Blamed<'_>,
     value: &Value,
 ) -> Result<Remark, AllocError> {
-    match first_alike(draft, site, &["target", "page"]) {
-        Some(other) => same_page(draft, site, other).told(alloc),
-        None => foreign_page(alloc, draft, site, value),
+    match first_alike(blamed.draft, blamed.site, &["target", "page"]) {
+        Some(other) => same_page(alloc, blamed, other),
+        None => foreign_page(alloc, blamed, value),
     }
 }

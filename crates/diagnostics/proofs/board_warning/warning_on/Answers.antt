@@ -1,4 +1,4 @@
-use Rattle.std.proofs.Common.{ℕ, List, Result, Ok, Err, IfOk}
+use Rattle.std.proofs.Common.{Result, Ok, Err, IfOk}
 use Rattle.std.specs.Prelude.{String, codes, string_bytes}
 use Rattle.std.specs.Global.{Global}
 use Rattle.texts.specs.Words.{lines_by_feed}
