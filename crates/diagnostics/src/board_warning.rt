@@ -2,7 +2,7 @@
 
 ghost use Rattle.std.specs.Prelude.{◌≡◌, All, IfOk, length, string_bytes};
 ghost use Rattle.diagnostics.specs.Boards.{board_lines, board_text, IsBoardWarning};
-ghost use Rattle.session.specs.Doubts.{AreDoubts};
+ghost use Rattle.diagnostics.specs.Warnings.{HasEachDoubt};
 ghost use Rattle.texts.specs.Words.{lines_by_feed};
 
 use crate::boards::{lines_of, number_of, number_within, remark_of, site_of};
@@ -70,7 +70,7 @@ pub(crate) fn board_warnings(
     ensures lines { IfOk result
         (λ notes. All (IsBoardWarning (board_lines text.now)) notes.items) }
     ensures doubts { IfOk result
-        (λ notes. AreDoubts board.now program.now (length notes.items)) }
+        (λ notes. HasEachDoubt board.now program.now (length notes.items)) }
 {
     let doubts = doubts_on(alloc, board, program)?;
     if doubts.is_empty() {

@@ -5,7 +5,7 @@ ghost use Rattle.session.specs.Scenarios.{IsOnItsBoard};
 use bundles::AnswerLines;
 use seq_program::program_is_valid;
 use session::Scenario;
-use simulator::{Entry, Machine, RunFault, start, step_at};
+use simulator::{Machine, RunFault, Stage, start};
 use smbus::Answer;
 use std::alloc::Global;
 
@@ -28,20 +28,17 @@ fn machine_after(
     let (board, program) = (&scenario.board, &scenario.program);
     program_is_valid(program);
     let answered = &scenario.answers;
-    let mut machine = start(alloc, board, &answered.pages, &answered.protects)?;
-    let mut spare = Entry::empty(alloc);
+    let machine = start(alloc, board, &answered.pages, &answered.protects)?;
+    let mut stage = Stage::new(alloc, machine);
     let mut ticks = 0;
     for index in 0..count {
         let Some(answer) = answers.next(alloc)? else {
             return Ok(None);
         };
-        let before = (machine, spare);
-        let (after, entry) = step_at(alloc, board, program, before, &answer, index, ticks)?;
-        ticks += entry.ticks;
-        machine = after;
-        spare = entry;
+        stage.step(alloc, board, program, &answer, index, ticks)?;
+        ticks += stage.entry.ticks;
     }
-    Ok(Some(machine))
+    Ok(Some(stage.machine))
 }
 
 /// The machine before the answer of an index, if the run comes so far.

@@ -5,7 +5,7 @@
 
 use bundles::BundleFault;
 use diagnostics::{Warnings, bundle_note, note_on, warnings_on};
-use session::{Keeping, Status, session};
+use session::{Answered, Keeping, Seen, Status, answer};
 use std::alloc::{AllocError, Global};
 use std::io::{Stderr, Write};
 use std::process::ExitCode;
@@ -26,11 +26,23 @@ fn error_on(alloc: Global, status: Status, text: &str) -> Result<Option<String>,
     }
 }
 
+/// What is warned of a text of which this was seen.
+fn warnings_of(
+    alloc: Global,
+    text: &str,
+    seen: &Option<Box<Seen>>,
+) -> Result<Warnings, AllocError> {
+    match seen {
+        Some(seen) => warnings_on(alloc, text, seen),
+        None => Ok(Warnings::none(alloc)),
+    }
+}
+
 /// The notes on a text that was answered so.
-fn text_notes(alloc: Global, status: Status, text: &str) -> Result<Notes, AllocError> {
+fn text_notes(alloc: Global, answered: &Answered, text: &str) -> Result<Notes, AllocError> {
     Ok(Notes {
-        error: error_on(alloc, status, text)?,
-        warnings: warnings_on(alloc, text)?,
+        error: error_on(alloc, answered.status, text)?,
+        warnings: warnings_of(alloc, text, &answered.seen)?,
     })
 }
 
@@ -42,17 +54,14 @@ fn no_text_note(alloc: Global, input: &[u8], place: usize) -> Result<String, All
 }
 
 /// The notes on an input that was answered so: none where it wasn't kept, since it is too long.
-fn notes_on(alloc: Global, status: Status, input: Option<&[u8]>) -> Result<Notes, AllocError> {
+fn notes_on(alloc: Global, answered: &Answered, input: Option<&[u8]>) -> Result<Notes, AllocError> {
     let mut notes = Notes {
         error: None,
-        warnings: Warnings {
-            of_board: Vec::new(alloc),
-            of_run: None,
-        },
+        warnings: Warnings::none(alloc),
     };
     if let Some(input) = input {
         match str::from_utf8(input) {
-            Ok(text) => return text_notes(alloc, status, text),
+            Ok(text) => return text_notes(alloc, answered, text),
             Err(error) => notes.error = Some(no_text_note(alloc, input, error.valid_up_to())?),
         }
     }
@@ -71,11 +80,10 @@ fn tell(errors: &mut Stderr, notes: &[String]) {
 fn answer_all(rt: &HostRuntime) -> Status {
     let mut input = Keeping::new(rt.alloc(), rt.stdin());
     let mut reply = Vec::new(rt.alloc());
-    let status = session(rt.alloc(), &mut input, &mut reply);
-    if status == Status::DeviceFault {
-        return status;
-    }
-    let Ok(notes) = notes_on(rt.alloc(), status, input.kept()) else {
+    let Ok(answered) = answer(rt.alloc(), &mut input, &mut reply) else {
+        return Status::DeviceFault;
+    };
+    let Ok(notes) = notes_on(rt.alloc(), &answered, input.kept()) else {
         return Status::DeviceFault;
     };
     if send(&mut rt.stdout(), &reply).is_err() {
@@ -85,7 +93,7 @@ fn answer_all(rt: &HostRuntime) -> Status {
     tell(&mut errors, notes.error.as_slice());
     tell(&mut errors, &notes.warnings.of_board);
     tell(&mut errors, notes.warnings.of_run.as_slice());
-    status
+    answered.status
 }
 
 fn main(rt: HostRuntime) -> ExitCode {

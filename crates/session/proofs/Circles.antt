@@ -1,5 +1,5 @@
 -- Rails that come good one after another.
-use Rattle.std.proofs.Common.{◌≡◌, ◌<◌, ◌-◌, ◌++◌, ◌⊎◌, ℕ, List, [], ◌∷◌, false}
+use Rattle.std.proofs.Common.{◌≡◌, ◌<◌, ◌-◌, ◌++◌, ◌⊎◌, ◌↔◌, ℕ, List, [], ◌∷◌, false}
 use Rattle.std.proofs.Common.{length, nat_eq, slice_get, Some, All, refl, sym, ap, subst, arith}
 use Rattle.std.proofs.Common.{inl, inr}
 use Rattle.std.specs.Prelude.{IsTrue}
@@ -13,7 +13,8 @@ use Rattle.std.proofs.lemmas.List.Folds.{list_any-append}
 use Rattle.std.proofs.lemmas.Map.Keys.{IsDistinct-push}
 use Rattle.std.proofs.lemmas.Map.Steps.{length-le_from_distinct_below}
 use Rattle.board.specs.Boards.{Board, Rail}
-use Rattle.session.specs.Doubts.{TakesIn, CanComeGood, TellsCircles}
+use Rattle.session.specs.Doubts.{TakesIn, CanComeGood, AllCanComeGood}
+use Rattle.session.specs.AllDoubts.{Doubts}
 use Rattle.session.specs.Ready.{is_ready, AreRails}
 
 -- one that is ready is the new one, or was before
@@ -74,23 +75,17 @@ pub good_from_none : (b : Board) (none ready : List ℕ) → none ≡ []
     → (d : ℕ) → IsTrue (is_ready ready d) → CanComeGood b d
 good_from_none b none ready e grown = grown (λ d t. absurd (none_ready none e d t))
 
-pub some_stuck : (b : Board) (ready : List ℕ) (stuck before after : ℕ)
+-- a rail that can't come good, and a circle that was told
+pub some_stuck : (b : Board) (ready : List ℕ) (stuck : ℕ) (before after : Doubts)
     → TakesIn b (is_ready ready) → stuck < length b.rails → is_ready ready stuck ≡ false
-    → before < after → TellsCircles b before after
-some_stuck b ready stuck before after all within not_ready more = record {
-  circles = after - before;
-  told = omega (arith, more);
-  some = (
-    λ none. absurd (omega (arith, more, none)),
-    λ each. absurd (cc (each stuck within (is_ready ready) all, not_ready)),
-  );
-}
+    → length before < length after → (after ≡ before) ↔ AllCanComeGood b
+some_stuck b ready stuck before after all within not_ready more = (
+  λ same. absurd (omega (arith, more, ap (λ doubts. length doubts) same)),
+  λ each. absurd (cc (each stuck within (is_ready ready) all, not_ready)),
+)
 
-pub none_stuck : (b : Board) (ready : List ℕ) (before : ℕ)
+pub none_stuck : (b : Board) (ready : List ℕ) (before : Doubts)
     → ((d : ℕ) → IsTrue (is_ready ready d) → CanComeGood b d)
-    → ((d : ℕ) → d < length b.rails → IsTrue (is_ready ready d)) → TellsCircles b before before
-none_stuck b ready before good each = record {
-  circles = 0;
-  told = omega arith;
-  some = (λ none d within. good d (each d within), λ all. refl);
-}
+    → ((d : ℕ) → d < length b.rails → IsTrue (is_ready ready d))
+    → (before ≡ before) ↔ AllCanComeGood b
+none_stuck b ready before good each = (λ same d within. good d (each d within), λ all. refl)

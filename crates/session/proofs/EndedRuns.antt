@@ -19,8 +19,7 @@ use Rattle.simulator.specs.Machines.{Machine, Entry, start_at}
 use Rattle.simulator.specs.RunLaws.{RunsAreOne, StepsAreOne}
 use Rattle.simulator.specs.Steps.{IsStep, IsRun, total_ticks}
 use Rattle.facts.specs.declared.rule.Rule.{Rule}
-use Rattle.facts.specs.Duties.{Meets, MeetsSent, IsFirstFailing, duties}
-use Rattle.facts.specs.Requests.{Sent, sent_in}
+use Rattle.facts.specs.Duties.{Meets, IsFirstFailing, duties}
 use Rattle.facts.specs.Rows.{Row}
 use Rattle.facts.specs.Sets.{Set}
 use Rattle.session.specs.declared.scenario.Scenario.{Scenario}
@@ -30,7 +29,7 @@ use Rattle.table_check.specs.Tables.{Table}
 use Rattle.session.specs.Accepted.{AdmittedKeepRules}
 use Rattle.session.specs.Breaches.{ComesTo, KeepsRulesAt, IsKnownAt, IsFirstBreach}
 use Rattle.session.specs.Known.{known_row}
-use Rattle.session.specs.Runs.{GoesOn, SendsNothing}
+use Rattle.session.specs.Runs.{GoesOn}
 use Rattle.session.proofs.JudgedRuns.{IsJudged, IsTold, kept_here, kept_at}
 use Rattle.session.proofs.Replayed.{IsReplayed, next_is}
 
@@ -145,16 +144,6 @@ ends s left index ticks m good j none =
 -- a run that can't start
 pub never_starts : (s : Scenario) → (IsStart s.board (start_of s) → ⊥) → IsFirstBreach s None
 never_starts s never = λ k entries end i good comes here knows. absurd (never comes.may_start)
-
--- a run of a program that sends nothing
-pub breaks_nothing : (s : Scenario) → SendsNothing s.program → IsFirstBreach s None
-breaks_nothing s nothing = λ k entries end i good comes here knows rule.
-    free s.board (known_row end good) rule (sent_in i) (nothing end.place i here)
-  where
-    free : (b : Board) (row : Row) (rule : Rule) (o : Option Sent) → o ≡ None
-        → MeetsSent b row o rule
-    free b row rule None is = tt
-    free b row rule (Some s) is = cc is
 
 some_instr : (p : List Instr) (place : ℕ) → place < length p
     → (i : Instr) × (slice_get p place ≡ Some i)

@@ -11,7 +11,8 @@ use Rattle.session.specs.Replies.{Reply}
 use Rattle.std.proofs.lemmas.Bool.{cases_lt, lt-ltb}
 use Rattle.std.proofs.lemmas.List.{take_all}
 use Rattle.session.specs.Intake.{kept_limit, IsFrontOf}
-use Rattle.session.specs.Sessions.{kept_text, kept_task, text_in, IsReplyAfter, IsReplyTo}
+use Rattle.session.specs.Seen.{Sight, IsSeenAfter}
+use Rattle.session.specs.Sessions.{kept_text, kept_task, text_in, task_of, IsReplyAfter, IsReplyTo}
 
 too_large : (kept all : List ℕ) (over : Bool) → over ≡ true → nat_lt kept_limit (length all) ≡ true
     → kept_text kept over ≡ text_in all
@@ -36,4 +37,14 @@ replies_to None kept over reply front h = tt
 replies_to (Some input) kept over reply front h =
     subst (λ (text : Result (List ℕ) BundleFault).
     IsReplyAfter (faulted faults.Bundle text >>= task_in) reply)
+    (kept_text-front kept input over front) h
+
+-- and the same is seen of it
+pub seen_of : (first : Option (List ℕ)) (kept : List ℕ) (over : Bool) (seen : Sight)
+    → IfSome first (IsFrontOf kept over) → IsSeenAfter (kept_task kept over) seen
+    → IfSome first (λ input. IsSeenAfter (task_of input) seen)
+seen_of None kept over seen front h = tt
+seen_of (Some input) kept over seen front h =
+    subst (λ (text : Result (List ℕ) BundleFault).
+    IsSeenAfter (faulted faults.Bundle text >>= task_in) seen)
     (kept_text-front kept input over front) h

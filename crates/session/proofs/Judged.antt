@@ -1,6 +1,6 @@
 -- What is known after a step.
 use Rattle.std.proofs.Common.{◌≡◌, ◌<◌, ◌∙◌, ◌∷◌, ℕ, List, [], length, slice_get, Option, Some}
-use Rattle.std.proofs.Common.{None, inl, inr, sym, ap, subst, refl, false, is_some}
+use Rattle.std.proofs.Common.{None, inl, inr, sym, ap, subst, refl}
 use Rattle.std.specs.Prelude.{IsTrue}
 use Rattle.smbus.specs.Asked.{Asked}
 use Rattle.smbus.specs.Answered.{Answered}
@@ -107,12 +107,8 @@ silent b row i nothing =
 
 -- the same of the instruction at a place
 pub silent_at : (b : Board) (p : List Instr) (place : ℕ) (i j : Instr) (row : Row)
-    → slice_get p place ≡ Some i → slice_get p place ≡ Some j → is_some (sent_in i) ≡ false
+    → slice_get p place ≡ Some i → slice_get p place ≡ Some j → sent_in i ≡ None
     → IsFirstFailing b row j duties None
 silent_at b p place i j row x y quiet =
     subst (λ z. IsFirstFailing b row z duties None) (same_instr p place i j x y)
-    (silent b row i (none (sent_in i) quiet))
-  where
-    none : (o : Option Sent) → is_some o ≡ false → o ≡ None
-    none None is = refl
-    none (Some s) is = cc is
+    (silent b row i quiet)

@@ -15,5 +15,8 @@ pub mod Gained
 pub mod Judged
 pub mod JudgedRuns
 pub mod EndedRuns
+pub mod Watching
 pub mod MessagesSent
 pub mod Circles
+pub mod Rounds
+pub mod ToldDoubts

@@ -1,11 +1,11 @@
 -- What of a board without faults may be meant otherwise: start values with which a target doesn't
 -- take what a program sends, needs in a circle, rails that nothing turns on, limits that nothing
 -- breaks.
-use Rattle.std.specs.Prelude.{◌≡◌, ◌<◌, ◌↔◌, ℕ, ◌+◌, min, List, [], ◌∷◌, length, slice_get}
+use Rattle.std.specs.Prelude.{◌≡◌, ◌<◌, ℕ, ◌+◌, min, List, [], ◌∷◌, length, slice_get}
 use Rattle.std.specs.Prelude.{replicate}
 use Rattle.std.specs.Prelude.{Bool, true, false, ◌==◌, ◌&&◌, ◌||◌, not, nat_le, Option, Some, None}
-use Rattle.std.specs.Prelude.{option_and_then, All, IsTrue, if◌then◌else◌}
-use Rattle.std.specs.List.{list_any, list_all, count_by, sum_by}
+use Rattle.std.specs.Prelude.{option_and_then, All, IsTrue}
+use Rattle.std.specs.List.{list_any, list_all}
 use Rattle.std.specs.Option.{option_map_or}
 use Rattle.smbus.specs.Asked.{Asked}
 use Rattle.smbus.specs.FormWords.{carries_code}
@@ -125,11 +125,6 @@ is_idle_rail b r = option_map_or (λ t. is_idle t r) (slice_get b.targets r.targ
 abbrev pub is_loose_rail : Board → Rail → Bool
 is_loose_rail b r = option_map_or (λ t. is_loose t r) (slice_get b.targets r.target) false
 
--- how many doubts there are about the start values of a target
-abbrev pub target_doubts : List Asked → Target → ℕ
-target_doubts ms t =
-    (if starts_at_all_pages ms t then 1 else 0) + (if starts_protected ms t then 1 else 0)
-
 -- a set of rails takes in each rail whose needs are all in it
 abbrev pub TakesIn : Board → (ℕ → Bool) → Type 0
 TakesIn b s =
@@ -143,17 +138,3 @@ CanComeGood b d = (s : ℕ → Bool) → TakesIn b s → IsTrue (s d)
 
 abbrev pub AllCanComeGood : Board → Type 0
 AllCanComeGood b = (d : ℕ) → d < length b.rails → CanComeGood b d
-
--- circles of needs are told, one at least, where some rail can't come good
-pub record TellsCircles (b : Board) (before after : ℕ) : Type 0 where
-  pub circles : ℕ
-  pub told : after ≡ before + circles
-  pub some : (circles ≡ 0) ↔ AllCanComeGood b
-
--- so many doubts there are about a board and a program on it
-pub record AreDoubts (b : Board) (p : List Instr) (count : ℕ) : Type 0 where
-  pub circles : ℕ
-  pub told : count
-      ≡ sum_by (target_doubts (sent_by b p)) b.targets + circles
-      + count_by (is_idle_rail b) b.rails + count_by (is_loose_rail b) b.rails
-  pub some : (circles ≡ 0) ↔ AllCanComeGood b

@@ -25,3 +25,6 @@ pub mod Breaches
 pub mod Accepted
 pub mod Ready
 pub mod Doubts
+pub mod AllDoubts
+pub mod Watching
+pub mod Seen

@@ -1,5 +1,5 @@
 -- Runs that are judged.
-use Rattle.std.specs.Prelude.{◌≡◌, ◌≤◌, ◌+◌, ℕ, List, Option, Some, None, slice_get}
+use Rattle.std.specs.Prelude.{◌≤◌, ◌+◌, ℕ, List, Option, Some, None}
 use Rattle.smbus.specs.Answered.{Answered}
 use Rattle.board.specs.Boards.{Board}
 use Rattle.seq_program.specs.declared.instr.Instr.{Instr}
@@ -8,7 +8,6 @@ use Rattle.simulator.specs.Faults.{most_ticks, IsStepFault}
 use Rattle.simulator.specs.Machines.{Machine, Entry, IsMachine}
 use Rattle.simulator.specs.Steps.{IsStep}
 use Rattle.simulator.specs.Traces.{HasItsFrame}
-use Rattle.facts.specs.Requests.{sent_in}
 
 -- a step that goes on, where so many ticks were taken before it
 pub record IsNextStep (b : Board) (p : List Instr) (m : Machine) (a : Answered) (ticks : ℕ)
@@ -23,7 +22,3 @@ abbrev pub GoesOn : Board → List Instr → Machine → Answered → ℕ → �
     → Type 0
 GoesOn b p m a ticks index None = (fault : RunFault) × IsStepFault b p m a ticks index fault
 GoesOn b p m a ticks index (Some r) = IsNextStep b p m a ticks r.1 r.0
-
--- no instruction sends something to a target
-abbrev pub SendsNothing : List Instr → Type 0
-SendsNothing p = (place : ℕ) (i : Instr) → slice_get p place ≡ Some i → sent_in i ≡ None

@@ -1,18 +1,20 @@
-ghost use Rattle.std.specs.Prelude.{◌≡◌, ◌≢◌, ◌⊎◌, IfOk, IfErr, IfSome, option_copied};
+ghost use Rattle.std.specs.Prelude.{◌≡◌, ◌≢◌, ◌⊎◌, IfOk, IfErr, IfSome, None, option_copied};
 ghost use Rattle.std.specs.Str.{is_utf8};
 ghost use Rattle.texts.specs.Reading.{Gives};
 ghost use Rattle.session.specs.Commands.{task_in};
-ghost use Rattle.session.specs.Replies.{reply_view};
+ghost use Rattle.session.specs.Replies.{reply_view, refusal};
+ghost use Rattle.session.specs.Seen.{IsSeenAfter};
 ghost use Rattle.session.specs.Sessions.{text_if, kept_text, kept_task, IsReplyAfter, IsReplyTo};
-ghost use Rattle.session.specs.Sessions.{IsAnswered, IsBegun};
+ghost use Rattle.session.specs.Sessions.{task_of, IsAnswered, IsBegun};
 ghost use Rattle.session.specs.Promises.{GivesUpOnLoopsAlone, IsKeptPromise};
 ghost use Rattle.session.specs.Devices.{device_of};
 ghost use Rattle.session.specs.declared.answering.DeviceFault.TheVariants.{Memory, Writer};
 
 use crate::commands::{read_task, reply_of};
-use crate::fault::of_bundle;
+use crate::fault::{InputFault, of_bundle};
 use crate::intake::{Input, ReadFault, read_input};
-use crate::reply::{Reply, Status, refused};
+use crate::reply::{Status, refused};
+use crate::seen::{Made, Seen};
 use bundles::BundleFault;
 use std::alloc::{AllocError, Global};
 use std::io::{Read, Write};
@@ -73,59 +75,85 @@ fn text_of(input: &Input) -> Result<&str, ReadError<BundleFault>>
     }
 }
 
+/// The reply to an input with a fault, of which nothing else is seen.
+fn faulty(alloc: Global, fault: InputFault) -> Result<Made, AllocError>
+    ensures whole { IfOk result (λ made. made.reply.status ≢ Status.DeviceFault) }
+    ensures replies { IfOk result (λ made. reply_view made.reply ≡ refusal fault) }
+    ensures seen { IfOk result (λ made. made.seen ≡ None) }
+{
+    let reply = refused(alloc, fault)?;
+    Ok(Made { reply, seen: None })
+}
+
 /// The reply to the text of a bundle.
-fn reply_to(alloc: Global, text: &str) -> Result<Reply, AllocError>
-    ensures whole { IfOk result (λ reply. reply.status ≢ Status.DeviceFault) }
-    ensures replies { IfOk result (λ reply.
-        IsReplyAfter (task_in text.now) (reply_view reply)) }
+fn reply_to(alloc: Global, text: &str) -> Result<Made, AllocError>
+    ensures whole { IfOk result (λ made. made.reply.status ≢ Status.DeviceFault) }
+    ensures replies { IfOk result
+        (λ made. IsReplyAfter (task_in text.now) (reply_view made.reply)) }
+    ensures seen { IfOk result (λ made. IsSeenAfter (task_in text.now) made.seen) }
 {
     match read_task(alloc, text) {
         Ok(task) => reply_of(alloc, task),
         Err(ReadError::Memory) => Err(AllocError),
-        Err(ReadError::Fault(fault)) => refused(alloc, fault),
+        Err(ReadError::Fault(fault)) => faulty(alloc, fault),
     }
 }
 
 /// The reply to an input.
-fn make_reply(alloc: Global, input: &Input) -> Result<Reply, AllocError>
-    ensures whole { IfOk result (λ reply. reply.status ≢ Status.DeviceFault) }
-    ensures replies { IfOk result (λ reply.
-        IsReplyAfter (kept_task input.now.bytes.items input.now.too_large) (reply_view reply)) }
+fn make_reply(alloc: Global, input: &Input) -> Result<Made, AllocError>
+    ensures whole { IfOk result (λ made. made.reply.status ≢ Status.DeviceFault) }
+    ensures replies { IfOk result (λ made. IsReplyAfter
+        (kept_task input.now.bytes.items input.now.too_large) (reply_view made.reply)) }
+    ensures seen { IfOk result (λ made.
+        IsSeenAfter (kept_task input.now.bytes.items input.now.too_large) made.seen) }
 {
     match text_of(input).map_err(of_bundle) {
         Ok(text) => reply_to(alloc, text),
         Err(ReadError::Memory) => Err(AllocError),
-        Err(ReadError::Fault(fault)) => refused(alloc, fault),
+        Err(ReadError::Fault(fault)) => faulty(alloc, fault),
     }
 }
 
 /// Reads a whole input and makes the reply, and writes nothing.
-fn received<R: Read>(alloc: Global, reader: &mut R) -> Result<Reply, DeviceFault>
-    ensures replies { IfOk result
-        (λ reply. IfSome (R.remaining reader.old) (λ input. IsReplyTo input (reply_view reply))) }
-    ensures whole { IfOk result (λ reply. reply.status ≢ Status.DeviceFault) }
+fn received<R: Read>(alloc: Global, reader: &mut R) -> Result<Made, DeviceFault>
+    ensures replies { IfOk result (λ made. IfSome (R.remaining reader.old)
+        (λ input. IsReplyTo input (reply_view made.reply))) }
+    ensures seen { IfOk result (λ made. IfSome (R.remaining reader.old)
+        (λ input. IsSeenAfter (task_of input) made.seen)) }
+    ensures whole { IfOk result (λ made. made.reply.status ≢ Status.DeviceFault) }
     ensures err { IfErr result (λ fault. fault ≢ Writer) }
 {
     let input = read_input(alloc, reader)?;
-    let reply = make_reply(alloc, &input)?;
-    Ok(reply)
+    let made = make_reply(alloc, &input)?;
+    Ok(made)
 }
 
-/// Answers an input, and says which device failed.
+/// How an input was answered, and what was seen of it.
+#[derive(Drop)]
+pub struct Answered {
+    pub status: Status,
+    pub seen: Option<Box<Seen>>,
+}
+
+/// Answers an input: the whole reply to it is written. Tells how it was answered and what was seen
+/// of it; or Memory, Reader or Writer, where that device failed.
 pub fn answer<R: Read, W: Write>(
     alloc: Global,
     reader: &mut R,
     writer: &mut W,
-) -> Result<Status, DeviceFault>
-    ensures answered { IfOk result (λ status. IfSome (R.remaining reader.old) (λ input.
-        IsAnswered input (W.contents writer.old) (W.contents writer.new) status)) }
+) -> Result<Answered, DeviceFault>
+    ensures answered { IfOk result (λ answered. IfSome (R.remaining reader.old) (λ input.
+        IsAnswered input (W.contents writer.old) (W.contents writer.new) answered.status)) }
     // What is accepted is safe.
-    ensures accepted { IfOk result (λ status. IfSome (R.remaining reader.old) (λ input.
-        IsKeptPromise input (W.contents writer.old) (W.contents writer.new) status)) }
+    ensures accepted { IfOk result (λ answered. IfSome (R.remaining reader.old) (λ input.
+        IsKeptPromise input (W.contents writer.old) (W.contents writer.new) answered.status)) }
     // Where each jump of a program leads on, the search doesn't give up.
-    ensures gave_up { IfOk result (λ status. IfSome (R.remaining reader.old) (λ input.
+    ensures gave_up { IfOk result (λ answered. IfSome (R.remaining reader.old) (λ input.
         GivesUpOnLoopsAlone input (W.contents writer.old) (W.contents writer.new))) }
-    ensures whole { IfOk result (λ status. status ≢ Status.DeviceFault) }
+    ensures whole { IfOk result (λ answered. answered.status ≢ Status.DeviceFault) }
+    // The board and the program, and where the run breaks a rule first.
+    ensures seen { IfOk result (λ answered. IfSome (R.remaining reader.old)
+        (λ input. IsSeenAfter (task_of input) answered.seen)) }
     ensures begun { IfErr result
         (λ fault. fault ≡ Writer → IfSome (R.remaining reader.old) (λ input.
         IsBegun input (W.contents writer.old) (W.contents writer.new))) }
@@ -133,9 +161,12 @@ pub fn answer<R: Read, W: Write>(
     // Where memory or the reader failed, nothing was written.
     ensures silent { IfErr result (λ fault. fault ≢ Writer → writer.new ≡ writer.old) }
 {
-    let reply = received(alloc, reader)?;
+    let Made { reply, seen } = received(alloc, reader)?;
     match send(writer, &reply.text) {
-        Ok(()) => Ok(reply.status),
+        Ok(()) => Ok(Answered {
+            status: reply.status,
+            seen,
+        }),
         Err(CutShort) => Err(DeviceFault::Writer),
     }
 }
@@ -160,7 +191,7 @@ pub fn session<R: Read, W: Write>(alloc: Global, reader: &mut R, writer: &mut W)
         IsBegun input (W.contents writer.old) (W.contents writer.new)) }
 {
     match answer(alloc, reader, writer) {
-        Ok(status) => status,
+        Ok(answered) => answered.status,
         Err(_) => Status::DeviceFault,
     }
 }

@@ -1,7 +1,7 @@
 //! What of a board without faults may be meant otherwise.
 
-ghost use Rattle.std.specs.Prelude.{IfOk, length};
-ghost use Rattle.session.specs.Doubts.{AreDoubts};
+ghost use Rattle.std.specs.Prelude.{IfOk};
+ghost use Rattle.session.specs.AllDoubts.{AreDoubts};
 
 mod circle;
 mod idle;
@@ -63,7 +63,7 @@ pub enum Lack {
 /// target can turn on, and limits that no voltage can break. Memory is answered where a growth was
 /// refused.
 pub fn doubts_on(alloc: Global, board: &Board, program: &Program) -> Result<Vec<Doubt>, AllocError>
-    ensures { IfOk result (λ doubts. AreDoubts board.now program.now (length doubts.items)) }
+    ensures { IfOk result (λ doubts. AreDoubts board.now program.now doubts.items) }
 {
     let messages = messages_of(alloc, board, program)?;
     let mut doubts = Vec::new(alloc);

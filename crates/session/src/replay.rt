@@ -7,7 +7,7 @@ ghost use Rattle.session.specs.Scenarios.{IsOnItsBoard, IsRunOf, IsFaultOf};
 
 use crate::scenario::Scenario;
 use seq_program::program_is_valid;
-use simulator::{Entry, RunFault, runs_go_on, start, step_at};
+use simulator::{RunFault, Stage, runs_go_on, start};
 use std::alloc::Global;
 
 /// Runs a scenario to its last answer, or to the first that has no step, whose fault is answered:
@@ -22,18 +22,15 @@ pub fn run_through(alloc: Global, scenario: &Scenario<'_>) -> Result<(), RunFaul
     program_is_valid(program);
     runs_go_on();
     let answered = &scenario.answers;
-    let mut machine = start(alloc, board, &answered.pages, &answered.protects)?;
-    let mut spare = Entry::empty(alloc);
+    let machine = start(alloc, board, &answered.pages, &answered.protects)?;
+    let mut stage = Stage::new(alloc, machine);
     let mut answers = answered.answers();
     let mut index = 0;
     let mut ticks = 0;
     while let Some(answer) = answers.next(alloc)? {
-        let before = (machine, spare);
-        let (after, entry) = step_at(alloc, board, program, before, &answer, index, ticks)?;
+        stage.step(alloc, board, program, &answer, index, ticks)?;
         index += 1;
-        ticks += entry.ticks;
-        machine = after;
-        spare = entry;
+        ticks += stage.entry.ticks;
     }
     Ok(())
 }

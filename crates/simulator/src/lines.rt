@@ -1,6 +1,6 @@
 //! The lines in a step.
 
-ghost use Rattle.std.specs.Prelude.{◌≡◌, ◌≤◌, IfOk, IfSome, option_map};
+ghost use Rattle.std.specs.Prelude.{◌≡◌, ◌≤◌, IfOk, IfSome, OnOk, option_map};
 ghost use Rattle.bit_bus.specs.Levels.{idle};
 ghost use Rattle.smbus.specs.OneFrame.{CanBeSent};
 ghost use Rattle.seq_program.specs.Valid.{IsInstr};
@@ -26,14 +26,12 @@ fn idle(alert: bool) -> Sample
     }
 }
 
-/// So many idle samples. Spare ones give them their memory.
-fn idle_samples(spare: Runs, alert: bool, ticks: u32) -> Result<Runs, AllocError>
-    ensures { IfOk result (λ samples. samples ≡ idle_samples alert ticks) }
+/// Makes samples so many idle ones.
+fn idle_samples(samples: &mut Runs, alert: bool, ticks: u32) -> Result<(), AllocError>
+    ensures { OnOk result (samples.new ≡ idle_samples alert ticks) }
 {
-    let mut samples = spare;
     samples.clear();
-    samples.push(idle(alert), u64::from(ticks))?;
-    Ok(samples)
+    samples.push(idle(alert), u64::from(ticks))
 }
 
 /// An idle sample, and the frame of a message.
@@ -73,24 +71,26 @@ fn idle_ticks(instr: &Instr) -> u32
     }
 }
 
-/// The lines in a step of an instruction that sends this message, or none. Spare samples may give
-/// them their memory.
+/// Makes samples the lines in a step of an instruction that sends this message, or none.
 pub(crate) fn step_samples(
+    samples: &mut Runs,
     alloc: Global,
-    spare: Runs,
     state: &BusState,
     instr: &Instr,
     message: Option<&Message>,
     answer: &Answer,
-) -> Result<Runs, AllocError>
+) -> Result<(), AllocError>
     requires instr { IsInstr instr.now }
     requires sendable { IfSome (option_map (λ m. m.now) message) (λ m. CanBeSent m answer.now) }
-    ensures { IfOk result (λ samples. samples
+    ensures { OnOk result (samples.new
         ≡ step_samples state.now instr.now (option_map (λ m. m.now) message.entry) answer.now) }
 {
     let alert = state.alerting == 0;
     match message {
-        Some(message) => frame_samples(alloc, alert, message, answer),
-        None => idle_samples(spare, alert, idle_ticks(instr) + 1),
+        Some(message) => {
+            *samples = frame_samples(alloc, alert, message, answer)?;
+            Ok(())
+        }
+        None => idle_samples(samples, alert, idle_ticks(instr) + 1),
     }
 }

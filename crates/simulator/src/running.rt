@@ -9,7 +9,7 @@ ghost use Rattle.simulator.specs.declared.fault.RunFault.TheVariants.{Memory};
 use crate::fault::RunFault;
 use crate::law::runs_are_seen;
 use crate::machine::{Entry, Machine, registers_are_words};
-use crate::stepping::step_at;
+use crate::stepping::Stage;
 use board::{Board, board_is_valid};
 use seq_program::{Program, program_is_valid};
 use smbus::Answer;
@@ -67,11 +67,12 @@ pub fn run(
     let mut entries = Vec::new(alloc);
     let mut ticks = 0;
     for (index, answer) in answers.iter().enumerate() {
-        let before = (last, Entry::empty(alloc));
-        let (next, entry) = step_at(alloc, board, program, before, answer, index, ticks)?;
+        let mut stage = Stage::new(alloc, last);
+        stage.step(alloc, board, program, answer, index, ticks)?;
+        let Stage { machine, entry } = stage;
         ticks += entry.ticks;
         entries.push(entry)?;
-        last = next;
+        last = machine;
     }
     Ok(Trace { entries, last })
 }

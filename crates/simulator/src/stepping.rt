@@ -1,9 +1,9 @@
 ghost use Rattle.std.specs.Prelude.{◌≡◌, ◌≢◌, ◌≤◌, ◌<◌, ◌+◌, ◌↔◌, length, slice_get, option_map};
-ghost use Rattle.std.specs.Prelude.{All, IfOk, IfErr, Some, IsTrue};
+ghost use Rattle.std.specs.Prelude.{All, IfOk, IfErr, OnOk, Some, IsTrue};
 ghost use Rattle.seq_program.specs.Messages.{message_of};
 ghost use Rattle.seq_program.specs.Valid.{IsInstr, IsProgram, IsOnBoard};
 ghost use Rattle.targets.specs.Fitting.{FitsStep};
-ghost use Rattle.targets.specs.States.{Belongs};
+ghost use Rattle.targets.specs.States.{Belongs, BusState as AnyState};
 ghost use Rattle.simulator.specs.Faults.{most_ticks, IsStepFault};
 ghost use Rattle.simulator.specs.Machines.{IsMachine};
 ghost use Rattle.simulator.specs.Moves.{moved};
@@ -22,7 +22,8 @@ use board::{Board, board_is_valid};
 use seq_program::{Instr, Program, message_of, program_is_valid};
 use smbus::{Answer, Message, slots_are_one_frame};
 use std::alloc::{AllocError, Global};
-use targets::{BusState, Outcome, after_in, fits, ranges_are_of_forms, states_belong};
+use std::mem::swap;
+use targets::{Outcome, after_into, fits, ranges_are_of_forms, states_belong};
 
 /// The most ticks of a run.
 pub(crate) const MOST_TICKS: u64 = 1 << 40;
@@ -48,21 +49,17 @@ fn instr_of<'a>(program: &'a Program, machine: &Machine) -> &'a Instr
     }
 }
 
-/// The machine after an instruction that sent this message, or none.
-fn moved(
-    instr: &Instr,
-    message: Option<&Message>,
-    outcome: Outcome,
-    machine: &Machine,
-    bus: BusState,
-) -> Machine
-    requires { machine.now.place < 1024 }
-    ensures { result
-        ≡ moved instr.now (option_map (λ m. m.now) message.entry) outcome bus machine.now }
+/// Moves a machine on behind an instruction that sent this message, or none, and leaves the
+/// targets' state as it is.
+fn move_on(instr: &Instr, message: Option<&Message>, outcome: Outcome, machine: &mut Machine)
+    requires { machine.old.place < 1024 }
+    ensures machine { (bus : AnyState) → record machine.new { bus = bus }
+        ≡ moved instr.now (option_map (λ m. m.now) message.entry) outcome bus machine.old }
+    ensures bus { machine.new.bus ≡ machine.old.bus }
 {
     match message {
-        Some(_) => after_message(instr, outcome, machine, bus),
-        None => silently(instr, machine, bus),
+        Some(_) => after_message(instr, outcome, machine),
+        None => silently(instr, machine),
     }
 }
 
@@ -76,87 +73,122 @@ fn sent_outcome(message: Option<&Message>, outcome: Outcome) -> Option<Outcome>
     }
 }
 
-/// The step of an instruction that sends this message, or none, under an answer that fits.
+/// Makes the step of an instruction that sends this message, or none, under an answer that fits.
 fn step_by(
     alloc: Global,
     board: &Board,
     instr: &Instr,
     message: Option<&Message>,
-    last: (Machine, Entry),
+    machine: &mut Machine,
+    entry: &mut Entry,
     answer: &Answer,
-) -> Result<(Machine, Entry), AllocError>
+) -> Result<(), AllocError>
     requires instr { IsInstr instr.now }
     requires asked { option_map (λ m. m.now) message
-        ≡ message_of board.now instr.now last.0.regs }
-    requires few { last.0.place < 1024 }
-    requires fits { FitsStep board.now last.0.bus (option_map (λ m. m.now) message) answer.now }
-    ensures step { IfOk result (λ r.
-        IsStepOf board.now instr.now
-        (option_map (λ m. m.now) message.entry) last.0 answer.now r.1 r.0) }
-    ensures seen { IfOk result (λ r. HasItsFrame r.1) }
-    ensures belongs { IfOk result
-        (λ r. Belongs board.now last.0.bus → Belongs board.now r.0.bus) }
+        ≡ message_of board.now instr.now machine.old.regs }
+    requires few { machine.old.place < 1024 }
+    requires fits { FitsStep board.now machine.old.bus
+        (option_map (λ m. m.now) message) answer.now }
+    ensures step { OnOk result
+        (IsStepOf board.now instr.now
+        (option_map (λ m. m.now) message.entry) machine.old answer.now entry.new machine.new) }
+    ensures seen { OnOk result (HasItsFrame entry.new) }
+    ensures belongs { OnOk result
+        (Belongs board.now machine.old.bus → Belongs board.now machine.new.bus) }
 {
     board_is_valid(board);
     slots_are_one_frame();
     reads_back();
     states_belong();
     ranges_are_of_forms();
-    let (machine, spare) = last;
-    let samples = step_samples(alloc, spare.samples, &machine.bus, instr, message, answer)?;
-    let (bus, outcome) = after_in(spare.before, board, &machine.bus, message, answer)?;
-    let next = moved(instr, message, outcome, &machine, bus);
-    let entry = Entry {
-        place: machine.place,
-        before: machine.bus,
-        ticks: samples.total(),
-        samples,
-        outcome: sent_outcome(message, outcome),
-    };
-    Ok((next, entry))
+    step_samples(
+        &mut entry.samples,
+        alloc,
+        &machine.bus,
+        instr,
+        message,
+        answer,
+    )?;
+    let outcome = after_into(&mut entry.before, board, &machine.bus, message, answer)?;
+    entry.place = machine.place;
+    entry.outcome = sent_outcome(message, outcome);
+    entry.ticks = entry.samples.total();
+    move_on(instr, message, outcome, machine);
+    swap(&mut entry.before, &mut machine.bus);
+    Ok(())
 }
 
-/// The step of a machine under the answer of an index, where so many samples stand before it. The
-/// program and the machine are those of the board. The entry that comes with the machine is not
-/// looked at: it gives its memory to the new one.
-///
-/// AfterEnd is answered where the program has ended, then AnswerDoesNotFit where the targets can't
-/// answer so, both with the index, then TooLong where the run would have over 2^40 ticks.
-/// Memory is answered where a growth was refused.
-pub fn step_at(
-    alloc: Global,
-    board: &Board,
-    program: &Program,
-    last: (Machine, Entry),
-    answer: &Answer,
-    index: usize,
-    before: u64,
-) -> Result<(Machine, Entry), RunFault>
-    requires on_board { All (λ i. IsOnBoard (length board.now.targets) i) program.now }
-    requires machine { IsMachine board.now program.now last.0 }
-    requires before { before ≤ most_ticks }
-    ensures step { IfOk result (λ r. IsStep board.now program.now last.0 answer.now r.1 r.0) }
-    ensures within { IfOk result (λ r. before + r.1.ticks ≤ most_ticks) }
-    ensures machine { IfOk result (λ r. IsMachine board.now program.now r.0) }
-    ensures seen { IfOk result (λ r. HasItsFrame r.1) }
-    ensures fault { IfErr result (λ e. e ≢ Memory
-        → IsStepFault board.now program.now last.0 answer.now before index e) }
-{
-    let machine = &last.0;
-    if !is_running(machine) {
-        return Err(RunFault::AfterEnd(index));
+/// A run under way.
+#[derive(Drop)]
+pub struct Stage {
+    pub machine: Machine,
+    /// What the last step left to be seen.
+    pub entry: Entry,
+}
+
+impl Stage {
+    /// Before the first step, with nothing to be seen yet.
+    pub fn new(alloc: Global, machine: Machine) -> Stage
+        ensures { result.machine ≡ machine }
+    {
+        Stage {
+            machine,
+            entry: Entry::empty(alloc),
+        }
     }
-    let instr = instr_of(program, machine);
-    let message = message_of(alloc, board, instr, &machine.regs)?;
-    let message = message.as_ref();
-    if !fits(board, &machine.bus, message, answer) {
-        return Err(RunFault::AnswerDoesNotFit(index));
+
+    /// Makes the step under the answer of an index, where so many samples stand before it. The
+    /// program and the machine are those of the board.
+    ///
+    /// AfterEnd is answered where the program has ended, then AnswerDoesNotFit where the targets
+    /// can't answer so, both with the index, then TooLong where the run would have over 2^40 ticks.
+    /// Memory is answered where a growth was refused. Behind TooLong and Memory the stage is of no
+    /// more use.
+    pub fn step(
+        &mut self,
+        alloc: Global,
+        board: &Board,
+        program: &Program,
+        answer: &Answer,
+        index: usize,
+        before: u64,
+    ) -> Result<(), RunFault>
+        requires on_board { All (λ i. IsOnBoard (length board.now.targets) i) program.now }
+        requires machine { IsMachine board.now program.now self.old.machine }
+        requires before { before ≤ most_ticks }
+        ensures step { OnOk result
+            (IsStep board.now program.now self.old.machine answer.now self.new.entry
+            self.new.machine) }
+        ensures within { OnOk result (before + self.new.entry.ticks ≤ most_ticks) }
+        ensures machine { OnOk result (IsMachine board.now program.now self.new.machine) }
+        ensures seen { OnOk result (HasItsFrame self.new.entry) }
+        ensures fault { IfErr result (λ e. e ≢ Memory
+            → IsStepFault board.now program.now self.old.machine answer.now before index e) }
+    {
+        let machine = &self.machine;
+        if !is_running(machine) {
+            return Err(RunFault::AfterEnd(index));
+        }
+        let instr = instr_of(program, machine);
+        let message = message_of(alloc, board, instr, &machine.regs)?;
+        let message = message.as_ref();
+        if !fits(board, &machine.bus, message, answer) {
+            return Err(RunFault::AnswerDoesNotFit(index));
+        }
+        step_by(
+            alloc,
+            board,
+            instr,
+            message,
+            &mut self.machine,
+            &mut self.entry,
+            answer,
+        )?;
+        if self.entry.ticks > MOST_TICKS - before {
+            return Err(RunFault::TooLong);
+        }
+        Ok(())
     }
-    let (next, entry) = step_by(alloc, board, instr, message, last, answer)?;
-    if entry.ticks > MOST_TICKS - before {
-        return Err(RunFault::TooLong);
-    }
-    Ok((next, entry))
 }
 
 /// One step of a program: the machine after it, and what it leaves to be seen. The program and the
@@ -181,6 +213,7 @@ pub fn step(
     ensures fault { IfErr result
         (λ e. e ≢ Memory → IsStepFault board.now program.now machine.now answer.now 0 0 e) }
 {
-    let last = (machine.copied()?, Entry::empty(alloc));
-    step_at(alloc, board, program, last, answer, 0, 0)
+    let mut stage = Stage::new(alloc, machine.copied()?);
+    stage.step(alloc, board, program, answer, 0, 0)?;
+    Ok((stage.machine, stage.entry))
 }

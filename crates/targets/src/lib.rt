@@ -18,4 +18,4 @@ pub use law::{
 pub use outcome::{Outcome, cut_of, ending_of};
 pub use start::starts;
 pub use state::BusState;
-pub use step::{after, after_in};
+pub use step::{after, after_into};

@@ -1,5 +1,5 @@
 ghost use Rattle.std.specs.Prelude.{◌≡◌, ◌≢◌, ◌<◌, ◌⊎◌, ◌↔◌, ℕ, false, Some, IfOk, IfSome, IsTrue};
-ghost use Rattle.std.specs.Prelude.{option_map};
+ghost use Rattle.std.specs.Prelude.{option_map, OnOk};
 ghost use Rattle.wires.specs.Bits.{bit};
 ghost use Rattle.targets.specs.Outcomes.{outcome_of};
 ghost use Rattle.targets.specs.Effects.{StopsAlerting, IsAfter};
@@ -13,15 +13,14 @@ use board::{Board, board_is_valid};
 use smbus::{Answer, Form, Message};
 use std::alloc::{AllocError, Global};
 
-/// What is stored with one value written, at its index. Spare bytes give it their memory.
-fn with_write(
-    spare: Vec<u8>,
+/// Makes bytes what is stored with one value written, at its index.
+fn store_with_write(
+    bytes: &mut Vec<u8>,
     stored: &[u8],
     write: Option<(usize, u8)>,
-) -> Result<Vec<u8>, AllocError>
-    ensures { IfOk result (λ bytes. bytes.items ≡ with_write write stored.now) }
+) -> Result<(), AllocError>
+    ensures { OnOk result (bytes.new.items ≡ with_write write stored.now) }
 {
-    let mut bytes = spare;
     bytes.clear();
     bytes.extend_from_slice(stored)?;
     if let Some((index, value)) = write {
@@ -29,7 +28,7 @@ fn with_write(
             *byte = value;
         }
     }
-    Ok(bytes)
+    Ok(())
 }
 
 /// The bits of some targets without one of them.
@@ -81,29 +80,28 @@ fn stops_alerting(
     }
 }
 
-/// The same as `after`, where a spare state gives its memory to the new one.
-pub fn after_in(
-    spare: BusState,
+/// Makes a state the one that `after` gives, and gives the outcome. Fails only for want of memory,
+/// and then the state is of no more use.
+pub fn after_into(
+    new: &mut BusState,
     board: &Board,
     state: &BusState,
     message: Option<&Message>,
     answer: &Answer,
-) -> Result<(BusState, Outcome), AllocError>
-    ensures state { IfOk result (λ r.
-        IsAfter board.now state.now (option_map (λ m. m.now) message.entry) answer.now r.0) }
+) -> Result<Outcome, AllocError>
+    ensures state { OnOk result
+        (IsAfter board.now state.now (option_map (λ m. m.now) message.entry) answer.now new.new) }
     ensures outcome { IfOk result
-        (λ r. r.1 ≡ outcome_of (option_map (λ m. m.now) message.entry) answer.now) }
+        (λ outcome. outcome ≡ outcome_of (option_map (λ m. m.now) message.entry) answer.now) }
 {
     board_is_valid(board);
     let stops = stops_alerting(board, state, message, answer);
     let page_write = register_write(Register::Page, board, state, message, answer);
     let protect_write = register_write(Register::Protect, board, state, message, answer);
-    let new = BusState {
-        page: with_write(spare.page, &state.page, page_write)?,
-        protect: with_write(spare.protect, &state.protect, protect_write)?,
-        alerting: joined(answer.alerts, kept_alerting(state.alerting, stops)),
-    };
-    Ok((new, outcome_of(message, answer)))
+    store_with_write(&mut new.page, &state.page, page_write)?;
+    store_with_write(&mut new.protect, &state.protect, protect_write)?;
+    new.alerting = joined(answer.alerts, kept_alerting(state.alerting, stops));
+    Ok(outcome_of(message, answer))
 }
 
 /// The state and the outcome after a message and an answer of the targets, or after a step that
@@ -120,5 +118,7 @@ pub fn after(
     ensures outcome { IfOk result
         (λ r. r.1 ≡ outcome_of (option_map (λ m. m.now) message.entry) answer.now) }
 {
-    after_in(BusState::empty(alloc), board, state, message, answer)
+    let mut new = BusState::empty(alloc);
+    let outcome = after_into(&mut new, board, state, message, answer)?;
+    Ok((new, outcome))
 }

@@ -6,12 +6,21 @@ mod found;
 
 use crate::expected::says;
 use crate::runs::answer_of;
-use session::outcome_line;
+use session::{Answered, answer, outcome_line};
 use simulator::outcome_text;
 use smbus::{Form, Message};
 use std::alloc::{AllocError, Global};
 use std::test::*;
 use targets::Outcome;
+
+/// How the text of a bundle is answered, and what is seen of it.
+pub(crate) fn answered(alloc: Global, text: &str) -> Result<Answered, AllocError> {
+    let mut output = Vec::new(alloc);
+    match answer(alloc, &mut text.as_bytes(), &mut output) {
+        Ok(answered) => Ok(answered),
+        Err(_) => Err(AllocError),
+    }
+}
 
 /// How a Read Word that returns 0840h ends.
 fn word_outcome(

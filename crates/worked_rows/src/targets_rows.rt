@@ -6,7 +6,7 @@ use smbus::{Answer, Form, Message};
 use std::alloc::Global;
 use std::process::Abort;
 use std::test::*;
-use targets::{BusState, Outcome, after, after_in, fits, starts};
+use targets::{BusState, Outcome, after, after_into, fits, starts};
 
 pub(crate) fn state_of(
     alloc: Global,
@@ -127,8 +127,8 @@ fn alerting_after_silence(
 ) -> Result<Option<u16>, BoardFault> {
     let state = state_of(alloc, &[0xFF, 0], &[0, 0x20], alerting)?;
     let answer = answer_of(alloc, (0, None, alerts));
-    let spare = state_of(alloc, &[1, 2, 3], &[0x80], 3)?;
-    let (new, outcome) = after_in(spare, board, &state, None, &answer)?;
+    let mut new = state_of(alloc, &[1, 2, 3], &[0x80], 3)?;
+    let outcome = after_into(&mut new, board, &state, None, &answer)?;
     let is_kept = new.page.as_slice() == [0xFF, 0].as_slice()
         && new.protect.as_slice() == [0, 0x20].as_slice()
         && outcome == Outcome::Done(0);

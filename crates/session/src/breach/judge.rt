@@ -1,9 +1,11 @@
 //! The judge of a run.
 
-ghost use Rattle.std.specs.Prelude.{◌≡◌, ◌∷◌, ◌<◌, ◌||◌, ◌&&◌, ◌==◌, [], ℕ, IsTrue, Some};
-ghost use Rattle.std.specs.Prelude.{length, slice_get, is_some};
+ghost use Rattle.std.specs.Prelude.{◌≡◌, ◌∷◌, ◌<◌, ◌||◌, ◌&&◌, ◌==◌, [], ℕ, IsTrue, List, Some};
+ghost use Rattle.std.specs.Prelude.{None, length, slice_get};
+ghost use Rattle.board.specs.Boards.{Board as AnyBoard};
 ghost use Rattle.facts.specs.Requests.{sent_in};
 ghost use Rattle.facts.specs.Sets.{rails_in};
+ghost use Rattle.seq_program.specs.Messages.{message_of};
 ghost use Rattle.session.specs.Telling.{TellsAfter};
 
 use crate::breach::known::known_row;
@@ -82,28 +84,31 @@ fn instr_of<'a>(program: &'a Program, machine: &Machine) -> &'a Instr
     }
 }
 
-/// Whether an instruction sends something to a target.
-pub(crate) fn sends(instr: &Instr) -> bool
-    ensures { result ≡ is_some (sent_in instr.now) }
+/// Whether an instruction sends nothing.
+fn is_silent(instr: &Instr) -> bool
+    ensures request { IsTrue result → sent_in instr.now ≡ None }
+    ensures message { IsTrue result
+        → (b : AnyBoard) (registers : List ℕ) → message_of b instr.now registers ≡ None }
 {
-    match instr {
-        Instr::Quick { .. }
-        | Instr::Send { .. }
-        | Instr::Receive { .. }
-        | Instr::Write { .. }
-        | Instr::Read { .. }
-        | Instr::Call { .. }
-        | Instr::BlockWrite { .. }
-        | Instr::BlockRead { .. }
-        | Instr::BlockCall { .. } => true,
-        _ => false,
-    }
+    matches!(
+        instr,
+        Instr::IfAlert { .. }
+            | Instr::Set { .. }
+            | Instr::Add { .. }
+            | Instr::If { .. }
+            | Instr::Above { .. }
+            | Instr::Count { .. }
+            | Instr::Again { .. }
+            | Instr::Wait { .. }
+            | Instr::Goto { .. }
+            | Instr::End
+            | Instr::Fail
+    )
 }
 
 impl Judge {
     ghost use Rattle.std.specs.Prelude.{◌≡◌, ◌∷◌, ◌<◌, [], List, IfOk, OnOk, OnErr, Some, length};
     ghost use Rattle.std.specs.Prelude.{slice_get};
-    ghost use Rattle.board.specs.Boards.{Board as AnyBoard};
     ghost use Rattle.facts.specs.Rows.{row_view};
     ghost use Rattle.facts.specs.Sets.{rails_in};
     ghost use Rattle.seq_program.specs.declared.instr.Instr.{Instr};
@@ -148,7 +153,7 @@ impl Judge {
             → IsBreach board.now (rails_in self.now.good) machine.now i found) }
     {
         let instr = instr_of(program, machine);
-        if !sends(instr) {
+        if is_silent(instr) {
             return Ok(None);
         }
         let row = self.row(alloc, board, machine)?;
@@ -178,6 +183,9 @@ impl Judge {
         program_is_valid(program);
         steps_are_seen();
         let instr = instr_of(program, machine);
+        if is_silent(instr) {
+            return Ok(());
+        }
         if let Some(message) = message_of(alloc, board, instr, &machine.regs)? {
             self.good = good_after(board, &machine.bus, &message, answer, self.good);
         }

@@ -1,18 +1,49 @@
 //! Rails that need each other in a circle.
 
-ghost use Rattle.std.specs.Prelude.{◌≡◌, ◌<◌, ◌+◌, length, IfOk, OnOk};
-ghost use Rattle.session.specs.Doubts.{TellsCircles};
-ghost use Rattle.session.specs.Ready.{AreRails};
+ghost use Rattle.std.specs.Prelude.{◌≡◌, ◌<◌, ◌↔◌, ◌++◌, ◌∷◌, [], length, slice_get, IfOk};
+ghost use Rattle.std.specs.Prelude.{OnOk, MatchOption, Some, false};
+ghost use Rattle.session.specs.declared.doubts.Doubt.{Doubt as AnyDoubt};
+ghost use Rattle.session.specs.Doubts.{TakesIn, AllCanComeGood};
+ghost use Rattle.session.specs.AllDoubts.{Needs, GoesRound, IsCircle, TellsCircles};
+ghost use Rattle.session.specs.Ready.{is_ready, AreRails};
 
 use crate::doubts::Doubt;
 use crate::doubts::ready::{first_stuck, is_ready, ready_after, with_rails};
-use board::Board;
+use board::{Board, board_is_valid};
 use std::alloc::{AllocError, Global};
 
-/// The first need of a rail that isn't ready.
-fn stuck_need(board: &Board, ready: &[usize], rail: usize) -> Option<usize> {
-    let needs = board.rail(rail)?.needs();
-    needs.iter().copied().find(|need| !is_ready(ready, *need))
+/// The first need of a rail that isn't ready, where a rail is as soon as its needs are.
+fn stuck_need(board: &Board, ready: &[usize], rail: usize) -> usize
+    requires all { TakesIn board.now (is_ready ready.now) }
+    requires rail { rail < length board.now.rails }
+    requires stuck { is_ready ready.now rail ≡ false }
+    ensures need { Needs board.now rail result }
+    ensures rail { result < length board.now.rails }
+    ensures stuck { is_ready ready.now result ≡ false }
+{
+    board_is_valid(board);
+    let Some(stuck) = board.rail(rail) else {
+        unreachable!()
+    };
+    for need in stuck.needs() {
+        if !is_ready(ready, *need) {
+            return *need;
+        }
+    }
+    unreachable!()
+}
+
+/// Where a rail is on a way, if it is.
+fn place_on(way: &[usize], rail: usize) -> Option<usize>
+    ensures { MatchOption result (is_ready way.now rail ≡ false)
+        (λ place. slice_get way.now place ≡ Some rail) }
+{
+    for (place, other) in way.iter().enumerate() {
+        if *other == rail {
+            return Some(place);
+        }
+    }
+    None
 }
 
 /// The needs that aren't ready, from a rail on until one comes again: from there on they go round.
@@ -21,20 +52,21 @@ fn circle_from(
     board: &Board,
     ready: &[usize],
     stuck: usize,
-) -> Result<Vec<usize>, AllocError> {
+) -> Result<Vec<usize>, AllocError>
+    requires all { TakesIn board.now (is_ready ready.now) }
+    requires rail { stuck < length board.now.rails }
+    requires stuck { is_ready ready.now stuck ≡ false }
+    ensures { IfOk result (λ circle. GoesRound board.now circle.items) }
+{
     let mut way = Vec::new(alloc);
     let mut here = stuck;
-    for _ in 0..=board.rails().len() {
-        if let Some(first) = way.iter().position(|rail| *rail == here) {
-            way.reverse();
-            way.truncate(way.len() - first);
-            way.reverse();
-            return Ok(way);
+    loop {
+        if let Some(first) = place_on(&way, here) {
+            return way.split_off(first);
         }
         way.push(here)?;
-        here = stuck_need(board, ready, here).unwrap_or(here);
+        here = stuck_need(board, ready, here);
     }
-    Ok(way)
 }
 
 /// A doubt about the circle to which the needs of a rail lead. The rails that come good where
@@ -46,9 +78,14 @@ fn push_circle(
     ready: Vec<usize>,
     stuck: usize,
 ) -> Result<Vec<usize>, AllocError>
-    requires { AreRails board.now ready.items }
-    ensures told { OnOk result (length doubts.new.items ≡ length doubts.old.items + 1) }
+    requires rails { AreRails board.now ready.items }
+    requires all { TakesIn board.now (is_ready ready.items) }
+    requires rail { stuck < length board.now.rails }
+    requires stuck { is_ready ready.items stuck ≡ false }
+    ensures told { OnOk result ((circle : AnyDoubt)
+        × (doubts.new.items ≡ doubts.old.items ++ circle ∷ []) × IsCircle board.now circle) }
     ensures rails { IfOk result (λ ready. AreRails board.now ready.items) }
+    ensures all { IfOk result (λ ready. TakesIn board.now (is_ready ready.items)) }
 {
     let circle = circle_from(alloc, board, &ready, stuck)?;
     let ready = ready_after(board, with_rails(board, ready, &circle)?)?;
@@ -64,8 +101,12 @@ fn push_circles_from(
     ready: Vec<usize>,
     stuck: usize,
 ) -> Result<(), AllocError>
-    requires { AreRails board.now ready.items }
-    ensures { OnOk result (length doubts.old.items < length doubts.new.items) }
+    requires rails { AreRails board.now ready.items }
+    requires all { TakesIn board.now (is_ready ready.items) }
+    requires rail { stuck < length board.now.rails }
+    requires stuck { is_ready ready.items stuck ≡ false }
+    ensures told { OnOk result (TellsCircles board.now doubts.old.items doubts.new.items) }
+    ensures some { OnOk result (length doubts.old.items < length doubts.new.items) }
 {
     let mut ready = push_circle(alloc, doubts, board, ready, stuck)?;
     for _ in board.rails() {
@@ -83,8 +124,9 @@ pub(crate) fn push_circles(
     doubts: &mut Vec<Doubt>,
     board: &Board,
 ) -> Result<(), AllocError>
-    ensures { OnOk result
-        (TellsCircles board.now (length doubts.old.items) (length doubts.new.items)) }
+    ensures told { OnOk result (TellsCircles board.now doubts.old.items doubts.new.items) }
+    ensures none { OnOk result
+        ((doubts.new.items ≡ doubts.old.items) ↔ AllCanComeGood board.now) }
 {
     let ready = ready_after(board, Vec::new(alloc))?;
     match first_stuck(board, &ready) {

@@ -1,9 +1,9 @@
 //! Rails that nothing can turn on.
 
-ghost use Rattle.std.specs.Prelude.{◌≡◌, ◌+◌, length, OnOk};
-ghost use Rattle.std.specs.List.{count_by};
+ghost use Rattle.std.specs.Prelude.{◌≡◌, ◌++◌, OnOk};
 ghost use Rattle.session.specs.Doubts.{has, is_among, takes_enable, may_enable, takes_page};
 ghost use Rattle.session.specs.Doubts.{may_select, is_idle, is_idle_rail};
+ghost use Rattle.session.specs.AllDoubts.{lack_of, rail_lack, idle_doubts, idle_rails};
 
 use crate::doubts::{Doubt, Lack};
 use board::{Allow, Board, Rail, Range, Target};
@@ -84,27 +84,53 @@ fn is_idle_rail(board: &Board, rail: &Rail) -> bool
     }
 }
 
-/// What a rail of a target lacks to be turned on.
-fn lack_of(device: Option<&Target>) -> Lack {
-    match device {
-        Some(device) if may_enable(device) => Lack::Page,
-        Some(device) if device.entry(Form::WriteByte, OPERATION).is_some() => Lack::Value,
-        _ => Lack::Entry,
+/// What a target lacks to turn a rail on.
+fn lack_of(device: &Target) -> Lack
+    ensures { result ≡ lack_of device.now }
+{
+    if may_enable(device) {
+        return Lack::Page;
     }
+    match device.entry(Form::WriteByte, OPERATION) {
+        Some(_) => Lack::Value,
+        None => Lack::Entry,
+    }
+}
+
+fn rail_lack(board: &Board, rail: &Rail) -> Lack
+    ensures { result ≡ rail_lack board.now rail.now }
+{
+    match board.target(rail.target()) {
+        Some(device) => lack_of(device),
+        None => Lack::Entry,
+    }
+}
+
+/// A doubt about a rail that no entry of its target can turn on.
+fn push_idle_rail(
+    doubts: &mut Vec<Doubt>,
+    board: &Board,
+    index: usize,
+    rail: &Rail,
+) -> Result<(), AllocError>
+    ensures { OnOk result
+        (doubts.new.items ≡ doubts.old.items ++ idle_doubts board.now (index, rail.now)) }
+{
+    if is_idle_rail(board, rail) {
+        doubts.push(Doubt::IdleRail {
+            rail: index,
+            lacks: rail_lack(board, rail),
+        })?;
+    }
+    Ok(())
 }
 
 /// A doubt for each rail that no entry of its target can turn on.
 pub(crate) fn push_idle_rails(doubts: &mut Vec<Doubt>, board: &Board) -> Result<(), AllocError>
-    ensures { OnOk result (length doubts.new.items
-        ≡ length doubts.old.items + count_by (is_idle_rail board.now) board.now.rails) }
+    ensures { OnOk result (doubts.new.items ≡ doubts.old.items ++ idle_rails board.now) }
 {
     for (index, rail) in board.rails().iter().enumerate() {
-        if is_idle_rail(board, rail) {
-            doubts.push(Doubt::IdleRail {
-                rail: index,
-                lacks: lack_of(board.target(rail.target())),
-            })?;
-        }
+        push_idle_rail(doubts, board, index, rail)?;
     }
     Ok(())
 }

@@ -1,9 +1,12 @@
 //! Limits that nothing can break.
 
-ghost use Rattle.std.specs.Prelude.{◌≡◌, ◌+◌, length, OnOk};
-ghost use Rattle.std.specs.List.{list_any, count_by};
+ghost use Rattle.std.specs.Prelude.{◌≡◌, ◌++◌, OnOk};
+ghost use Rattle.std.specs.List.{list_any};
 ghost use Rattle.session.specs.Doubts.{takes_voltage, stays_within, stay_within, is_loose};
 ghost use Rattle.session.specs.Doubts.{is_loose_rail};
+ghost use Rattle.session.specs.AllDoubts.{entry_voltage, greatest_voltage, rail_voltage};
+ghost use Rattle.session.specs.AllDoubts.{loose_doubts};
+ghost use Rattle.session.specs.AllDoubts.{loose_limits};
 
 use crate::doubts::Doubt;
 use board::{Allow, Board, Rail, Target};
@@ -58,29 +61,62 @@ fn is_loose_rail(board: &Board, rail: &Rail) -> bool
     }
 }
 
+/// The greatest voltage that an entry takes.
+fn entry_voltage(entry: &Allow) -> u16
+    ensures { result ≡ entry_voltage entry.now }
+{
+    if takes_voltage(entry) {
+        entry.values().high
+    } else {
+        0
+    }
+}
+
 /// The greatest voltage that a target takes.
-fn greatest_voltage(device: &Target) -> u16 {
+fn greatest_voltage(device: &Target) -> u16
+    ensures { result ≡ greatest_voltage device.now }
+{
     let mut greatest = 0;
     for entry in device.allow() {
-        if takes_voltage(entry) {
-            greatest = entry.values().high.max(greatest);
-        }
+        greatest = entry_voltage(entry).max(greatest);
     }
     greatest
 }
 
+fn rail_voltage(board: &Board, rail: &Rail) -> u16
+    ensures { result ≡ rail_voltage board.now rail.now }
+{
+    match board.target(rail.target()) {
+        Some(device) => greatest_voltage(device),
+        None => 0,
+    }
+}
+
+/// A doubt about a rail whose limit no voltage can break that its target takes.
+fn push_loose_limit(
+    doubts: &mut Vec<Doubt>,
+    board: &Board,
+    index: usize,
+    rail: &Rail,
+) -> Result<(), AllocError>
+    ensures { OnOk result
+        (doubts.new.items ≡ doubts.old.items ++ loose_doubts board.now (index, rail.now)) }
+{
+    if is_loose_rail(board, rail) {
+        doubts.push(Doubt::LooseLimit {
+            rail: index,
+            greatest: rail_voltage(board, rail),
+        })?;
+    }
+    Ok(())
+}
+
 /// A doubt for each rail whose limit no voltage can break that its target takes.
 pub(crate) fn push_loose_limits(doubts: &mut Vec<Doubt>, board: &Board) -> Result<(), AllocError>
-    ensures { OnOk result (length doubts.new.items
-        ≡ length doubts.old.items + count_by (is_loose_rail board.now) board.now.rails) }
+    ensures { OnOk result (doubts.new.items ≡ doubts.old.items ++ loose_limits board.now) }
 {
     for (index, rail) in board.rails().iter().enumerate() {
-        if is_loose_rail(board, rail) {
-            doubts.push(Doubt::LooseLimit {
-                rail: index,
-                greatest: board.target(rail.target()).map_or(0, greatest_voltage),
-            })?;
-        }
+        push_loose_limit(doubts, board, index, rail)?;
     }
     Ok(())
 }

@@ -1,10 +1,11 @@
 //! Targets that may start so that they don't take what a program sends them.
 
-ghost use Rattle.std.specs.Prelude.{◌≡◌, ◌+◌, length, IfOk, OnOk};
-ghost use Rattle.std.specs.List.{list_any, sum_by};
+ghost use Rattle.std.specs.Prelude.{◌≡◌, ◌++◌, IfOk, OnOk, flat_map};
+ghost use Rattle.std.specs.List.{list_any, enumerate_from};
+ghost use Rattle.session.specs.AllDoubts.{first_code, first_forbidding, page_doubt, protect_doubt};
+ghost use Rattle.session.specs.AllDoubts.{target_doubts};
 ghost use Rattle.session.specs.Doubts.{message_at, sent_by, is_write_of, is_forbidden};
 ghost use Rattle.session.specs.Doubts.{is_read_of_page, starts_at_all_pages, starts_protected};
-ghost use Rattle.session.specs.Doubts.{target_doubts};
 
 use crate::doubts::Doubt;
 use crate::doubts::idle::{ALL_PAGES, is_among};
@@ -135,38 +136,59 @@ fn starts_protected(messages: &[Message], device: &Target) -> bool
     !is_written(messages, device, WRITE_PROTECT) && may_forbid(messages, device)
 }
 
-/// The command that a message carries.
-fn code_of(message: Option<&Message>) -> u8 {
-    match message {
-        Some(message) => message.code,
-        None => 0,
+/// The first command of a message that reads what a page has.
+fn first_read(messages: &[Message], device: &Target) -> u8
+    ensures { result ≡ first_code (is_read_of_page device.now) messages.now }
+{
+    for message in messages {
+        if is_read_of_page(device, message) {
+            return message.code;
+        }
     }
+    0
 }
 
-fn page_doubt(target: usize, device: &Target, messages: &[Message]) -> Doubt {
-    let read = messages
-        .iter()
-        .find(|message| is_read_of_page(device, message));
+/// The first command of a message that a protection forbids.
+fn first_written(messages: &[Message], device: &Target, protect: u8) -> u8
+    ensures { result ≡ first_code (is_forbidden device.now protect) messages.now }
+{
+    for message in messages {
+        if is_forbidden(device, protect, message) {
+            return message.code;
+        }
+    }
+    0
+}
+
+/// The first start value of WRITE_PROTECT that forbids a message.
+fn first_forbidding(messages: &[Message], device: &Target) -> u8
+    ensures { result ≡ first_forbidding messages.now device.now }
+{
+    for protect in device.start_protects() {
+        if forbids(messages, device, *protect) {
+            return *protect;
+        }
+    }
+    0
+}
+
+fn page_doubt(target: usize, device: &Target, messages: &[Message]) -> Doubt
+    ensures { result ≡ page_doubt messages.now target device.now }
+{
     Doubt::AllPages {
         target,
-        read: code_of(read),
+        read: first_read(messages, device),
     }
 }
 
-fn protect_doubt(target: usize, device: &Target, messages: &[Message]) -> Doubt {
-    let protect = device
-        .start_protects()
-        .iter()
-        .copied()
-        .find(|protect| forbids(messages, device, *protect))
-        .unwrap_or(0);
-    let written = messages
-        .iter()
-        .find(|message| is_forbidden(device, protect, message));
+fn protect_doubt(target: usize, device: &Target, messages: &[Message]) -> Doubt
+    ensures { result ≡ protect_doubt messages.now target device.now }
+{
+    let protect = first_forbidding(messages, device);
     Doubt::Protected {
         target,
         protect,
-        written: code_of(written),
+        written: first_written(messages, device, protect),
     }
 }
 
@@ -177,8 +199,8 @@ fn push_target_doubts(
     device: &Target,
     messages: &[Message],
 ) -> Result<(), AllocError>
-    ensures { OnOk result (length doubts.new.items
-        ≡ length doubts.old.items + target_doubts messages.now device.now) }
+    ensures { OnOk result (doubts.new.items
+        ≡ doubts.old.items ++ target_doubts messages.now (index, device.now)) }
 {
     if starts_at_all_pages(messages, device) {
         doubts.push(page_doubt(index, device, messages))?;
@@ -195,8 +217,8 @@ pub(crate) fn push_unready_targets(
     board: &Board,
     messages: &[Message],
 ) -> Result<(), AllocError>
-    ensures { OnOk result (length doubts.new.items
-        ≡ length doubts.old.items + sum_by (target_doubts messages.now) board.now.targets) }
+    ensures { OnOk result (doubts.new.items ≡ doubts.old.items
+        ++ flat_map (target_doubts messages.now) (enumerate_from 0 board.now.targets)) }
 {
     for (index, device) in board.targets().iter().enumerate() {
         push_target_doubts(doubts, index, device, messages)?;

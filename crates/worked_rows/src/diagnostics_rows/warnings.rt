@@ -2,7 +2,8 @@
 
 use crate::boards::TWO;
 use crate::expected::{Noted, begins, notes, same};
-use diagnostics::warnings_on;
+use crate::session_rows::answered;
+use diagnostics::{Warnings, warnings_on};
 use std::alloc::{AllocError, Global};
 use std::process::Abort;
 use std::test::*;
@@ -48,11 +49,19 @@ static SPARED: [(&str, &str); 3] = [
     ),
 ];
 
+/// What is warned of a bundle.
+fn warnings_of(alloc: Global, text: &str) -> Result<Warnings, AllocError> {
+    match answered(alloc, text)?.seen {
+        Some(seen) => warnings_on(alloc, text, &seen),
+        None => Ok(Warnings::none(alloc)),
+    }
+}
+
 /// The warning of a run.
 fn warning_of(alloc: Global, program: &str, answers: &str) -> Noted {
     let run = format!(in alloc; "%program\n{program}%answers\nstart 00,00 00,00\n{answers}")?;
     let text = format!(in alloc; "%run\n%board\n{TWO}{run}")?;
-    Ok(warnings_on(alloc, &text)?.of_run)
+    Ok(warnings_of(alloc, &text)?.of_run)
 }
 
 fn all_are_warned_of(rt: &impl Abort, alloc: Global, rows: &[(&str, &str, &str)]) {
@@ -75,7 +84,7 @@ fn runs_are_warned_of(rt: HostRuntime) {
 
 /// How many warnings of a board there are, and whether one of them contains a text.
 fn board_warnings(alloc: Global, text: &str, part: &str) -> Result<(usize, bool), AllocError> {
-    let warnings = warnings_on(alloc, text)?.of_board;
+    let warnings = warnings_of(alloc, text)?.of_board;
     let is_told = warnings.iter().any(|warning| warning.contains(part));
     Ok((warnings.len(), is_told))
 }

@@ -94,7 +94,10 @@ fn replies<R: Read>(rt: &impl Abort, alloc: Global, reader: &mut R, want: (Statu
 /// Tries that a reader is told to fail, and that nothing is printed.
 fn fails<R: Read>(rt: &impl Abort, alloc: Global, reader: &mut R) {
     let mut output = Vec::new(alloc);
-    let ended = answer(alloc, reader, &mut output);
+    let ended = match answer(alloc, reader, &mut output) {
+        Ok(answered) => Ok(answered.status),
+        Err(fault) => Err(fault),
+    };
     same(
         rt,
         (ended, output.is_empty()),

@@ -8,13 +8,14 @@ ghost use Rattle.session.specs.Scenarios.{IsOnItsBoard};
 use crate::boards::{TWO, two_board};
 use crate::bundles_rows::answers_of;
 use crate::expected::{holds, same};
+use crate::session_rows::answered;
 use board::{Board, read_board};
 use bundles::Answers;
 use facts::Rule;
 use seq_program::{Program, read_program};
 use session::{
-    Breach, Doubt, Keeping, Reached, Scenario, doubts_on, first_breach, part_at, place_line,
-    place_lines, run_through, section_of,
+    Breach, Doubt, Keeping, Scenario, Seen, doubts_on, part_at, place_line, place_lines,
+    run_through, section_of,
 };
 use std::alloc::{AllocError, Global};
 use std::io::Read;
@@ -113,31 +114,13 @@ fn doubts(rt: HostRuntime) {
     );
 }
 
-/// Whether a run comes to its last answer, and what it breaks first.
-type Found = (bool, Option<Breach>);
-
-fn breach_of(alloc: Global, scenario: &Scenario<'_>) -> Result<Option<Breach>, AllocError>
+fn of_scenario(alloc: Global, scenario: &Scenario<'_>) -> bool
     requires { IsOnItsBoard scenario.now }
 {
-    match first_breach(alloc, scenario)? {
-        Some(Reached { breach, .. }) => Ok(Some(breach)),
-        None => Ok(None),
-    }
+    run_through(alloc, scenario).is_ok()
 }
 
-fn of_scenario(alloc: Global, scenario: &Scenario<'_>) -> Result<Found, AllocError>
-    requires { IsOnItsBoard scenario.now }
-{
-    let is_whole = run_through(alloc, scenario).is_ok();
-    Ok((is_whole, breach_of(alloc, scenario)?))
-}
-
-fn of_answers(
-    alloc: Global,
-    board: Board,
-    program: Program,
-    answers: Answers<'_>,
-) -> Result<Found, AllocError>
+fn of_answers(alloc: Global, board: Board, program: Program, answers: Answers<'_>) -> bool
     requires { All (λ i. IsOnBoard (length board.targets) i) program }
 {
     of_scenario(
@@ -155,23 +138,23 @@ fn of_program(
     board: Board,
     program: Program,
     answers: &str,
-) -> Result<Found, AllocError>
+) -> Result<bool, AllocError>
     requires { All (λ i. IsOnBoard (length board.targets) i) program }
 {
     match answers_of(alloc, answers) {
-        Ok(answers) => of_answers(alloc, board, program, answers),
+        Ok(answers) => Ok(of_answers(alloc, board, program, answers)),
         Err(_) => Err(AllocError),
     }
 }
 
-/// What is found of the run of a program on a board, whose answers are the last section of a
-/// bundle.
-fn found_in(
+/// Whether the run of a program on a board comes to the last answer; the answers are the last
+/// section of a bundle.
+fn is_whole_in(
     alloc: Global,
     board: Board,
     program: &str,
     answers: &str,
-) -> Result<Found, AllocError> {
+) -> Result<bool, AllocError> {
     match read_program(alloc, &board, program) {
         Ok(program) => of_program(alloc, board, program, answers),
         Err(_) => Err(AllocError),
@@ -181,11 +164,12 @@ fn found_in(
 /// The second rail needs the first, which wasn't turned on.
 const EARLY: &str = "wait 1\nwrite b OPERATION 0x80 else bad\nend\nbad:\nfail\n";
 
-/// The answers to it, and what is found: a read's value doesn't fit a write.
-static FOUND: [(&str, Found); 3] = [
-    ("-\n-\n", (true, Some(K5))),
-    ("-\nvalue=7\n", (false, Some(K5))),
-    ("-\n", (true, None)),
+/// The answers to it, whether its run comes to the last of them, and what it breaks first: a read's
+/// value doesn't fit a write.
+static FOUND: [(&str, bool, Option<Breach>); 3] = [
+    ("-\n-\n", true, Some(K5)),
+    ("-\nvalue=7\n", false, Some(K5)),
+    ("-\n", true, None),
 ];
 
 const K5: Breach = Breach {
@@ -194,18 +178,36 @@ const K5: Breach = Breach {
     rule: Rule::K5,
 };
 
-fn early_found(alloc: Global, answers: &str) -> Result<Found, AllocError> {
+fn early_is_whole(alloc: Global, answers: &str) -> Result<bool, AllocError> {
     let start = "%run\n%board\n%program\n%answers\nstart 00,00 00,00\n";
     let text = format!(in alloc; "{start}{answers}")?;
     match two_board(alloc) {
-        Ok(board) => found_in(alloc, board, EARLY, &text),
+        Ok(board) => is_whole_in(alloc, board, EARLY, &text),
         Err(_) => Err(AllocError),
     }
 }
 
-fn all_are_found(rt: &impl Abort, alloc: Global, rows: &[(&str, Found)]) {
-    for (answers, want) in rows {
-        same(rt, early_found(alloc, answers), Ok(*want));
+/// What the run breaks first, as it is seen while its trace is printed.
+fn early_breach(alloc: Global, answers: &str) -> Result<Option<Breach>, AllocError> {
+    let run = format!(in alloc; "%program\n{EARLY}%answers\nstart 00,00 00,00\n{answers}")?;
+    let text = format!(in alloc; "%run\n%board\n{TWO}{run}")?;
+    match answered(alloc, &text)?.seen {
+        Some(seen) => Ok(breach_of(&seen)),
+        None => Err(AllocError),
+    }
+}
+
+fn breach_of(seen: &Seen) -> Option<Breach> {
+    match &seen.found {
+        Some(found) => Some(found.breach),
+        None => None,
+    }
+}
+
+fn all_are_found(rt: &impl Abort, alloc: Global, rows: &[(&str, bool, Option<Breach>)]) {
+    for (answers, is_whole, breach) in rows {
+        same(rt, early_is_whole(alloc, answers), Ok(*is_whole));
+        same(rt, early_breach(alloc, answers), Ok(*breach));
     }
 }
 

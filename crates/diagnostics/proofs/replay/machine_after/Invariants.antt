@@ -5,6 +5,6 @@ use Rattle.diagnostics.proofs.replay.machine_after.Given as goal
 
 abbrev pub invariant-loop-index : goal.invariant-loop-index
 invariant-loop-index l = record {
-  machine : IsMachine l.scenario.board l.scenario.program l.machine;
+  machine : IsMachine l.scenario.board l.scenario.program l.stage.machine;
   few : l.ticks ≤ most_ticks;
 }

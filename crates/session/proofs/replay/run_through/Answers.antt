@@ -1,7 +1,7 @@
 use Rattle.std.proofs.Common.{◌≡◌, ◌≢◌, Result, Ok, Err, IfErr, sym, subst, ap, ◌∙◌}
 use Rattle.std.specs.Result.{IsErrAnd}
 use Rattle.targets.specs.States.{IsStart}
-use Rattle.simulator.specs.Machines.{Entry}
+use Rattle.simulator.specs.declared.stepping.Stage.{Stage}
 use Rattle.simulator.specs.declared.fault.RunFault.{RunFault}
 use Rattle.simulator.specs.declared.fault.RunFault.TheVariants.{Memory}
 use Rattle.bundles.specs.Answers.{Answers}
@@ -15,35 +15,35 @@ passed_on : {T : Type 0} (r : Result T RunFault) (f : RunFault) (P : RunFault �
 passed_on (Ok t) f P is p = tt
 passed_on (Err e) f P is p = λ real. subst P (sym is) (p (λ none. real (is ∙ none)))
 
-pub loop-spare-preserved : goal.loop-spare-preserved
-loop-spare-preserved c =
-    let same : c.entry.inside.ticks ≡ c.in_ok-after.entry.ticks =
-    ap (λ (e : Entry). e.ticks) c.entry.view_is in
+pub loop-stage-preserved : goal.loop-stage-preserved
+loop-stage-preserved c =
+    let same : c.stage-in-Some.inside.0.1.0.ticks ≡ c.step.new.self.entry.ticks =
+    ap (λ (s : Stage). s.entry.ticks) c.stage-in-Some.view_is in
     let taken = rw c.in-Some.is at c.in_ok-answer.ensures.taken in
     rw same
     (one_more c.runs_go_on.ensures.run c.runs_go_on.ensures.ticks c.args.scenario.now
-    c.loop-spare.answers c.next.new.self c.loop-spare.index
-    c.loop-spare.ticks c.loop-spare.machine c.in_ok-after.after c.in-Some.answer
-    c.in_ok-after.entry c.loop-spare.invariant taken
+    c.loop-stage.answers c.next.new.self c.loop-stage.index
+    c.loop-stage.ticks c.loop-stage.stage.machine c.step.new.self.machine c.in-Some.answer
+    c.step.new.self.entry c.loop-stage.invariant taken
     (record {
-      step = c.in_ok-after.ensures.step;
-      machine = c.in_ok-after.ensures.machine;
-      seen = c.in_ok-after.ensures.seen;
-      within = c.in_ok-after.ensures.within;
+      step = c.in_ok-step.ensures.step;
+      machine = c.in_ok-step.ensures.machine;
+      seen = c.in_ok-step.ensures.seen;
+      within = c.in_ok-step.ensures.within;
     }))
 
-pub returns-in_err-after-clause-fault : goal.returns-in_err-after-clause-fault
-returns-in_err-after-clause-fault c =
+pub returns-in_err-step-clause-fault : goal.returns-in_err-step-clause-fault
+returns-in_err-step-clause-fault c =
     let pages = c.deref.ensures.value ∙ ap (λ (a : Answers). a.pages) c.answered.view_is in
     let protects = c.deref-2.ensures.value ∙ ap (λ (a : Answers). a.protects) c.answered.view_is in
     let start : IsStart c.args.scenario.now.board (start_of c.args.scenario.now) =
     rw (← pages, ← protects) c.in_ok-machine.ensures.may in
     let taken = rw c.in-Some.is at c.in_ok-answer.ensures.taken in
-    passed_on c.from_residual-in_err-after.result c.in_err-after.field-0.0
-    (λ e. IsFaultOf c.args.scenario.now e) c.from_residual-in_err-after.ensures.1
-    (λ real. fails c.args.scenario.now c.loop-spare.answers c.next.new.self c.loop-spare.index
-    c.loop-spare.ticks c.loop-spare.machine c.in-Some.answer c.in_err-after.field-0.0
-    c.loop-spare.invariant taken start (c.in_err-after.ensures.fault real))
+    passed_on c.from_residual-in_err-step.result c.in_err-step.field-0.0
+    (λ e. IsFaultOf c.args.scenario.now e) c.from_residual-in_err-step.ensures.1
+    (λ real. fails c.args.scenario.now c.loop-stage.answers c.next.new.self c.loop-stage.index
+    c.loop-stage.ticks c.loop-stage.stage.machine c.in-Some.answer c.in_err-step.field-0.0
+    c.loop-stage.invariant taken start (c.in_err-step.ensures.fault real))
 
 pub returns-clause-run : goal.returns-clause-run
 returns-clause-run c =
@@ -52,5 +52,5 @@ returns-clause-run c =
     let start : IsStart c.args.scenario.now.board (start_of c.args.scenario.now) =
     rw (← pages, ← protects) c.in_ok-machine.ensures.may in
     let taken = rw c.in_default.is at c.in_ok-answer.ensures.taken in
-    ends c.args.scenario.now c.loop-spare.answers c.loop-spare.index c.loop-spare.ticks
-    c.loop-spare.machine c.loop-spare.invariant taken.0 start
+    ends c.args.scenario.now c.loop-stage.answers c.loop-stage.index c.loop-stage.ticks
+    c.loop-stage.stage.machine c.loop-stage.invariant taken.0 start

@@ -4,5 +4,5 @@ use Rattle.simulator.proofs.lines.idle_samples.Goals as goal
 pub returns : goal.returns
 unfolding idle_samples
 returns c =
-    let pushed = rw c.clear.ensures at c.in_ok-push.ensures.ok in
+    let pushed = rw c.clear.ensures at c.push.ensures.ok in
     rw (← c.idle.ensures, ← c.from.ensures) pushed

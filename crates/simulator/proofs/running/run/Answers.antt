@@ -6,17 +6,18 @@ use Rattle.simulator.proofs.Runs.{fails_here, passed_on, out_of_memory, next_run
 use Rattle.simulator.proofs.Runs.{sum_more, still_within}
 use Rattle.simulator.proofs.running.run.Goals as goal
 
-pub returns-in_err-next-clause-fault : goal.returns-in_err-next-clause-fault
-returns-in_err-next-clause-fault c =
-    passed_on c.from_residual-in_err-next.result c.in_err-next.field-0.0
+pub returns-in_err-step-clause-fault : goal.returns-in_err-step-clause-fault
+returns-in_err-step-clause-fault c =
+    passed_on c.from_residual-in_err-step.result c.in_err-step.field-0.0
     (λ e. FailsAt c.args.board.now c.args.program.now c.args.machine.now c.args.answers.now e)
-    c.from_residual-in_err-next.ensures.1
+    c.from_residual-in_err-step.ensures.1
     (λ real.
     fails_here c.args.board.now c.args.program.now c.args.machine.now c.loop-index.last
     c.args.answers.now c.loop-index.entries.items c.loop-index.index c.loop-index.ticks
-    c.index-answers-index.result c.in_err-next.field-0.0
+    c.index-answers-index.result c.in_err-step.field-0.0
     c.loop-index.invariant.0 c.loop-index.invariant.3 c.loop-index.invariant.4
-    c.loop-index-test.true c.index-answers-index.is (c.in_err-next.ensures.fault real))
+    c.loop-index-test.true c.index-answers-index.is
+    (rw c.new-stage.ensures at c.in_err-step.ensures.fault real))
 
 pub returns-in_err-push-clause-fault : goal.returns-in_err-push-clause-fault
 returns-in_err-push-clause-fault c =
@@ -28,20 +29,20 @@ pub loop-index-preserved : goal.loop-index-preserved
 loop-index-preserved c =
     let run =
     next_run c.args.board.now c.args.program.now c.args.machine.now c.loop-index.last
-    c.in_ok-next.next c.args.answers.now c.loop-index.entries.items c.loop-index.index
-    c.index-answers-index.result c.in_ok-next.entry
+    c.step.new.self.machine c.args.answers.now c.loop-index.entries.items c.loop-index.index
+    c.index-answers-index.result c.step.new.self.entry
     c.loop-index-test.true c.index-answers-index.is c.loop-index.invariant.0
-    c.in_ok-next.ensures.step in
+    (rw c.new-stage.ensures at c.in_ok-step.ensures.step) in
     let same = ap (λ (e : Entry). e.ticks) c.entry.view_is in
     rw (c.in_ok-push.ensures.items) (
       run,
-      c.in_ok-next.ensures.machine,
-      seen_more c.loop-index.entries.items c.in_ok-next.entry c.loop-index.invariant.2
-          c.in_ok-next.ensures.seen,
-      sum_more c.loop-index.entries.items c.in_ok-next.entry c.loop-index.ticks c.entry.inside.ticks
-          c.loop-index.invariant.3 same,
-      still_within c.in_ok-next.entry c.loop-index.ticks c.entry.inside.ticks same
-          c.in_ok-next.ensures.within,
+      c.in_ok-step.ensures.machine,
+      seen_more c.loop-index.entries.items c.step.new.self.entry c.loop-index.invariant.2
+          c.in_ok-step.ensures.seen,
+      sum_more c.loop-index.entries.items c.step.new.self.entry c.loop-index.ticks
+          c.entry.inside.ticks c.loop-index.invariant.3 same,
+      still_within c.step.new.self.entry c.loop-index.ticks c.entry.inside.ticks same
+          c.in_ok-step.ensures.within,
     )
 
 pub returns-clause-seen : goal.returns-clause-seen

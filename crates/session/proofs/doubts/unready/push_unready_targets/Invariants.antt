@@ -1,9 +1,12 @@
-use Rattle.std.proofs.Common.{◌≡◌, ◌+◌, length, take}
-use Rattle.std.specs.List.{sum_by}
-use Rattle.session.specs.Doubts.{target_doubts}
+use Rattle.std.proofs.Common.{◌≡◌, ◌++◌, drop}
+use Rattle.std.specs.Prelude.{flat_map}
+use Rattle.std.specs.List.{enumerate_from}
+use Rattle.session.specs.AllDoubts.{target_doubts}
 use Rattle.session.proofs.doubts.unready.push_unready_targets.Given as goal
 
+-- the doubts so far, and those that are left, are all
 abbrev pub invariant-loop-index : goal.invariant-loop-index
 invariant-loop-index l =
-    length l.doubts.items
-    ≡ length l.fn.doubts.items + sum_by (target_doubts l.messages) (take l.index l.board.targets)
+    l.doubts.items
+    ++ flat_map (target_doubts l.messages) (enumerate_from l.index (drop l.index l.board.targets))
+    ≡ l.fn.doubts.items ++ flat_map (target_doubts l.messages) (enumerate_from 0 l.board.targets)

@@ -40,3 +40,17 @@ returns-in_default-clause-knows c = λ history e next ready step known.
     (sym c.in_default.is ∙ (c.in_ok-message.ensures
     ∙ ap (λ (x : Machine). message_of b i x.regs) c.machine.view_is))
     known
+
+pub returns-then-is_silent-clause-knows : goal.returns-then-is_silent-clause-knows
+returns-then-is_silent-clause-knows c = λ history e next ready step known.
+    let b = c.args.board.now in
+    let p = c.args.program.now in
+    let m = c.args.machine.now in
+    let a = c.args.answer.now in
+    let i = c.instr_of-instr.result.now in
+    after_silence b p m next a e i history (rails_in c.args.self.now.good)
+    (c.steps_are_seen.ensures.steps b p m next a e c.board_is_valid.ensures
+    c.program_is_valid.ensures ready step)
+    c.instr_of-instr.ensures
+    (sym (c.is_silent.ensures.message c.if-is_silent.true b m.regs))
+    known

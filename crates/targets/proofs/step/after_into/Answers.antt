@@ -6,7 +6,7 @@ use Rattle.targets.specs.States.{BusState}
 use Rattle.targets.specs.Effects.{WritesPage, WritesProtect}
 use Rattle.targets.proofs.StoredAfter.{stored_after}
 use Rattle.targets.proofs.AlertingAfter.{alerting_after}
-use Rattle.targets.proofs.step.after_in.Goals as goal
+use Rattle.targets.proofs.step.after_into.Goals as goal
 
 pub returns-clause-state : goal.returns-clause-state
 returns-clause-state c =
@@ -16,14 +16,14 @@ returns-clause-state c =
     let a = c.args.answer.now in
     let is = c.board_is_valid.ensures in
     let page = stored_after (WritesPage b s m a) c.deref.result.now s.page
-    c.in_ok-with_write.field-0.items c.register_write-page_write.result
+    c.store_with_write.new.bytes.items c.register_write-page_write.result
     (c.deref.ensures.value ∙ ap (λ (s : BusState). s.page) c.state.view_is)
-    c.in_ok-with_write.ensures c.register_write-page_write.ensures.some
+    c.in_ok-store_with_write.ensures c.register_write-page_write.ensures.some
     (c.register_write-page_write.ensures.only is) in
     let protect = stored_after (WritesProtect b s m a) c.deref-2.result.now s.protect
-    c.in_ok-with_write-2.field-0.items c.register_write-protect_write.result
+    c.store_with_write-2.new.bytes.items c.register_write-protect_write.result
     (c.deref-2.ensures.value ∙ ap (λ (s : BusState). s.protect) c.state.view_is)
-    c.in_ok-with_write-2.ensures c.register_write-protect_write.ensures.some
+    c.in_ok-store_with_write-2.ensures c.register_write-protect_write.ensures.some
     (c.register_write-protect_write.ensures.only is) in
     let alerting : c.state.inside.alerting ≡ s.alerting =
     ap (λ (s : BusState). s.alerting) c.state.view_is in
@@ -36,6 +36,8 @@ returns-clause-state c =
       protect = protect.each;
       alerting =
           alerting_after b s m a c.stops_alerting-stops.result c.kept_alerting.result
-          c.joined.result c.stops_alerting-stops.ensures.some c.stops_alerting-stops.ensures.only
-          (λ i. rw alerting at c.kept_alerting.ensures i) (λ i. rw alerts at c.joined.ensures i);
+          c.joined-new-inside.result c.stops_alerting-stops.ensures.some
+          c.stops_alerting-stops.ensures.only
+          (λ i. rw alerting at c.kept_alerting.ensures i)
+          (λ i. rw alerts at c.joined-new-inside.ensures i);
     }

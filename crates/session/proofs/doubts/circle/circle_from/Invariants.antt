@@ -1,0 +1,16 @@
+use Rattle.std.proofs.Common.{◌≡◌, ◌<◌, ◌-◌, ◌++◌, ◌∷◌, [], false, length}
+use Rattle.session.specs.AllDoubts.{LeadsOn}
+use Rattle.session.specs.Ready.{is_ready, AreRails}
+use Rattle.session.proofs.doubts.circle.circle_from.Given as goal
+
+-- the way so far leads on to where it is, which isn't ready
+abbrev pub invariant-loop-first : goal.invariant-loop-first
+invariant-loop-first l = record {
+  rails : AreRails l.board l.way.items;
+  leads : LeadsOn l.board (l.way.items ++ l.here ∷ []);
+  within : l.here < length l.board.rails;
+  stuck : is_ready l.ready l.here ≡ false;
+}
+
+abbrev pub decreases-loop-first : goal.decreases-loop-first
+decreases-loop-first l = length l.board.rails - length l.way.items

@@ -1,0 +1,10 @@
+use Rattle.std.proofs.Common.{◌≡◌, drop}
+use Rattle.std.specs.Prelude.{find}
+use Rattle.session.specs.Doubts.{is_read_of_page}
+use Rattle.session.proofs.doubts.unready.first_read.Given as goal
+
+-- the first of what is left is the first of all
+abbrev pub invariant-loop-message : goal.invariant-loop-message
+invariant-loop-message l =
+    find (is_read_of_page l.device) (drop l.message-index l.messages)
+    ≡ find (is_read_of_page l.device) l.messages

@@ -1,0 +1,124 @@
+-- The doubts about a board and a program on it, in the order in which they are told.
+use Rattle.std.specs.Prelude.{◌≡◌, ◌≤◌, ◌↔◌, ◌++◌, ℕ, List, [], ◌∷◌, length, take, slice_get, All}
+use Rattle.std.specs.Prelude.{IsSomeAnd, if◌then◌else◌, max, unwrap_or, Bool, Contains, map}
+use Rattle.std.specs.Prelude.{find, flat_map}
+use Rattle.std.specs.List.{list_any, enumerate_from}
+use Rattle.std.specs.Option.{option_map_or}
+use Rattle.smbus.specs.Asked.{Asked}
+use Rattle.smbus.specs.declared.message.Form.TheVariants as form
+use Rattle.pmbus_table.specs.Codes.{operation_code}
+use Rattle.board.specs.Boards.{Allow, Target, Rail, Board, entry_of}
+use Rattle.seq_program.specs.declared.instr.Instr.{Instr}
+use Rattle.session.specs.declared.doubts.Doubt.{Doubt}
+use Rattle.session.specs.declared.doubts.Doubt.TheVariants.{AllPages, Protected, Circle}
+use Rattle.session.specs.declared.doubts.Doubt.TheVariants.{IdleRail, LooseLimit}
+use Rattle.session.specs.declared.doubts.Lack.{Lack}
+use Rattle.session.specs.declared.doubts.Lack.TheVariants as lack
+use Rattle.session.specs.Doubts.{sent_by, starts_at_all_pages, starts_protected, is_read_of_page}
+use Rattle.session.specs.Doubts.{is_forbidden, is_idle_rail, may_enable, is_loose_rail}
+use Rattle.session.specs.Doubts.{takes_voltage, AllCanComeGood}
+
+abbrev pub Doubts : Type 0
+Doubts = List Doubt
+
+-- this doubt, if there is reason for it
+abbrev pub only_if : Bool → Doubt → Doubts
+only_if there doubt = if there then doubt ∷ [] else []
+
+-- the command of the first message that is such a one
+abbrev pub first_code : (Asked → Bool) → List Asked → ℕ
+first_code is ms = option_map_or (λ m. m.code) (find is ms) 0
+
+-- a target may start with all pages, and this command reads what a page has
+abbrev pub page_doubt : List Asked → ℕ → Target → Doubt
+page_doubt ms index t = AllPages index (first_code (is_read_of_page t) ms)
+
+-- the first start value of WRITE_PROTECT that forbids a message
+abbrev pub first_forbidding : List Asked → Target → ℕ
+first_forbidding ms t =
+    unwrap_or (find (λ protect. list_any (is_forbidden t protect) ms) t.start_protects) 0
+
+-- a target may start with this protection, which forbids a write of this command
+abbrev pub protect_doubt : List Asked → ℕ → Target → Doubt
+protect_doubt ms index t =
+    Protected index (first_forbidding ms t)
+    (first_code (is_forbidden t (first_forbidding ms t)) ms)
+
+-- the doubts about the start values of a target
+abbrev pub target_doubts : List Asked → ℕ × Target → Doubts
+target_doubts ms target =
+    only_if (starts_at_all_pages ms target.1) (page_doubt ms target.0 target.1)
+    ++ only_if (starts_protected ms target.1) (protect_doubt ms target.0 target.1)
+
+-- what a target lacks to turn a rail on: an entry for OPERATION, a value of it that enables, or one
+-- of PAGE that selects the rail
+abbrev pub lack_of : Target → Lack
+lack_of t =
+    if may_enable t then lack.Page
+    else option_map_or (λ a. lack.Value) (entry_of form.WriteByte operation_code t.allow) lack.Entry
+
+abbrev pub rail_lack : Board → Rail → Lack
+rail_lack b r = option_map_or lack_of (slice_get b.targets r.target) lack.Entry
+
+abbrev pub idle_doubts : Board → ℕ × Rail → Doubts
+idle_doubts b rail = only_if (is_idle_rail b rail.1) (IdleRail rail.0 (rail_lack b rail.1))
+
+abbrev pub greatest : List ℕ → ℕ
+greatest [] = 0
+greatest (value ∷ later) = max value (greatest later)
+
+-- the greatest voltage that an entry takes, and the greatest of those of a target
+abbrev pub entry_voltage : Allow → ℕ
+entry_voltage a = if takes_voltage a then a.values.high else 0
+
+abbrev pub greatest_voltage : Target → ℕ
+greatest_voltage t = greatest (map entry_voltage t.allow)
+
+abbrev pub rail_voltage : Board → Rail → ℕ
+rail_voltage b r = option_map_or greatest_voltage (slice_get b.targets r.target) 0
+
+abbrev pub loose_doubts : Board → ℕ × Rail → Doubts
+loose_doubts b rail =
+    only_if (is_loose_rail b rail.1) (LooseLimit rail.0 (rail_voltage b rail.1))
+
+-- those about the start values of targets, about rails that nothing turns on, and about limits that
+-- nothing breaks
+abbrev pub unready_targets : Board → List Instr → Doubts
+unready_targets b p = flat_map (target_doubts (sent_by b p)) (enumerate_from 0 b.targets)
+
+abbrev pub idle_rails : Board → Doubts
+idle_rails b = flat_map (idle_doubts b) (enumerate_from 0 b.rails)
+
+abbrev pub loose_limits : Board → Doubts
+loose_limits b = flat_map (loose_doubts b) (enumerate_from 0 b.rails)
+
+-- a rail needs another
+abbrev pub Needs : Board → ℕ → ℕ → Type 0
+Needs b rail other = IsSomeAnd (slice_get b.rails rail) (λ r. Contains r.needs other)
+
+-- each rail of a way needs the next one
+abbrev pub LeadsOn : Board → List ℕ → Type 0
+LeadsOn b (rail ∷ other ∷ later) = Needs b rail other × LeadsOn b (other ∷ later)
+LeadsOn b short = Unit {0}
+
+-- each of some rails needs the next one, and the last the first
+abbrev pub GoesRound : Board → List ℕ → Type 0
+GoesRound b rails = (1 ≤ length rails) × LeadsOn b (rails ++ take 1 rails)
+
+abbrev pub IsCircle : Board → Doubt → Type 0
+IsCircle b (Circle rails) = GoesRound b rails.items
+IsCircle b other = ⊥
+
+-- circles of needs are told
+pub record TellsCircles (b : Board) (before after : Doubts) : Type 0 where
+  pub circles : Doubts
+  pub told : after ≡ before ++ circles
+  pub each : All (IsCircle b) circles
+
+-- the doubts about a board and a program on it: circles of needs are among them where some rail
+-- can't come good, one at least
+pub record AreDoubts (b : Board) (p : List Instr) (doubts : Doubts) : Type 0 where
+  pub circles : Doubts
+  pub told : doubts ≡ unready_targets b p ++ circles ++ idle_rails b ++ loose_limits b
+  pub each : All (IsCircle b) circles
+  pub some : (circles ≡ []) ↔ AllCanComeGood b

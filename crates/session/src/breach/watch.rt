@@ -1,0 +1,64 @@
+//! What watches a run for the first rule that it breaks.
+
+ghost use Rattle.std.specs.Prelude.{◌≡◌, [], None, OnOk};
+ghost use Rattle.board.specs.Boards.{Board as AnyBoard};
+ghost use Rattle.simulator.specs.Machines.{IsMachine};
+ghost use Rattle.session.specs.Known.{Knows};
+ghost use Rattle.session.specs.Watching.{good_of, HasSeen};
+
+use crate::breach::judge::Judge;
+use crate::breach::{Breach, Reached, rule_broken};
+use board::Board;
+use seq_program::Program;
+use simulator::Machine;
+use smbus::Answer;
+use std::alloc::{AllocError, Global};
+
+/// The judge of a run as long as it breaks no rule, and where it does first.
+#[derive(Drop)]
+pub struct Watch {
+    pub judge: Judge,
+    pub found: Option<Reached>,
+}
+
+impl Watch {
+    /// Before the first step: nothing was reported.
+    pub fn new() -> Watch
+        ensures none { result.found ≡ None }
+        ensures knows { (b : AnyBoard) → Knows b [] (good_of result) }
+    {
+        Watch {
+            judge: Judge::new(),
+            found: None,
+        }
+    }
+
+    /// Looks at a machine before its step, and at the answer to that. The machine is one of the
+    /// board and the program. Behind the first breach nothing is looked at. Memory is answered
+    /// where a growth was refused, and then the watch is of no more use.
+    pub fn see(
+        &mut self,
+        alloc: Global,
+        board: &Board,
+        program: &Program,
+        machine: &Machine,
+        answer: &Answer,
+        index: usize,
+    ) -> Result<(), AllocError>
+        requires { IsMachine board.now program.now machine.now }
+        ensures { OnOk result
+            (HasSeen board.now program.now machine.now answer.now index self.old self.new) }
+    {
+        if self.found.is_some() {
+            return Ok(());
+        }
+        if let Some(rule) = rule_broken(alloc, board, program, machine, &self.judge)? {
+            let row = self.judge.row(alloc, board, machine)?;
+            let place = machine.place;
+            let breach = Breach { index, place, rule };
+            self.found = Some(Reached { breach, row });
+            return Ok(());
+        }
+        self.judge.after(alloc, board, program, machine, answer)
+    }
+}
