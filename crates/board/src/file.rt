@@ -65,7 +65,8 @@ fn board_of(alloc: Global, table: &Table) -> Result<Board, BoardFault>
     Ok(Board::new(targets, rails))
 }
 
-/// The board of a file, or the file's first fault.
+/// The board of a file, or the file's first fault (docs/BOARD.md has their order). Memory is
+/// answered where a growth was refused.
 pub fn read_board(alloc: Global, text: &str) -> Result<Board, BoardFault>
     ensures value { Gives (λ b. b) result (read_of text.now) }
     ensures toml { result ≡ Err Toml → parse_document text.now ≡ None }

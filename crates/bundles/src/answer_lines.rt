@@ -75,7 +75,8 @@ fn silence(alloc: Global) -> Answer
     }
 }
 
-/// The answer of a line.
+/// The answer that a line says: BadAnswer with this number where it says none. Memory is answered
+/// where a growth was refused.
 pub fn answer_line_of(
     alloc: Global,
     number: usize,

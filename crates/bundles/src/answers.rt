@@ -89,7 +89,9 @@ fn start_of(alloc: Global, words: &[&str]) -> Result<Option<(Vec<u8>, Vec<u8>)>,
     Ok(Some((pages, protects)))
 }
 
-/// How the targets of a section start, and what they answer.
+/// How the targets of a section start, and what they answer, or BadAnswer with the first line that
+/// says neither; where none counts, with the line below the section's last. Memory is answered
+/// where a growth was refused.
 #[tactic(auto, unfolding(crate::specs::Answers::answers_of))]
 pub fn answers_in<'a>(
     alloc: Global,

@@ -166,7 +166,9 @@ pub fn bundle_below<'a>(
     Ok(Bundle { command, sections })
 }
 
-/// The command of a bundle and its sections, one for each of the command's headers.
+/// The command of a bundle and its sections, one for each of the command's headers. NoCommand is
+/// answered for no line, then UnknownCommand, then Unexpected with the first line that doesn't
+/// belong where it stands, then MissingSection. Memory is answered where a growth was refused.
 #[tactic(auto, unfolding(crate::specs::Bundles::bundle_of))]
 pub fn read_bundle<'a>(alloc: Global, text: &'a str) -> Result<Bundle<'a>, ReadError<BundleFault>>
     ensures value { Gives bundle_view result (bundle_of (lines text.now)) }

@@ -144,7 +144,10 @@ fn exchange_of(alloc: Global, number: usize, line: &str) -> Result<Exchange, Rea
     Ok(Exchange { message, answer })
 }
 
-/// The message of a section.
+/// The message of a section and the answer to it, which its one line that counts says. BadMessage
+/// is answered with that line where it says none, with the second where there are two, and with the
+/// line below the section's last where there is none. Memory is answered where a growth was
+/// refused.
 #[tactic(auto, unfolding(crate::specs::Messages::only_exchange))]
 pub fn exchange_in(alloc: Global, section: &Section<'_>) -> Result<Exchange, ReadError<BundleFault>>
     ensures held { IfOk result (λ exchange. All (λ hold. hold ≤ 6999) exchange.answer.holds) }

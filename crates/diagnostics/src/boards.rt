@@ -68,7 +68,7 @@ pub(crate) fn number_within(text: &str, number: usize) -> usize
 /// The fault is to be the one that `read_board` answers for the text. Which line it is on is found
 /// by asking `read_board` about parts of the text, and then by the looks of its lines: where a file
 /// is laid out in an unusual way, a line above may be named, and for a text of over 256 KiB the
-/// first.
+/// first. Fails only for want of memory.
 pub fn board_note(
     alloc: Global,
     text: &str,

@@ -94,7 +94,7 @@ fn no_command(alloc: Global) -> Result<Remark, AllocError> {
 ///
 /// The fault is to be the one that the bundle's readers answer for the text. Of another fault the
 /// note still names its line, and quotes it if the text has it. For `NotText` the text is what
-/// stands before the first byte that is none.
+/// stands before the first byte that is none. Fails only for want of memory.
 pub fn bundle_note(alloc: Global, text: &str, fault: BundleFault) -> Result<String, AllocError>
     ensures { IfOk result (λ note. IsOnFault text.now fault (string_bytes note)) }
 {

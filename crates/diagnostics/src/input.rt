@@ -267,7 +267,8 @@ fn task_note(alloc: Global, text: &str, task: Task<'_>) -> Result<Option<String>
 /// or its answers, or on the place at which its program is refused. `None` where there is nothing
 /// to say.
 ///
-/// It is for standard error, beside the reply to the same input, and has no say in that.
+/// It is for standard error, beside the reply to the same input, and has no say in that. Fails only
+/// for want of memory.
 pub fn note_on(alloc: Global, text: &str) -> Result<Option<String>, AllocError>
     ensures program { IfOk result (λ note. NamesFault text.now note) }
     ensures bundle { IfOk result (λ note. NamesBundleFault text.now note) }

@@ -49,7 +49,7 @@ fn remark_on(
 /// number, what is wrong with it, and what may help. `None` for `Memory`, which has no line.
 ///
 /// The fault is to be the one that `read_program` answers for the text. Of another fault the note
-/// still names its line, and quotes it if the text has it.
+/// still names its line, and quotes it if the text has it. Fails only for want of memory.
 pub fn program_note(
     alloc: Global,
     board: &Board,

@@ -129,6 +129,7 @@ pub(crate) fn detailed_note(
 
 /// What a person needs to mend a program that is refused at a place: the place's line with its
 /// number, the rule in a sentence, and what may help. `None` where the text has no such place.
+/// Fails only for want of memory.
 pub fn refusal_note(
     alloc: Global,
     text: &str,

@@ -25,7 +25,8 @@ use table_check::Table;
 /// gives up, its table keeps the rule book if any table does, and where none does, the verdict on
 /// it tells the instruction that breaks a duty of its own. For programs with jumps back, spans are
 /// widened at their targets, and a counter must bound each loop; otherwise, or where a place is
-/// visited too often, it gives up there.
+/// visited too often, GaveUp is answered with the place. Memory is answered where a growth was
+/// refused.
 pub fn find(alloc: Global, board: &Board, program: &Program) -> Result<Table, FindFault>
     ensures shaped { IfOk result (λ t. IsShaped board.now (table_view t)) }
     ensures places { IfOk result (λ t. length (table_view t) ≡ length program.now) }

@@ -79,6 +79,7 @@ fn instr_edges(
 
 /// Where a place's instruction may lead, the row there, and the most ticks on the way. The
 /// instruction meets its first duty at the row. A place that the program hasn't leads nowhere.
+/// Fails only for want of memory.
 pub fn edges(
     alloc: Global,
     board: &Board,

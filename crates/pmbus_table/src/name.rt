@@ -37,7 +37,7 @@ pub fn by_name(name: &str) -> Option<Command>
 }
 
 /// The name of a command: the table's, or a manufacturer command's code as two upper case
-/// hexadecimal digits.
+/// hexadecimal digits. Fails only for want of memory.
 pub fn name_of(alloc: Global, command: Command) -> Result<String, AllocError>
     ensures { IfOk result (λ s. string_bytes s ≡ name_text command) }
 {

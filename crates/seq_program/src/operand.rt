@@ -125,7 +125,8 @@ pub(crate) fn word_within(low: u16, high: u16, word: &str) -> Option<u16>
     Some(number as u16)
 }
 
-/// As many bytes as pairs of digits spell, one at least.
+/// As many bytes as pairs of digits spell, one at least, and not more than `most`. Fails only for
+/// want of memory.
 pub fn block_of(alloc: Global, most: usize, word: &str) -> Result<Option<Block>, AllocError>
     requires { most ≤ 255 }
     ensures value { IfOk result (λ block. block ≡ block_of most word.now) }

@@ -7,7 +7,7 @@ use std::alloc::{AllocError, Global};
 use targets::ending_of;
 
 /// How a message ended: `timeout` where a slot was cut, else `nak` where a byte was refused, else
-/// `done` and what was returned.
+/// `done` and what was returned. Fails only for want of memory.
 pub fn outcome_line(
     alloc: Global,
     message: &Message,

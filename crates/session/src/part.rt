@@ -26,7 +26,8 @@ fn part_of(alloc: Global, section: &Section<'_>) -> Result<Part, AllocError>
     })
 }
 
-/// The section of an index, where the text is a bundle that has so many.
+/// The section of an index, from 0 on, where the text is a bundle that has so many. AllocError is
+/// answered where a growth was refused.
 pub fn part_at(alloc: Global, text: &str, index: usize) -> Result<Option<Part>, AllocError>
     ensures { IfOk result
         (λ part. option_map part_view part ≡ option_map part_of (section_in text.now index)) }
@@ -42,7 +43,7 @@ pub fn part_at(alloc: Global, text: &str, index: usize) -> Result<Option<Part>, 
     }
 }
 
-/// The text of that section.
+/// The text of that section. AllocError is answered where a growth was refused.
 pub fn section_of(alloc: Global, text: &str, index: usize) -> Result<Option<String>, AllocError>
     ensures { IfOk result (λ found. option_map string_bytes found
         ≡ option_map section_text (section_in text.now index)) }

@@ -16,7 +16,8 @@ fn has_instruction(alloc: Global, line: &str) -> Result<bool, AllocError>
     Ok(!words.is_empty() && label_in(&words).is_none())
 }
 
-/// The numbers of the lines with the instructions of all places, counted from 1.
+/// The numbers of the lines with the instructions of all places, counted from 1. AllocError is
+/// answered where a growth was refused.
 pub fn place_lines(alloc: Global, text: &str) -> Result<Vec<usize>, AllocError>
     ensures { IfOk result (λ lines. lines.items ≡ place_lines (lines_by_feed text.now)) }
 {
@@ -33,7 +34,8 @@ pub fn place_lines(alloc: Global, text: &str) -> Result<Vec<usize>, AllocError>
     Ok(lines)
 }
 
-/// The number of the line with the instruction of a place.
+/// The number of the line with the instruction of a place, counted from 1; None where there is no
+/// such place. AllocError is answered where a growth was refused.
 pub fn place_line(alloc: Global, text: &str, place: usize) -> Result<Option<usize>, AllocError>
     ensures { IfOk result (λ number. number ≡ place_line place (lines_by_feed text.now)) }
 {

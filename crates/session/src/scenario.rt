@@ -20,7 +20,8 @@ pub struct Scenario<'a> {
     pub answers: Answers<'a>,
 }
 
-/// The text of a section: its lines, each of them ended by a line feed.
+/// The text of a section: its lines, each of them ended by a line feed. Fails only for want of
+/// memory.
 pub fn section_text(alloc: Global, section: &Section<'_>) -> Result<String, AllocError>
     ensures { IfOk result (λ text. string_bytes text ≡ section_text (section_view section.now)) }
 {

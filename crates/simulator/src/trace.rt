@@ -69,7 +69,7 @@ fn trace_text(alloc: Global, trace: &Trace) -> Result<String, AllocError>
 /// Writes the text of a trace: a line for each step, with its place, its ticks, the frame that is
 /// read from its samples and how the message ended, `-` and `-` without one; and a last line with
 /// how the run ended and all its ticks. Where the writer fails, a beginning of the text may have
-/// been written.
+/// been written; where a growth was refused, nothing has.
 pub fn write_trace<W: Write>(alloc: Global, trace: &Trace, writer: &mut W) -> Result<(), WriteFault>
     ensures written { OnOk result
         (IsWritten trace.now (W.contents writer.old) (W.contents writer.new)) }

@@ -11,7 +11,8 @@ use targets::Outcome;
 use texts::push_word;
 use wires::events_of;
 
-/// How a message ended, as text: `done` with what it returned, `nak` or `timeout`.
+/// How a message ended, as text: `done` with what it returned, `nak` or `timeout`. Fails only for
+/// want of memory.
 pub fn outcome_text(alloc: Global, outcome: Outcome) -> Result<String, AllocError>
     ensures { IfOk result (λ text. string_bytes text ≡ outcome_text outcome) }
 {
@@ -27,7 +28,8 @@ pub fn outcome_text(alloc: Global, outcome: Outcome) -> Result<String, AllocErro
 }
 
 /// Appends the line of a step: its place, its ticks, the frame that is read from its samples and
-/// how the message ended, `-` and `-` without one.
+/// how the message ended, `-` and `-` without one. Fails only for want of memory, and then a
+/// beginning of the line may stand there.
 pub fn push_line(alloc: Global, text: &mut String, entry: &Entry) -> Result<(), AllocError>
     requires { HasItsFrame entry.now }
     ensures { OnOk result (IsLineMore entry.now (string_bytes text.old) (string_bytes text.new)) }
@@ -56,7 +58,7 @@ fn ending_text(ended: Ending) -> &'static str
     }
 }
 
-/// The last line of a trace: how the run ended and all its ticks.
+/// The last line of a trace: how the run ended and all its ticks. Fails only for want of memory.
 pub fn last_line(alloc: Global, ended: Ending, ticks: u64) -> Result<String, AllocError>
     ensures { IfOk result (λ text. string_bytes text ≡ last_line ended ticks) }
 {

@@ -135,7 +135,7 @@ fn verdict_on(
 /// commanded voltage exceeds its limit, and no rail is enabled before its needs reported good.
 /// Otherwise the first place that breaks a rule is told, and the rule: first K9, the length and the
 /// rows of the table, then K8, its start, then places upwards, at each K1 to K5 and then K6 and K7
-/// along its edges. The table may be any.
+/// along its edges. The table may be any. Fails only for want of memory.
 pub fn check(
     alloc: Global,
     board: &Board,

@@ -69,7 +69,7 @@ fn byte_of(high: u8, low: u8) -> Option<u8>
 }
 
 /// The bytes that pairs of upper case hexadecimal digits spell, none for the empty text; `None` for
-/// any other text.
+/// any other text. Fails only for want of memory.
 #[tactic(auto, unfolding(crate::specs::Hex::pairs_of))]
 pub fn pairs_of(alloc: Global, text: &str) -> Result<Option<Vec<u8>>, AllocError>
     ensures value { IfOk result (λ r. option_map (λ v. v.items) r ≡ pairs_of text.now) }
