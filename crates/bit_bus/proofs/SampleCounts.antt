@@ -83,9 +83,16 @@ pub driven_few : (alert : Bool) (plan : List (Slot × ℕ)) → IsPlan plan
 driven_few alert plan valid =
     omega (arith, levels_are_few alert 6999 plan valid.holds, valid.few)
 
--- so are those up to a slot
-pub begun_few : (alert : Bool) (plan : List (Slot × ℕ)) (samples later : List Sample) → IsPlan plan
-    → samples ++ later ≡ levels alert plan → length samples ≤ most_driven
-begun_few alert plan samples later valid parts =
+-- so are those up to a slot, behind others
+pub begun_few : (alert : Bool) (plan : List (Slot × ℕ)) (before samples later : List Sample)
+    → IsPlan plan → samples ++ later ≡ before ++ levels alert plan
+    → length samples ≤ length before + most_driven
+begun_few alert plan before samples later valid parts =
     let all = ap length parts in
-    omega (arith, all, length-append samples later, driven_few alert plan valid)
+    omega (
+      arith,
+      all,
+      length-append samples later,
+      length-append before (levels alert plan),
+      driven_few alert plan valid,
+    )

@@ -1,4 +1,4 @@
-ghost use Rattle.std.specs.Prelude.{◌≡◌, ◌≤◌, ◌<◌, ◌+◌, ◌∷◌, ◌++◌, [], Bool, true, IfOk, OnOk};
+ghost use Rattle.std.specs.Prelude.{◌≡◌, ◌≤◌, ◌<◌, ◌+◌, ◌^◌, ◌∷◌, ◌++◌, [], Bool, true, IfOk, OnOk};
 ghost use Rattle.std.specs.Prelude.{length};
 ghost use Rattle.wires.specs.Events.{events_of};
 ghost use Rattle.wires.specs.Runs.{most_samples};
@@ -104,26 +104,26 @@ fn push_cut(samples: &mut Runs, slot: Slot, hold: u16, alert: bool) -> Result<()
     Ok(())
 }
 
-fn drive_slots(alloc: Global, plan: &Plan, alert: bool) -> Result<Driven, AllocError>
-    ensures samples { IfOk result (λ driven. driven.samples ≡ levels alert plan.now) }
-    ensures cut { IfOk result (λ driven. driven.cut ≡ first_cut plan.now) }
+/// Drives SCL and SDA through a plan behind samples that are there, as `drive` does, and tells the
+/// slot in which it was cut, if any. Fails only for want of memory, and then the samples are of no
+/// more use.
+pub fn drive_onto(samples: &mut Runs, plan: &Plan, alert: bool) -> Result<Option<usize>, AllocError>
+    requires { length samples.old < 2 ^ 39 }
+    ensures samples { OnOk result (samples.new ≡ samples.old ++ levels alert plan.now) }
+    ensures cut { IfOk result (λ cut. cut ≡ first_cut plan.now) }
     ensures valid { IsPlan plan.now }
 {
     let count = plan.count();
-    let mut samples = Runs::new(alloc);
-    push_high(&mut samples, LOW, alert)?;
+    push_high(samples, LOW, alert)?;
     for place in 0..count {
         let (slot, hold) = plan.slot(place);
         if is_cut(hold) {
-            push_cut(&mut samples, slot, hold, alert)?;
-            return Ok(Driven {
-                samples,
-                cut: Some(place),
-            });
+            push_cut(samples, slot, hold, alert)?;
+            return Ok(Some(place));
         }
-        push_whole(&mut samples, slot, hold, alert)?;
+        push_whole(samples, slot, hold, alert)?;
     }
-    Ok(Driven { samples, cut: None })
+    Ok(None)
 }
 
 /// Drives SCL and SDA through a plan, with this level of the alert line throughout: a START, and
@@ -138,5 +138,7 @@ pub fn drive(alloc: Global, plan: &Plan, alert: bool) -> Result<Driven, AllocErr
     ensures free { IfOk result (λ driven. EndsHigh driven.samples) }
     ensures few { IfOk result (λ driven. length driven.samples ≤ most_driven) }
 {
-    drive_slots(alloc, plan, alert)
+    let mut samples = Runs::new(alloc);
+    let cut = drive_onto(&mut samples, plan, alert)?;
+    Ok(Driven { samples, cut })
 }

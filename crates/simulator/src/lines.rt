@@ -8,7 +8,7 @@ ghost use Rattle.smbus.specs.Slots.{samples_of};
 ghost use Rattle.simulator.specs.Entries.{idle_samples};
 ghost use Rattle.simulator.specs.Steps.{idle_ticks, step_samples};
 
-use bit_bus::{Plan, drive};
+use bit_bus::{Plan, drive_onto};
 use seq_program::Instr;
 use smbus::{Answer, Message, SmbusFault, frame_slots, slots_are_one_frame};
 use std::alloc::{AllocError, Global};
@@ -34,15 +34,16 @@ fn idle_samples(samples: &mut Runs, alert: bool, ticks: u32) -> Result<(), Alloc
     samples.push(idle(alert), u64::from(ticks))
 }
 
-/// An idle sample, and the frame of a message.
+/// Makes samples an idle one and the frame of a message.
 fn frame_samples(
     alloc: Global,
+    samples: &mut Runs,
     alert: bool,
     message: &Message,
     answer: &Answer,
-) -> Result<Runs, AllocError>
+) -> Result<(), AllocError>
     requires { CanBeSent message.now answer.now }
-    ensures { IfOk result (λ samples. samples ≡ samples_of alert message.now answer.now) }
+    ensures { OnOk result (samples.new ≡ samples_of alert message.now answer.now) }
 {
     slots_are_one_frame();
     let slots = match frame_slots(alloc, message, answer) {
@@ -53,10 +54,10 @@ fn frame_samples(
     let Some(plan) = Plan::new(slots, answer.holds.clone()?) else {
         unreachable!()
     };
-    let driven = drive(alloc, &plan, alert)?;
-    let mut before = Runs::new(alloc);
-    before.push(idle(alert), 1)?;
-    Runs::joined(alloc, &before, &driven.samples)
+    samples.clear();
+    samples.push(idle(alert), 1)?;
+    drive_onto(samples, &plan, alert)?;
+    Ok(())
 }
 
 /// For how many ticks more than one an instruction waits.
@@ -73,8 +74,8 @@ fn idle_ticks(instr: &Instr) -> u32
 
 /// Makes samples the lines in a step of an instruction that sends this message, or none.
 pub(crate) fn step_samples(
-    samples: &mut Runs,
     alloc: Global,
+    samples: &mut Runs,
     state: &BusState,
     instr: &Instr,
     message: Option<&Message>,
@@ -87,10 +88,7 @@ pub(crate) fn step_samples(
 {
     let alert = state.alerting == 0;
     match message {
-        Some(message) => {
-            *samples = frame_samples(alloc, alert, message, answer)?;
-            Ok(())
-        }
+        Some(message) => frame_samples(alloc, samples, alert, message, answer),
         None => idle_samples(samples, alert, idle_ticks(instr) + 1),
     }
 }

@@ -102,8 +102,8 @@ fn step_by(
     states_belong();
     ranges_are_of_forms();
     step_samples(
-        &mut entry.samples,
         alloc,
+        &mut entry.samples,
         &machine.bus,
         instr,
         message,

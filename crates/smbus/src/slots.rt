@@ -6,7 +6,7 @@ ghost use Rattle.smbus.specs.Parts.{first_bytes, has_repeat, returned_bytes};
 ghost use Rattle.smbus.specs.Parts.{rest_of, IsAfter};
 ghost use Rattle.smbus.specs.Slots.{marks_sent, slots_of, IsGoodData, IsGoodBlock};
 
-use crate::counting::sent_count;
+use crate::counting::{sent_count, slot_count};
 use crate::fault::SmbusFault;
 use crate::message::{Answer, Form, Message};
 use crate::parts::{Returned, Written, parts_of};
@@ -227,7 +227,7 @@ pub fn frame_slots(
     if !is_good_block(message.form, message.out.len(), answer.bytes.len()) {
         return Err(SmbusFault::BadBlock);
     }
-    let mut slots = Vec::new(alloc);
+    let mut slots = Vec::with_capacity(alloc, slot_count(message, answer))?;
     push_frame(alloc, &mut slots, message, answer)?;
     slots.push(Slot::End)?;
     Ok(slots)

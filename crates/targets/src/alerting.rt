@@ -31,6 +31,9 @@ fn may_alert(board: &Board, index: usize) -> bool
 pub(crate) fn may_all_alert(board: &Board, alerts: u16) -> bool
     ensures { IsTrue result ↔ MayAllAlert board.now alerts }
 {
+    if alerts == 0 {
+        return true;
+    }
     for index in 0..16 {
         if is_set(alerts, index) && !may_alert(board, index) {
             return false;

@@ -167,10 +167,10 @@ impl Runs {
 pub fn events_of(alloc: Global, runs: &Runs) -> Result<Vec<Event>, AllocError>
     ensures { IfOk result (λ events. events.items ≡ events_of runs.now) }
 {
-    let mut events = Vec::new(alloc);
     let [first, rest @ ..] = runs.runs() else {
-        return Ok(events);
+        return Ok(Vec::new(alloc));
     };
+    let mut events = Vec::with_capacity(alloc, rest.len())?;
     let mut before = first.sample;
     for run in rest {
         if let Some(event) = event_between(before, run.sample) {
