@@ -1,8 +1,8 @@
 -- The doubts about a board and a program on it, in the order in which they are told.
 use Rattle.std.specs.Prelude.{◌≡◌, ◌≤◌, ◌↔◌, ◌++◌, ℕ, List, [], ◌∷◌, length, take, slice_get, All}
 use Rattle.std.specs.Prelude.{IsSomeAnd, if◌then◌else◌, max, unwrap_or, Bool, Contains, map}
-use Rattle.std.specs.Prelude.{find, flat_map}
-use Rattle.std.specs.List.{list_any, enumerate_from}
+use Rattle.std.specs.Prelude.{find, flat_map, IsTrue, false}
+use Rattle.std.specs.List.{list_any, enumerate_from, AllPairs}
 use Rattle.std.specs.Option.{option_map_or}
 use Rattle.smbus.specs.Asked.{Asked}
 use Rattle.smbus.specs.declared.message.Form.TheVariants as form
@@ -17,6 +17,7 @@ use Rattle.session.specs.declared.doubts.Lack.TheVariants as lack
 use Rattle.session.specs.Doubts.{sent_by, starts_at_all_pages, starts_protected, is_read_of_page}
 use Rattle.session.specs.Doubts.{is_forbidden, is_idle_rail, may_enable, is_loose_rail}
 use Rattle.session.specs.Doubts.{takes_voltage, AllCanComeGood}
+use Rattle.session.specs.Ready.{is_ready}
 
 abbrev pub Doubts : Type 0
 Doubts = List Doubt
@@ -109,11 +110,21 @@ abbrev pub IsCircle : Board → Doubt → Type 0
 IsCircle b (Circle rails) = GoesRound b rails.items
 IsCircle b other = ⊥
 
--- circles of needs are told
+abbrev pub rails_of : Doubt → List ℕ
+rails_of (Circle rails) = rails.items
+rails_of other = []
+
+-- no rail is in both circles
+abbrev pub AreApart : Doubt → Doubt → Type 0
+AreApart circle other =
+    (d : ℕ) → IsTrue (is_ready (rails_of circle) d) → is_ready (rails_of other) d ≡ false
+
+-- circles of needs are told, each rail in one at most
 pub record TellsCircles (b : Board) (before after : Doubts) : Type 0 where
   pub circles : Doubts
   pub told : after ≡ before ++ circles
   pub each : All (IsCircle b) circles
+  pub apart : AllPairs AreApart circles
 
 -- the doubts about a board and a program on it: circles of needs are among them where some rail
 -- can't come good, one at least
@@ -121,4 +132,5 @@ pub record AreDoubts (b : Board) (p : List Instr) (doubts : Doubts) : Type 0 whe
   pub circles : Doubts
   pub told : doubts ≡ unready_targets b p ++ circles ++ idle_rails b ++ loose_limits b
   pub each : All (IsCircle b) circles
+  pub apart : AllPairs AreApart circles
   pub some : (circles ≡ []) ↔ AllCanComeGood b

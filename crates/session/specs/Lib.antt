@@ -26,5 +26,6 @@ pub mod Accepted
 pub mod Ready
 pub mod Doubts
 pub mod AllDoubts
+pub mod OneCircle
 pub mod Watching
 pub mod Seen

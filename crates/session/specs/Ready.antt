@@ -10,3 +10,7 @@ is_ready ready rail = list_any (nat_eq rail) ready
 pub record AreRails (b : Board) (ready : List ℕ) : Type 0 where
   pub apart : IsDistinct nat_eq ready
   pub within : (d : ℕ) → IsTrue (is_ready ready d) → d < length b.rails
+
+-- the rails of one list are in another
+abbrev pub AreAmong : List ℕ → List ℕ → Type 0
+AreAmong rails more = (d : ℕ) → IsTrue (is_ready rails d) → IsTrue (is_ready more d)

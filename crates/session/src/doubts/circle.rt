@@ -1,10 +1,10 @@
 //! Rails that need each other in a circle.
 
-ghost use Rattle.std.specs.Prelude.{◌≡◌, ◌<◌, ◌↔◌, ◌++◌, ◌∷◌, [], length, slice_get, IfOk};
+ghost use Rattle.std.specs.Prelude.{◌≡◌, ◌<◌, ◌↔◌, ℕ, length, slice_get, IfOk, IsTrue};
 ghost use Rattle.std.specs.Prelude.{OnOk, MatchOption, Some, false};
-ghost use Rattle.session.specs.declared.doubts.Doubt.{Doubt as AnyDoubt};
 ghost use Rattle.session.specs.Doubts.{TakesIn, AllCanComeGood};
-ghost use Rattle.session.specs.AllDoubts.{Needs, GoesRound, IsCircle, TellsCircles};
+ghost use Rattle.session.specs.AllDoubts.{Needs, GoesRound, TellsCircles};
+ghost use Rattle.session.specs.OneCircle.{TellsCircle};
 ghost use Rattle.session.specs.Ready.{is_ready, AreRails};
 
 use crate::doubts::Doubt;
@@ -56,7 +56,11 @@ fn circle_from(
     requires all { TakesIn board.now (is_ready ready.now) }
     requires rail { stuck < length board.now.rails }
     requires stuck { is_ready ready.now stuck ≡ false }
-    ensures { IfOk result (λ circle. GoesRound board.now circle.items) }
+    ensures round { IfOk result (λ circle. GoesRound board.now circle.items) }
+    ensures rails { IfOk result (λ circle. (d : ℕ) → IsTrue (is_ready circle.items d)
+        → d < length board.now.rails) }
+    ensures stuck { IfOk result (λ circle. (d : ℕ) → IsTrue (is_ready circle.items d)
+        → is_ready ready.now d ≡ false) }
 {
     let mut way = Vec::new(alloc);
     let mut here = stuck;
@@ -82,8 +86,8 @@ fn push_circle(
     requires all { TakesIn board.now (is_ready ready.items) }
     requires rail { stuck < length board.now.rails }
     requires stuck { is_ready ready.items stuck ≡ false }
-    ensures told { OnOk result ((circle : AnyDoubt)
-        × (doubts.new.items ≡ doubts.old.items ++ circle ∷ []) × IsCircle board.now circle) }
+    ensures told { IfOk result (λ after. TellsCircle board.now ready.items after.items
+        doubts.old.items doubts.new.items) }
     ensures rails { IfOk result (λ ready. AreRails board.now ready.items) }
     ensures all { IfOk result (λ ready. TakesIn board.now (is_ready ready.items)) }
 {

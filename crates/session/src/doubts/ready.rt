@@ -4,7 +4,7 @@ ghost use Rattle.std.specs.Prelude.{◌≡◌, ◌<◌, ◌↔◌, ℕ, All, IsT
 ghost use Rattle.std.specs.Prelude.{length, slice_get};
 ghost use Rattle.board.specs.Boards.{Rail};
 ghost use Rattle.session.specs.Doubts.{CanComeGood, TakesIn};
-ghost use Rattle.session.specs.Ready.{is_ready, AreRails};
+ghost use Rattle.session.specs.Ready.{is_ready, AreRails, AreAmong};
 
 use board::{Board, Rail};
 use std::alloc::AllocError;
@@ -55,6 +55,7 @@ pub(crate) fn ready_after(board: &Board, some: Vec<usize>) -> Result<Vec<usize>,
         → CanComeGood board.now d) }
     ensures all { IfOk result (λ ready. TakesIn board.now (is_ready ready.items)) }
     ensures rails { IfOk result (λ ready. AreRails board.now ready.items) }
+    ensures kept { IfOk result (λ ready. AreAmong some.items ready.items) }
 {
     let mut ready = some;
     while let Some(rail) = next_ready(board, &ready) {
@@ -80,7 +81,10 @@ pub(crate) fn first_stuck(board: &Board, ready: &[usize]) -> Option<usize>
 /// The rails with another one, if the board has it and it isn't among them.
 fn with_rail(board: &Board, rails: Vec<usize>, rail: usize) -> Result<Vec<usize>, AllocError>
     requires { AreRails board.now rails.items }
-    ensures { IfOk result (λ more. AreRails board.now more.items) }
+    ensures rails { IfOk result (λ more. AreRails board.now more.items) }
+    ensures kept { IfOk result (λ more. AreAmong rails.items more.items) }
+    ensures has { IfOk result
+        (λ more. rail < length board.now.rails → IsTrue (is_ready more.items rail)) }
 {
     if rail >= board.rails().len() || is_ready(&rails, rail) {
         return Ok(rails);
@@ -95,8 +99,11 @@ pub(crate) fn with_rails(
     rails: Vec<usize>,
     others: &[usize],
 ) -> Result<Vec<usize>, AllocError>
-    requires { AreRails board.now rails.items }
-    ensures { IfOk result (λ more. AreRails board.now more.items) }
+    requires rails { AreRails board.now rails.items }
+    requires others { (d : ℕ) → IsTrue (is_ready others.now d) → d < length board.now.rails }
+    ensures rails { IfOk result (λ more. AreRails board.now more.items) }
+    ensures kept { IfOk result (λ more. AreAmong rails.items more.items) }
+    ensures has { IfOk result (λ more. AreAmong others.now more.items) }
 {
     let mut more = rails;
     for other in others {

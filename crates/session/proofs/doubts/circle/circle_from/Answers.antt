@@ -1,10 +1,12 @@
 use Rattle.std.proofs.Common.{◌≡◌, ◌<◌, ◌-◌, ◌++◌, ◌∷◌, [], ℕ, List, length}
 use Rattle.std.proofs.Common.{false, sym, subst, arith}
+use Rattle.std.specs.Prelude.{IsTrue}
 use Rattle.std.proofs.lemmas.Option.{slice_get_within}
 use Rattle.std.proofs.lemmas.Result.{IfOk-weaker}
 use Rattle.session.specs.AllDoubts.{LeadsOn, GoesRound}
 use Rattle.session.specs.Ready.{is_ready, AreRails}
-use Rattle.session.proofs.Circles.{no_rails, more_rails, fewer_left}
+use Rattle.session.proofs.Circles.{no_rails, more_rails, fewer_left, none_ready, more_behind}
+use Rattle.session.proofs.Circles.{dropped}
 use Rattle.session.proofs.Rounds.{leads_more, goes_round}
 use Rattle.session.proofs.doubts.circle.circle_from.Goals as goal
 
@@ -16,6 +18,7 @@ loop-first-init c =
       leads = subst (λ way. LeadsOn b (way ++ c.args.stuck ∷ [])) (sym none) tt;
       within = c.requires.rail;
       stuck = c.requires.stuck;
+      behind = λ d t. absurd (none_ready c.new-way.result.items none d t);
     }
 
 pub split_off-requires : goal.split_off-requires
@@ -24,14 +27,32 @@ split_off-requires c =
     slice_get_within c.deref.result.now c.in-Some.first c.loop-first.here c.in-Some.ensures in
     omega (arith, within, c.deref.ensures.len)
 
-pub returns-in-Some : goal.returns-in-Some
-returns-in-Some c =
+pub returns-in-Some-clause-round : goal.returns-in-Some-clause-round
+returns-in-Some-clause-round c =
     let b = c.args.board.now in
     let way = c.loop-first.way.items in
     let at = rw c.deref.ensures.value at c.in-Some.ensures in
     IfOk-weaker c.split_off.result (λ circle. circle.items ≡ _) (λ circle. GoesRound b circle.items)
     (λ circle is. subst (GoesRound b) (sym is)
     (goes_round b way c.loop-first.here c.in-Some.first at c.loop-first.invariant.leads))
+    c.split_off.ensures.tail
+
+pub returns-in-Some-clause-rails : goal.returns-in-Some-clause-rails
+returns-in-Some-clause-rails c =
+    IfOk-weaker c.split_off.result (λ circle. circle.items ≡ _)
+    (λ circle. (d : ℕ) → IsTrue (is_ready circle.items d) → d < length c.args.board.now.rails)
+    (λ circle is d t. c.loop-first.invariant.rails.within d
+    (dropped c.in-Some.first c.loop-first.way.items d
+    (subst (λ rails. IsTrue (is_ready rails d)) is t)))
+    c.split_off.ensures.tail
+
+pub returns-in-Some-clause-stuck : goal.returns-in-Some-clause-stuck
+returns-in-Some-clause-stuck c =
+    IfOk-weaker c.split_off.result (λ circle. circle.items ≡ _)
+    (λ circle. (d : ℕ) → IsTrue (is_ready circle.items d) → is_ready c.args.ready.now d ≡ false)
+    (λ circle is d t. c.loop-first.invariant.behind d
+    (dropped c.in-Some.first c.loop-first.way.items d
+    (subst (λ rails. IsTrue (is_ready rails d)) is t)))
     c.split_off.ensures.tail
 
 pub loop-first-smaller : goal.loop-first-smaller
@@ -63,4 +84,10 @@ loop-first-preserved c =
           c.stuck_need-here.ensures.need);
       within = c.stuck_need-here.ensures.rail;
       stuck = c.stuck_need-here.ensures.stuck;
+      behind =
+          subst
+          (λ more. (d : ℕ) → IsTrue (is_ready more d) → is_ready c.args.ready.now d ≡ false)
+          (sym c.in_ok-push.ensures.items)
+          (more_behind c.args.ready.now way c.loop-first.here c.loop-first.invariant.behind
+          c.loop-first.invariant.stuck);
     }

@@ -1,4 +1,5 @@
-use Rattle.std.proofs.Common.{◌≡◌, ◌<◌, ◌-◌, ◌++◌, ◌∷◌, [], false, length}
+use Rattle.std.proofs.Common.{◌≡◌, ◌<◌, ◌-◌, ◌++◌, ◌∷◌, [], ℕ, false, length}
+use Rattle.std.specs.Prelude.{IsTrue}
 use Rattle.session.specs.AllDoubts.{LeadsOn}
 use Rattle.session.specs.Ready.{is_ready, AreRails}
 use Rattle.session.proofs.doubts.circle.circle_from.Given as goal
@@ -10,6 +11,7 @@ invariant-loop-first l = record {
   leads : LeadsOn l.board (l.way.items ++ l.here ∷ []);
   within : l.here < length l.board.rails;
   stuck : is_ready l.ready l.here ≡ false;
+  behind : (d : ℕ) → IsTrue (is_ready l.way.items d) → is_ready l.ready d ≡ false;
 }
 
 abbrev pub decreases-loop-first : goal.decreases-loop-first

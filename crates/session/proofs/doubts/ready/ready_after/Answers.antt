@@ -3,7 +3,7 @@ use Rattle.std.specs.Prelude.{IsTrue}
 use Rattle.std.proofs.lemmas.Option.{slice_get_within}
 use Rattle.session.specs.Doubts.{CanComeGood}
 use Rattle.session.specs.Ready.{is_ready, AreRails}
-use Rattle.session.proofs.Circles.{more_rails, more_good, fewer_left}
+use Rattle.session.proofs.Circles.{more_rails, more_good, fewer_left, still_ready}
 use Rattle.session.proofs.doubts.ready.ready_after.Goals as goal
 
 pub loop-rail-smaller : goal.loop-rail-smaller
@@ -29,4 +29,6 @@ loop-rail-preserved c =
           (sym c.in_ok-push.ensures.items)
           (more_good b ready c.in-Some.rail found.1.0 found.1.1 found.1.2
           (c.loop-rail.invariant.good before));
+      kept = λ d t. subst (λ more. IsTrue (is_ready more d)) (sym c.in_ok-push.ensures.items)
+          (still_ready ready c.in-Some.rail d (c.loop-rail.invariant.kept d t));
     }

@@ -1,7 +1,7 @@
 use Rattle.std.proofs.Common.{ℕ, length, ◌-◌}
 use Rattle.std.specs.Prelude.{IsTrue}
 use Rattle.session.specs.Doubts.{CanComeGood}
-use Rattle.session.specs.Ready.{is_ready, AreRails}
+use Rattle.session.specs.Ready.{is_ready, AreRails, AreAmong}
 use Rattle.session.proofs.doubts.ready.ready_after.Given as goal
 
 abbrev pub invariant-loop-rail : goal.invariant-loop-rail
@@ -9,6 +9,7 @@ invariant-loop-rail l = record {
   rails : AreRails l.board l.ready.items;
   good : ((d : ℕ) → IsTrue (is_ready l.fn.some.items d) → CanComeGood l.board d)
       → (d : ℕ) → IsTrue (is_ready l.ready.items d) → CanComeGood l.board d;
+  kept : AreAmong l.fn.some.items l.ready.items;
 }
 
 abbrev pub decreases-loop-rail : goal.decreases-loop-rail

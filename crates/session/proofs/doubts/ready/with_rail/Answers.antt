@@ -4,8 +4,8 @@ use Rattle.session.specs.Ready.{is_ready, AreRails}
 use Rattle.session.proofs.Circles.{more_rails}
 use Rattle.session.proofs.doubts.ready.with_rail.Goals as goal
 
-pub returns : goal.returns
-returns c =
+pub returns-clause-rails : goal.returns-clause-rails
+returns-clause-rails c =
     let b = c.args.board.now in
     let count = ap (λ (rails : List Rail). length rails) c.rails.ensures.rails in
     let within : c.args.rail < length b.rails =

@@ -1,5 +1,10 @@
-use Rattle.session.specs.Ready.{AreRails}
+use Rattle.std.proofs.Common.{take}
+use Rattle.session.specs.Ready.{AreRails, AreAmong}
 use Rattle.session.proofs.doubts.ready.with_rails.Given as goal
 
 abbrev pub invariant-loop-other : goal.invariant-loop-other
-invariant-loop-other l = AreRails l.board l.more.items
+invariant-loop-other l = record {
+  rails : AreRails l.board l.more.items;
+  kept : AreAmong l.fn.rails.items l.more.items;
+  has : AreAmong (take l.other-index l.others) l.more.items;
+}
