@@ -105,8 +105,8 @@ fn push_cut(samples: &mut Runs, slot: Slot, hold: u16, alert: bool) -> Result<()
 }
 
 /// Drives SCL and SDA through a plan behind samples that are there, as `drive` does, and tells the
-/// slot in which it was cut, if any. Fails only for want of memory, and then the samples are of no
-/// more use.
+/// slot in which it was cut, if any. Fewer than 2^39 samples may be there. Fails only for want of
+/// memory, and then the samples are of no more use.
 pub fn drive_onto(samples: &mut Runs, plan: &Plan, alert: bool) -> Result<Option<usize>, AllocError>
     requires { length samples.old < 2 ^ 39 }
     ensures samples { OnOk result (samples.new ≡ samples.old ++ levels alert plan.now) }
