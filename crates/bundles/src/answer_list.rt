@@ -2,8 +2,9 @@
 
 ghost use Rattle.std.specs.Prelude.{◌≡◌, ◌≤◌, ◌<◌, ◌^◌, [], ◌∷◌, length, All, IfErr, IfOk};
 ghost use Rattle.std.specs.Prelude.{IfSome, OnOk, MatchOption};
-ghost use Rattle.texts.specs.Reading.{Gives};
-ghost use Rattle.bundles.specs.Answers.{IsAnswer, answers_said, answer_lines_of};
+ghost use Rattle.texts.specs.Reading.{Fails, Gives};
+ghost use Rattle.bundles.specs.AnswerLines.{answer_line_of};
+ghost use Rattle.bundles.specs.Answers.{IsAnswer, answer_said, answers_said, answer_lines_of};
 ghost use Rattle.bundles.specs.CountedLines.{counted_lines};
 ghost use Rattle.bundles.specs.Views.{section_view};
 
@@ -37,6 +38,20 @@ impl<'a> Model for AnswerLines<'a> {
     ghost invariant = { λ a. All IsAnswer (counted_lines (section_view a.section)) };
 }
 
+/// Looks at a line, which `-` alone needn't be read for.
+fn check_line(alloc: Global, number: usize, line: &str) -> Result<(), ReadError<BundleFault>>
+    ensures said { OnOk result (IsAnswer (number, line.now)) }
+    ensures held { OnOk result
+        (All (λ hold. hold ≤ 6999) (answer_said (number, line.now)).holds) }
+    ensures fault { IfErr result (λ e. Fails e (answer_line_of number line.now)) }
+{
+    if line == "-" {
+        return Ok(());
+    }
+    answer_line_of(alloc, number, line)?;
+    Ok(())
+}
+
 /// Looks at each line that counts, up to the first that is no answer.
 fn check_lines(alloc: Global, section: &Section<'_>) -> Result<(), ReadError<BundleFault>>
     ensures all { OnOk result (All IsAnswer (counted_lines (section_view section.now))) }
@@ -47,7 +62,7 @@ fn check_lines(alloc: Global, section: &Section<'_>) -> Result<(), ReadError<Bun
 {
     let mut rest = *section;
     while let Some(first) = first_counted(&rest) {
-        answer_line_of(alloc, first.number, first.line)?;
+        check_line(alloc, first.number, first.line)?;
         rest = first.below;
     }
     Ok(())

@@ -12,9 +12,10 @@ ghost use Rattle.bundles.specs.Views.{section_view, bundle_view};
 
 use crate::command::{Command, Header};
 use crate::fault::BundleFault;
+use crate::lines::next_line;
 use crate::section::Section;
 use std::alloc::{AllocError, Global};
-use texts::{ReadError, first_line};
+use texts::ReadError;
 
 /// A command and its sections.
 #[derive(Debug, Drop)]
@@ -60,7 +61,7 @@ fn belongs(headers: &[Header], above: usize, line: &str) -> bool
     if starts_section(line) {
         is_next(headers, above, line)
     } else {
-        is_blank(line) || above > 0
+        above > 0 || is_blank(line)
     }
 }
 
@@ -77,7 +78,7 @@ fn headers_among(headers: &[Header], text: &str) -> Result<usize, usize>
     let mut above = 0;
     let mut place = 0;
     let mut rest = text;
-    while let Some((line, below)) = first_line(rest) {
+    while let Some((line, below)) = next_line(rest) {
         if !belongs(headers, above, line) {
             return Err(place);
         }
@@ -108,7 +109,7 @@ fn first_part(text: &str) -> Part<'_>
 {
     let mut count = 0;
     let mut rest = text;
-    while let Some((line, below)) = first_line(rest) {
+    while let Some((line, below)) = next_line(rest) {
         if starts_section(line) {
             return Part {
                 count,
@@ -175,7 +176,7 @@ pub fn read_bundle<'a>(alloc: Global, text: &'a str) -> Result<Bundle<'a>, ReadE
     ensures whole { IfOk result
         (λ bundle. vec_len bundle.sections ≡ length (headers_of bundle.command)) }
 {
-    let Some((first, below)) = first_line(text) else {
+    let Some((first, below)) = next_line(text) else {
         return Err(BundleFault::NoCommand.error());
     };
     let Some(command) = Command::of_line(first) else {

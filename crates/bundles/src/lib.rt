@@ -11,6 +11,7 @@ mod counted;
 mod fault;
 mod field;
 mod law;
+mod lines;
 mod message;
 mod section;
 

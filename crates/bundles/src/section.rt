@@ -1,7 +1,7 @@
 ghost use Rattle.std.specs.Prelude.{◌≤◌, ◌+◌, ◌<◌, ◌^◌, length};
 ghost use Rattle.std.specs.Str.Lines.{lines};
 
-use texts::first_line;
+use crate::lines::next_line;
 
 /// The lines below a header, and the number of the first of them in the bundle. The text begins
 /// with the first of them, and may go on below the last.
@@ -28,7 +28,7 @@ impl<'a> Section<'a> {
         if self.count == 0 {
             return None;
         }
-        let (line, text) = first_line(self.text)?;
+        let (line, text) = next_line(self.text)?;
         let below = Section {
             first_line: self.first_line + 1,
             count: self.count - 1,
