@@ -8,6 +8,7 @@ ghost use Rattle.targets.specs.States.{IsTargetAt};
 ghost use Rattle.targets.specs.Outcomes.{IsDone, cut_of};
 ghost use Rattle.targets.specs.WriteSlots.{reaches_value, cuts_after_value};
 ghost use Rattle.targets.specs.Effects.{IsByteWrite, ValueWentOut, TakesEffect, IsPermitted};
+ghost use Rattle.targets.specs.Effects.{WritesPage, WritesProtect};
 ghost use Rattle.targets.specs.Registers.{code_of, takes, WritesTo};
 
 use crate::outcome::cut_of;
@@ -183,23 +184,41 @@ fn write_by(
     }
 }
 
-/// The same of a step that may send nothing.
-pub(crate) fn register_write(
-    register: Register,
+/// What a step writes to the registers of targets, each with its target's index.
+#[derive(Clone, Copy)]
+pub(crate) struct Writes {
+    pub page: Option<(usize, u8)>,
+    pub protect: Option<(usize, u8)>,
+}
+
+/// The writes of a step, which may send nothing.
+pub(crate) fn writes_of(
     board: &Board,
     state: &BusState,
     message: Option<&Message>,
     answer: &Answer,
-) -> Option<(usize, u8)>
-    ensures some { IfSome result (λ w. WritesTo register board.now state.now
+) -> Writes
+    ensures page { IfSome result.page (λ w. WritesPage board.now state.now
         (option_map (λ m. m.now) message.entry) answer.now w.0 w.1) }
-    ensures only { IsBoard board.now → (i value : ℕ)
-        → WritesTo register board.now state.now
+    ensures page_alone { IsBoard board.now → (i value : ℕ)
+        → WritesPage board.now state.now
         (option_map (λ m. m.now) message.entry) answer.now i value
-        → result ≡ Some (i, value) }
+        → result.page ≡ Some (i, value) }
+    ensures protect { IfSome result.protect (λ w. WritesProtect board.now state.now
+        (option_map (λ m. m.now) message.entry) answer.now w.0 w.1) }
+    ensures protect_alone { IsBoard board.now → (i value : ℕ)
+        → WritesProtect board.now state.now
+        (option_map (λ m. m.now) message.entry) answer.now i value
+        → result.protect ≡ Some (i, value) }
 {
     match message {
-        Some(message) => write_by(register, board, state, message, answer),
-        None => None,
+        Some(message) => Writes {
+            page: write_by(Register::Page, board, state, message, answer),
+            protect: write_by(Register::Protect, board, state, message, answer),
+        },
+        None => Writes {
+            page: None,
+            protect: None,
+        },
     }
 }

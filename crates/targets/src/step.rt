@@ -6,12 +6,24 @@ ghost use Rattle.targets.specs.Effects.{StopsAlerting, IsAfter};
 ghost use Rattle.targets.specs.Stored.{with_write};
 
 use crate::alerting::alert_winner;
-use crate::effect::{Register, is_done, register_write};
+use crate::effect::{is_done, writes_of};
 use crate::outcome::{Outcome, outcome_of};
 use crate::state::BusState;
 use board::{Board, board_is_valid};
 use smbus::{Answer, Form, Message};
 use std::alloc::{AllocError, Global};
+
+/// Makes bytes those that are stored. Of as many as there were before it takes no memory.
+fn store(bytes: &mut Vec<u8>, stored: &[u8]) -> Result<(), AllocError>
+    ensures { OnOk result (bytes.new.items ≡ stored.now) }
+{
+    if bytes.len() == stored.len() {
+        bytes.copy_from_slice(stored);
+        return Ok(());
+    }
+    bytes.clear();
+    bytes.extend_from_slice(stored)
+}
 
 /// Makes bytes what is stored with one value written, at its index.
 fn store_with_write(
@@ -21,8 +33,7 @@ fn store_with_write(
 ) -> Result<(), AllocError>
     ensures { OnOk result (bytes.new.items ≡ with_write write stored.now) }
 {
-    bytes.clear();
-    bytes.extend_from_slice(stored)?;
+    store(bytes, stored)?;
     if let Some((index, value)) = write {
         if let Some(byte) = bytes.get_mut(index) {
             *byte = value;
@@ -96,10 +107,9 @@ pub fn after_into(
 {
     board_is_valid(board);
     let stops = stops_alerting(board, state, message, answer);
-    let page_write = register_write(Register::Page, board, state, message, answer);
-    let protect_write = register_write(Register::Protect, board, state, message, answer);
-    store_with_write(&mut new.page, &state.page, page_write)?;
-    store_with_write(&mut new.protect, &state.protect, protect_write)?;
+    let writes = writes_of(board, state, message, answer);
+    store_with_write(&mut new.page, &state.page, writes.page)?;
+    store_with_write(&mut new.protect, &state.protect, writes.protect)?;
     new.alerting = joined(answer.alerts, kept_alerting(state.alerting, stops));
     Ok(outcome_of(message, answer))
 }

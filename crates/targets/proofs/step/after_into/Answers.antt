@@ -16,15 +16,15 @@ returns-clause-state c =
     let a = c.args.answer.now in
     let is = c.board_is_valid.ensures in
     let page = stored_after (WritesPage b s m a) c.deref.result.now s.page
-    c.store_with_write.new.bytes.items c.register_write-page_write.result
+    c.store_with_write.new.bytes.items c.writes_of-writes.result.page
     (c.deref.ensures.value ∙ ap (λ (s : BusState). s.page) c.state.view_is)
-    c.in_ok-store_with_write.ensures c.register_write-page_write.ensures.some
-    (c.register_write-page_write.ensures.only is) in
+    c.in_ok-store_with_write.ensures c.writes_of-writes.ensures.page
+    (c.writes_of-writes.ensures.page_alone is) in
     let protect = stored_after (WritesProtect b s m a) c.deref-2.result.now s.protect
-    c.store_with_write-2.new.bytes.items c.register_write-protect_write.result
+    c.store_with_write-2.new.bytes.items c.writes_of-writes.result.protect
     (c.deref-2.ensures.value ∙ ap (λ (s : BusState). s.protect) c.state.view_is)
-    c.in_ok-store_with_write-2.ensures c.register_write-protect_write.ensures.some
-    (c.register_write-protect_write.ensures.only is) in
+    c.in_ok-store_with_write-2.ensures c.writes_of-writes.ensures.protect
+    (c.writes_of-writes.ensures.protect_alone is) in
     let alerting : c.state.inside.alerting ≡ s.alerting =
     ap (λ (s : BusState). s.alerting) c.state.view_is in
     let alerts : c.answer.inside.alerts ≡ a.alerts =
