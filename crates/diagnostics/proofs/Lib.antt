@@ -2,3 +2,6 @@ pub mod Feeds
 pub mod CountedNames
 pub mod FoundAnswers
 pub mod CountedLines
+pub mod Results
+pub mod ShortInputs
+pub mod WarnedInputs

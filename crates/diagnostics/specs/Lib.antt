@@ -7,3 +7,4 @@ pub mod BundlePlaces
 pub mod Inputs
 pub mod Boards
 pub mod Warnings
+pub mod Told

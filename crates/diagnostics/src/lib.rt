@@ -3,7 +3,7 @@
 
 mod alert;
 mod allowed_detail;
-mod answer;
+mod answering;
 mod background;
 mod bad_number;
 mod bad_operand;
@@ -42,6 +42,7 @@ mod returned;
 mod roads;
 mod route;
 mod run;
+mod run_answer;
 mod sent;
 mod sentence;
 mod spot;
@@ -54,6 +55,7 @@ mod unknown_word;
 mod warning;
 mod way;
 
+pub use answering::{Answered, Notes, answer};
 pub use boards::board_note;
 pub use bundle::bundle_note;
 pub use input::note_on;

@@ -4,7 +4,7 @@ ghost use Rattle.std.specs.Prelude.{IfOk};
 ghost use Rattle.session.specs.Scenarios.{IsOnItsBoard};
 ghost use Rattle.diagnostics.specs.Inputs.{NamesRunFault};
 
-use crate::answer::answer_note;
+use crate::run_answer::answer_note;
 use session::{Scenario, run_through, section_of};
 use simulator::RunFault;
 use std::alloc::{AllocError, Global};

@@ -1,5 +1,5 @@
 -- A table or a verdict isn't read as giving up: they begin with other letters.
-use Rattle.std.proofs.Common.{◌≡◌, ◌≢◌, ℕ, List, [], ◌∷◌, Some, None, sym, ap, subst}
+use Rattle.std.proofs.Common.{◌≢◌, ℕ, List, [], ◌∷◌, Some, None, sym, ap, subst}
 use Rattle.std.proofs.Common.{inl, inr, slice_index, arith}
 use Rattle.std.specs.Prelude.{Option, Result, IfSome}
 use Rattle.std.specs.Io.KnownBytes.{Appends}
@@ -67,16 +67,8 @@ searched (Find s) old new reply written replies = λ forward.
 searched (Verify s) old new reply written replies = λ forward.
     (reply.text, written, verified_apart s reply forward replies)
 
-gives_up : (input : List ℕ) (old new : Option (List ℕ)) (reply : Reply) → IsReplyTo input reply
+pub gives_up : (input : List ℕ) (old new : Option (List ℕ)) (reply : Reply) → IsReplyTo input reply
     → Appends old new reply.text → GivesUpOnLoopsAlone input old new
 gives_up input old new reply replies written = λ task asks.
     let P : Result Task InputFault → Type 0 = λ r. IsReplyAfter r reply in
     searched task old new reply written (subst P asks replies)
-
--- the same, where the reader tells its bytes, and what was written are the reply's
-pub apart_some : (o : Option (List ℕ)) (old new : Option (List ℕ)) (bytes : List ℕ) (reply : Reply)
-    → IfSome o (λ input. IsReplyTo input reply) → bytes ≡ reply.text → Appends old new bytes
-    → IfSome o (λ input. GivesUpOnLoopsAlone input old new)
-apart_some None old new bytes reply replies same written = tt
-apart_some (Some input) old new bytes reply replies same written =
-    gives_up input old new reply replies (subst (Appends old new) same written)

@@ -1,5 +1,5 @@
 -- What a reply promises that accepts a program.
-use Rattle.std.proofs.Common.{◌≡◌, ℕ, List, Some, None, refl, sym, ap, subst, ◌∙◌, inl, inr}
+use Rattle.std.proofs.Common.{◌≡◌, ℕ, List, sym, ap, subst, ◌∙◌, inl, inr}
 use Rattle.std.specs.Prelude.{Option, Result, IfSome}
 use Rattle.std.specs.Io.KnownBytes.{Appends}
 use Rattle.table_check.specs.declared.verdict.Verdict.{Verdict}
@@ -65,11 +65,3 @@ pub kept : (input : List ℕ) (old new : Option (List ℕ)) (status : Status) (r
 kept input old new status reply replies written same = λ task asks accepted.
     let P : Result Task InputFault → Type 0 = λ r. IsReplyAfter r reply in
     promised task old new reply written (sym same ∙ accepted) (subst P asks replies)
-
--- the same, where the reader tells its bytes, and what was written are the reply's
-pub kept_some : (o : Option (List ℕ)) (old new : Option (List ℕ)) (bytes : List ℕ) (reply : Reply)
-    → IfSome o (λ input. IsReplyTo input reply) → bytes ≡ reply.text → Appends old new bytes
-    → IfSome o (λ input. IsKeptPromise input old new reply.status)
-kept_some None old new bytes reply replies same written = tt
-kept_some (Some input) old new bytes reply replies same written =
-    kept input old new reply.status reply replies (subst (Appends old new) same written) refl

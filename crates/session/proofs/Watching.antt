@@ -1,6 +1,7 @@
 -- A run that is watched step by step.
 use Rattle.std.proofs.Common.{◌≡◌, ◌∷◌, ◌<◌, ◌+◌, ◌^◌, ℕ, List, [], Option, Some, None, All, length}
 use Rattle.std.proofs.Common.{MatchOption, refl, sym, subst, ap, is_some, false, ◌∙◌}
+use Rattle.std.specs.Prelude.{IsSomeAnd}
 use Rattle.smbus.specs.Answered.{Answered}
 use Rattle.board.specs.Boards.{Board}
 use Rattle.board.specs.Valid.{IsBoard}
@@ -14,9 +15,9 @@ use Rattle.simulator.specs.Machines.{Machine, Entry, start_at}
 use Rattle.simulator.specs.RunLaws.{RunsAreOne, StepsAreOne, RunsGoOn, TicksAddUp}
 use Rattle.simulator.specs.StepLaws.{StartsAreReady, StepsAreSeen}
 use Rattle.facts.specs.declared.rule.Rule.{Rule}
-use Rattle.facts.specs.declared.row.Row.{Row}
 use Rattle.facts.specs.Rows.{row_view}
 use Rattle.table_check.specs.Admitted.{StartsAreAdmitted, StepsStayAdmitted}
+use Rattle.session.specs.declared.breach.Breach.{Breach}
 use Rattle.session.specs.declared.breach.Reached.{Reached}
 use Rattle.session.specs.declared.breach.watch.Watch.{Watch}
 use Rattle.session.specs.declared.scenario.Scenario.{Scenario}
@@ -34,29 +35,37 @@ none_of : (found : Option Reached) → is_some found ≡ false → found ≡ Non
 none_of None is = refl
 none_of (Some x) is = cc is
 
--- a breach that is found where none was
+-- a breach that is kept is the one that a machine comes to
+comes_to : (b : Board) (p : List Instr) (m : Machine) (a : Answered) (index place : ℕ)
+    (old new : Watch) (rule : Rule) (found : Option Reached) → m.ended ≡ Running
+    → IsToldOf b p m (good_of old) (Some rule) → place ≡ m.place
+    → IsSomeAnd found
+    (λ x. (x.breach ≡ record { index = index; place = place; rule = rule })
+    × (row_view x.row ≡ known_row m (good_of old)))
+    → MatchOption found (GoesWell b p m a old new) (ComesToBreach b p m index old)
+comes_to b p m a index place old new rule None running told at kept = absurd kept
+comes_to b p m a index place old new rule (Some x) running told at kept = record {
+  running = running;
+  told =
+      subst (λ (r : Rule). IsToldOf b p m (good_of old) (Some r))
+      (sym (ap (λ (y : Breach). y.rule) kept.0)) told;
+  at =
+      (ap (λ (y : Breach). y.index) kept.0, ap (λ (y : Breach). y.place) kept.0 ∙ at);
+  known = kept.1;
+}
+
+-- and it is found where none was
 pub broken : (b : Board) (p : List Instr) (m : Machine) (a : Answered) (index place : ℕ)
-    (w : Watch) (rule : Rule) (row : Row) → is_some w.found ≡ false → m.ended ≡ Running
-    → IsToldOf b p m (good_of w) (Some rule) → place ≡ m.place
-    → row_view row ≡ known_row m (good_of w)
-    → HasSeen b p m a index w (record {
-      judge = w.judge;
-      found = Some (record {
-        breach = record { index = index; place = place; rule = rule };
-        row = row;
-      });
-    })
-broken b p m a index place w rule row quiet running told at known =
-    let new : Watch = record {
-      judge = w.judge;
-      found = Some (record {
-        breach = record { index = index; place = place; rule = rule };
-        row = row;
-      });
-    } in
-    subst (λ (f : Option Reached). MatchOption f (Sees b p m a index w new) (λ x. new ≡ w))
-    (sym (none_of w.found quiet))
-    (record { running = running; told = told; at = (refl, at); known = known })
+    (old new : Watch) (rule : Rule) → is_some old.found ≡ false → m.ended ≡ Running
+    → IsToldOf b p m (good_of old) (Some rule) → place ≡ m.place
+    → IsSomeAnd new.found
+    (λ x. (x.breach ≡ record { index = index; place = place; rule = rule })
+    × (row_view x.row ≡ known_row m (good_of old)))
+    → HasSeen b p m a index old new
+broken b p m a index place old new rule quiet running told at kept =
+    subst (λ (f : Option Reached). MatchOption f (Sees b p m a index old new) (λ x. new ≡ old))
+    (sym (none_of old.found quiet))
+    (comes_to b p m a index place old new rule new.found running told at kept)
 
 -- where a run that is watched has come to, with so many answers left: it is judged, or a breach was
 -- found

@@ -17,7 +17,6 @@ pub mod Promises
 pub mod Devices
 pub mod Parts
 pub mod Places
-pub mod Keeping
 pub mod Known
 pub mod Telling
 pub mod Runs

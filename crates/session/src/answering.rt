@@ -1,21 +1,19 @@
-ghost use Rattle.std.specs.Prelude.{◌≡◌, ◌≢◌, ◌⊎◌, IfOk, IfErr, IfSome, None, option_copied};
-ghost use Rattle.std.specs.Str.{is_utf8};
-ghost use Rattle.texts.specs.Reading.{Gives};
+ghost use Rattle.std.specs.Prelude.{◌≡◌, ◌≢◌, ◌⊎◌, List, ℕ, IfOk, IfErr, OnErr, IfSome, None};
 ghost use Rattle.session.specs.Commands.{task_in};
+ghost use Rattle.session.specs.Intake.{IsFrontOf};
 ghost use Rattle.session.specs.Replies.{reply_view, refusal};
 ghost use Rattle.session.specs.Seen.{IsSeenAfter};
-ghost use Rattle.session.specs.Sessions.{text_if, kept_text, kept_task, IsReplyAfter, IsReplyTo};
-ghost use Rattle.session.specs.Sessions.{task_of, IsAnswered, IsBegun};
+ghost use Rattle.session.specs.Sessions.{kept_task, IsReplyAfter, IsReplyTo, IsAnswered, IsBegun};
+ghost use Rattle.session.specs.Sessions.{task_of};
 ghost use Rattle.session.specs.Promises.{GivesUpOnLoopsAlone, IsKeptPromise};
 ghost use Rattle.session.specs.Devices.{device_of};
 ghost use Rattle.session.specs.declared.answering.DeviceFault.TheVariants.{Memory, Writer};
 
 use crate::commands::{read_task, reply_of};
-use crate::fault::{InputFault, of_bundle};
-use crate::intake::{Input, ReadFault, read_input};
-use crate::reply::{Status, refused};
+use crate::fault::InputFault;
+use crate::intake::{Input, ReadFault, read_input, text_of};
+use crate::reply::{Reply, Status, refused};
 use crate::seen::{Made, Seen};
-use bundles::BundleFault;
 use std::alloc::{AllocError, Global};
 use std::io::{Read, Write};
 use texts::{CutShort, ReadError, send};
@@ -44,34 +42,6 @@ impl From<ReadFault> for DeviceFault {
             ReadFault::Memory => DeviceFault::Memory,
             ReadFault::Reader => DeviceFault::Reader,
         }
-    }
-}
-
-/// The bytes as a text, if they are UTF-8.
-fn utf8_of(bytes: &[u8]) -> Option<&str>
-    ensures { option_copied result ≡ text_if (is_utf8 bytes.now) bytes.now }
-{
-    match str::from_utf8(bytes) {
-        Ok(text) => Some(text),
-        Err(_) => None,
-    }
-}
-
-/// The text of a bundle.
-#[tactic(auto, unfolding(crate::specs::Sessions::kept_text))]
-fn text_of(input: &Input) -> Result<&str, ReadError<BundleFault>>
-    ensures { Gives (λ text. text.now) result
-        (kept_text input.now.bytes.items input.now.too_large) }
-{
-    if input.too_large {
-        return Err(BundleFault::TooLarge.error());
-    }
-    if input.bytes.is_empty() {
-        return Err(BundleFault::NoCommand.error());
-    }
-    match utf8_of(&input.bytes) {
-        Some(text) => Ok(text),
-        None => Err(BundleFault::NotText.error()),
     }
 }
 
@@ -107,68 +77,84 @@ fn make_reply(alloc: Global, input: &Input) -> Result<Made, AllocError>
     ensures seen { IfOk result (λ made.
         IsSeenAfter (kept_task input.now.bytes.items input.now.too_large) made.seen) }
 {
-    match text_of(input).map_err(of_bundle) {
+    match text_of(input) {
         Ok(text) => reply_to(alloc, text),
-        Err(ReadError::Memory) => Err(AllocError),
-        Err(ReadError::Fault(fault)) => faulty(alloc, fault),
+        Err(fault) => faulty(alloc, InputFault::Bundle(fault)),
     }
 }
 
-/// Reads a whole input and makes the reply, and writes nothing.
-fn received<R: Read>(alloc: Global, reader: &mut R) -> Result<Made, DeviceFault>
-    ensures replies { IfOk result (λ made. IfSome (R.remaining reader.old)
-        (λ input. IsReplyTo input (reply_view made.reply))) }
-    ensures seen { IfOk result (λ made. IfSome (R.remaining reader.old)
-        (λ input. IsSeenAfter (task_of input) made.seen)) }
-    ensures whole { IfOk result (λ made. made.reply.status ≢ Status.DeviceFault) }
-    ensures err { IfErr result (λ fault. fault ≢ Writer) }
-{
-    let input = read_input(alloc, reader)?;
-    let made = make_reply(alloc, &input)?;
-    Ok(made)
-}
-
-/// How an input was answered, and what was seen of it.
+/// What became of an input before anything is written: what was read, the reply to it, and what
+/// was seen of it.
 #[derive(Drop)]
-pub struct Answered {
-    pub status: Status,
+pub struct Received {
+    pub input: Input,
+    pub reply: Reply,
     pub seen: Option<Box<Seen>>,
 }
 
-/// Answers an input: the whole reply to it is written. Tells how it was answered and what was seen
-/// of it; or Memory, Reader or Writer, where that device failed.
-pub fn answer<R: Read, W: Write>(
+/// Reads a whole input and makes the reply, and writes nothing. Fails where memory or the reader
+/// does.
+pub fn receive<R: Read>(alloc: Global, reader: &mut R) -> Result<Received, ReadFault>
+    ensures input { IfOk result (λ received. IfSome (R.remaining reader.old)
+        (IsFrontOf received.input.bytes.items received.input.too_large)) }
+    ensures replies { IfOk result (λ received. IfSome (R.remaining reader.old)
+        (λ input. IsReplyTo input (reply_view received.reply))) }
+    // The board and the program, and where the run breaks a rule first.
+    ensures seen { IfOk result (λ received. IfSome (R.remaining reader.old)
+        (λ input. IsSeenAfter (task_of input) received.seen)) }
+    ensures whole { IfOk result (λ received. received.reply.status ≢ Status.DeviceFault) }
+{
+    let input = read_input(alloc, reader)?;
+    let Made { reply, seen } = make_reply(alloc, &input)?;
+    Ok(Received { input, reply, seen })
+}
+
+/// Writes a whole reply, and tells its status; or the writer failed.
+pub fn deliver<W: Write>(writer: &mut W, reply: &Reply) -> Result<Status, DeviceFault>
+    ensures status { IfOk result (λ status. status ≡ reply.now.status) }
+    // The input whose reply it is was answered.
+    ensures answered { IfOk result
+        (λ status. (input : List ℕ) → IsReplyTo input (reply_view reply.now)
+        → IsAnswered input (W.contents writer.old) (W.contents writer.new) status) }
+    // What is accepted is safe.
+    ensures accepted { IfOk result
+        (λ status. (input : List ℕ) → IsReplyTo input (reply_view reply.now)
+        → IsKeptPromise input (W.contents writer.old) (W.contents writer.new) status) }
+    // Where each jump of a program leads on, the search doesn't give up.
+    ensures gave_up { IfOk result
+        (λ _. (input : List ℕ) → IsReplyTo input (reply_view reply.now)
+        → GivesUpOnLoopsAlone input (W.contents writer.old) (W.contents writer.new)) }
+    ensures begun { OnErr result
+        ((input : List ℕ) → IsReplyTo input (reply_view reply.now)
+        → IsBegun input (W.contents writer.old) (W.contents writer.new)) }
+    ensures err { IfErr result (λ fault. fault ≡ Writer) }
+{
+    match send(writer, &reply.text) {
+        Ok(()) => Ok(reply.status),
+        Err(CutShort) => Err(DeviceFault::Writer),
+    }
+}
+
+/// Answers an input, or tells which device failed.
+fn serve<R: Read, W: Write>(
     alloc: Global,
     reader: &mut R,
     writer: &mut W,
-) -> Result<Answered, DeviceFault>
-    ensures answered { IfOk result (λ answered. IfSome (R.remaining reader.old) (λ input.
-        IsAnswered input (W.contents writer.old) (W.contents writer.new) answered.status)) }
-    // What is accepted is safe.
-    ensures accepted { IfOk result (λ answered. IfSome (R.remaining reader.old) (λ input.
-        IsKeptPromise input (W.contents writer.old) (W.contents writer.new) answered.status)) }
-    // Where each jump of a program leads on, the search doesn't give up.
-    ensures gave_up { IfOk result (λ answered. IfSome (R.remaining reader.old) (λ input.
+) -> Result<Status, DeviceFault>
+    ensures answered { IfOk result (λ status. IfSome (R.remaining reader.old) (λ input.
+        IsAnswered input (W.contents writer.old) (W.contents writer.new) status)) }
+    ensures accepted { IfOk result (λ status. IfSome (R.remaining reader.old) (λ input.
+        IsKeptPromise input (W.contents writer.old) (W.contents writer.new) status)) }
+    ensures gave_up { IfOk result (λ _. IfSome (R.remaining reader.old) (λ input.
         GivesUpOnLoopsAlone input (W.contents writer.old) (W.contents writer.new))) }
-    ensures whole { IfOk result (λ answered. answered.status ≢ Status.DeviceFault) }
-    // The board and the program, and where the run breaks a rule first.
-    ensures seen { IfOk result (λ answered. IfSome (R.remaining reader.old)
-        (λ input. IsSeenAfter (task_of input) answered.seen)) }
+    ensures whole { IfOk result (λ status. status ≢ Status.DeviceFault) }
     ensures begun { IfErr result
         (λ fault. fault ≡ Writer → IfSome (R.remaining reader.old) (λ input.
         IsBegun input (W.contents writer.old) (W.contents writer.new))) }
-
-    // Where memory or the reader failed, nothing was written.
     ensures silent { IfErr result (λ fault. fault ≢ Writer → writer.new ≡ writer.old) }
 {
-    let Made { reply, seen } = received(alloc, reader)?;
-    match send(writer, &reply.text) {
-        Ok(()) => Ok(Answered {
-            status: reply.status,
-            seen,
-        }),
-        Err(CutShort) => Err(DeviceFault::Writer),
-    }
+    let received = receive(alloc, reader)?;
+    deliver(writer, &received.reply)
 }
 
 /// Answers an input: the whole reply to it is written, or a device failed.
@@ -190,8 +176,8 @@ pub fn session<R: Read, W: Write>(alloc: Global, reader: &mut R, writer: &mut W)
         → (writer.new ≡ writer.old) ⊎ IfSome (R.remaining reader.old) (λ input.
         IsBegun input (W.contents writer.old) (W.contents writer.new)) }
 {
-    match answer(alloc, reader, writer) {
-        Ok(answered) => answered.status,
+    match serve(alloc, reader, writer) {
+        Ok(status) => status,
         Err(_) => Status::DeviceFault,
     }
 }

@@ -1,8 +1,12 @@
 ghost use Rattle.std.specs.Prelude.{◌≡◌, ◌++◌, List, ℕ, IfOk, OnOk, IfSome, vec_len, ◌<◌, length};
+ghost use Rattle.std.specs.Prelude.{option_copied, MatchResult, Ok, Err};
 ghost use Rattle.std.specs.Io.KnownBytes.{IsAtEnd};
+ghost use Rattle.std.specs.Str.{is_utf8};
 ghost use Rattle.session.specs.declared.intake.ReadFault.TheVariants.{Memory};
 ghost use Rattle.session.specs.Intake.{IsFrontOf};
+ghost use Rattle.session.specs.Sessions.{text_if, kept_text};
 
+use bundles::BundleFault;
 use std::alloc::{AllocError, Global};
 use std::io::Read;
 
@@ -30,11 +34,40 @@ impl From<AllocError> for ReadFault {
     }
 }
 
-/// What is kept of a reader's bytes.
+/// What is kept of an input: its bytes up to 16 MiB, and whether there were more.
 #[derive(Debug, Drop)]
 pub struct Input {
     pub bytes: Vec<u8>,
     pub too_large: bool,
+}
+
+/// The bytes as a text, if they are UTF-8.
+fn utf8_of(bytes: &[u8]) -> Option<&str>
+    ensures { option_copied result ≡ text_if (is_utf8 bytes.now) bytes.now }
+{
+    match str::from_utf8(bytes) {
+        Ok(text) => Some(text),
+        Err(_) => None,
+    }
+}
+
+/// The text of an input, or why it has none: it is over 16 MiB, empty, or not UTF-8.
+#[tactic(auto, unfolding(crate::specs::Sessions::kept_text))]
+pub fn text_of(input: &Input) -> Result<&str, BundleFault>
+    ensures { MatchResult result
+        (λ text. kept_text input.now.bytes.items input.now.too_large ≡ Ok text.now)
+        (λ fault. kept_text input.now.bytes.items input.now.too_large ≡ Err fault) }
+{
+    if input.too_large {
+        return Err(BundleFault::TooLarge);
+    }
+    if input.bytes.is_empty() {
+        return Err(BundleFault::NoCommand);
+    }
+    match utf8_of(&input.bytes) {
+        Some(text) => Ok(text),
+        None => Err(BundleFault::NotText),
+    }
 }
 
 /// Takes one more piece of the bytes. Of those past the limit only the fact is kept.

@@ -1,6 +1,7 @@
 //! Notes and warnings. What they say of each mistake is tried with the bundles of
 //! `examples/mistakes`; here stands what no bundle shows.
 
+mod answering;
 mod refusals;
 mod warnings;
 

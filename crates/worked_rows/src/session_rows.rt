@@ -4,22 +4,73 @@
 mod devices;
 mod found;
 
-use crate::expected::says;
+use crate::expected::{same, says};
 use crate::runs::answer_of;
-use session::{Answered, answer, outcome_line};
+use bundles::BundleFault;
+use session::{Input, Received, Status, deliver, outcome_line, receive, text_of};
 use simulator::outcome_text;
 use smbus::{Form, Message};
 use std::alloc::{AllocError, Global};
 use std::test::*;
 use targets::Outcome;
 
-/// How the text of a bundle is answered, and what is seen of it.
-pub(crate) fn answered(alloc: Global, text: &str) -> Result<Answered, AllocError> {
-    let mut output = Vec::new(alloc);
-    match answer(alloc, &mut text.as_bytes(), &mut output) {
-        Ok(answered) => Ok(answered),
+/// What becomes of the text of a bundle before anything is written.
+pub(crate) fn received(alloc: Global, text: &str) -> Result<Received, AllocError> {
+    match receive(alloc, &mut text.as_bytes()) {
+        Ok(received) => Ok(received),
         Err(_) => Err(AllocError),
     }
+}
+
+/// How a text is answered, and what is printed.
+fn delivered(alloc: Global, text: &str) -> Result<(Status, Vec<u8>), AllocError> {
+    let received = received(alloc, text)?;
+    let mut output = Vec::new(alloc);
+    match deliver(&mut output, &received.reply) {
+        Ok(status) => Ok((status, output)),
+        Err(_) => Err(AllocError),
+    }
+}
+
+#[test]
+fn replies_are_delivered(rt: HostRuntime) {
+    let printed = Vec::from_slice(rt.alloc(), b"fault bundle 1 NoCommand\n");
+    let want = printed.map(|printed| (Status::InputFault, printed));
+    same(&rt, delivered(rt.alloc(), ""), want);
+}
+
+/// The text of an input, or its fault.
+fn text_in(
+    alloc: Global,
+    bytes: &[u8],
+    too_large: bool,
+) -> Result<Result<String, BundleFault>, AllocError> {
+    let bytes = Vec::from_slice(alloc, bytes)?;
+    match text_of(&Input { bytes, too_large }) {
+        Ok(text) => Ok(Ok(String::from_str(alloc, text)?)),
+        Err(fault) => Ok(Err(fault)),
+    }
+}
+
+#[test]
+fn texts_of_inputs(rt: HostRuntime) {
+    let text = String::from_str(rt.alloc(), "%run").map(|text| Ok(text));
+    same(&rt, text_in(rt.alloc(), b"%run", false), text);
+    same(
+        &rt,
+        text_in(rt.alloc(), b"%run", true),
+        Ok(Err(BundleFault::TooLarge)),
+    );
+    same(
+        &rt,
+        text_in(rt.alloc(), b"", false),
+        Ok(Err(BundleFault::NoCommand)),
+    );
+    same(
+        &rt,
+        text_in(rt.alloc(), b"%run\xff", false),
+        Ok(Err(BundleFault::NotText)),
+    );
 }
 
 /// How a Read Word that returns 0840h ends.

@@ -111,6 +111,7 @@ impl Judge {
     ghost use Rattle.std.specs.Prelude.{slice_get};
     ghost use Rattle.facts.specs.Rows.{row_view};
     ghost use Rattle.facts.specs.Sets.{rails_in};
+    ghost use Rattle.facts.specs.Duties.{IsFirstFailing, duties};
     ghost use Rattle.seq_program.specs.declared.instr.Instr.{Instr};
     ghost use Rattle.simulator.specs.Machines.{IsMachine, Entry};
     ghost use Rattle.simulator.specs.Machines.{Machine as AnyMachine};
@@ -137,6 +138,23 @@ impl Judge {
         known_row(alloc, board, machine, self.good)
     }
 
+    /// The first rule that an instruction breaks at a machine, if it does. Memory is answered where
+    /// a growth was refused.
+    fn failing(
+        &self,
+        alloc: Global,
+        board: &Board,
+        machine: &Machine,
+        instr: &Instr,
+    ) -> Result<Option<Rule>, AllocError>
+        requires { Belongs board.now machine.now.bus }
+        ensures { IfOk result (IsFirstFailing board.now
+            (known_row machine.now (rails_in self.now.good)) instr.now duties) }
+    {
+        let row = self.row(alloc, board, machine)?;
+        Ok(duty(board, instr, &row))
+    }
+
     /// The first of the rules K1 to K5 that the instruction at a machine's place breaks there, if
     /// it does. The machine is one of the board and the program. Memory is answered where a growth
     /// was refused.
@@ -156,8 +174,7 @@ impl Judge {
         if is_silent(instr) {
             return Ok(None);
         }
-        let row = self.row(alloc, board, machine)?;
-        Ok(duty(board, instr, &row))
+        self.failing(alloc, board, machine, instr)
     }
 
     /// Takes notice of the step that a machine makes under an answer. The machine is one of the

@@ -1,9 +1,11 @@
 //! What watches a run for the first rule that it breaks.
 
-ghost use Rattle.std.specs.Prelude.{◌≡◌, [], None, OnOk};
+ghost use Rattle.std.specs.Prelude.{◌≡◌, [], None, OnOk, IsSomeAnd};
 ghost use Rattle.board.specs.Boards.{Board as AnyBoard};
 ghost use Rattle.simulator.specs.Machines.{IsMachine};
-ghost use Rattle.session.specs.Known.{Knows};
+ghost use Rattle.facts.specs.Rows.{row_view};
+ghost use Rattle.targets.specs.States.{Belongs};
+ghost use Rattle.session.specs.Known.{Knows, known_row};
 ghost use Rattle.session.specs.Watching.{good_of, HasSeen};
 
 use crate::breach::judge::Judge;
@@ -33,6 +35,25 @@ impl Watch {
         }
     }
 
+    /// Keeps a breach, with what is known of the machine. Memory is answered where a growth was
+    /// refused.
+    fn keep(
+        &mut self,
+        alloc: Global,
+        board: &Board,
+        machine: &Machine,
+        breach: Breach,
+    ) -> Result<(), AllocError>
+        requires { Belongs board.now machine.now.bus }
+        ensures judge { self.new.judge ≡ self.old.judge }
+        ensures found { OnOk result (IsSomeAnd self.new.found (λ x. (x.breach ≡ breach)
+            × (row_view x.row ≡ known_row machine.now (good_of self.old)))) }
+    {
+        let row = self.judge.row(alloc, board, machine)?;
+        self.found = Some(Reached { breach, row });
+        Ok(())
+    }
+
     /// Looks at a machine before its step, and at the answer to that. The machine is one of the
     /// board and the program. Behind the first breach nothing is looked at. Memory is answered
     /// where a growth was refused, and then the watch is of no more use.
@@ -53,11 +74,8 @@ impl Watch {
             return Ok(());
         }
         if let Some(rule) = rule_broken(alloc, board, program, machine, &self.judge)? {
-            let row = self.judge.row(alloc, board, machine)?;
             let place = machine.place;
-            let breach = Breach { index, place, rule };
-            self.found = Some(Reached { breach, row });
-            return Ok(());
+            return self.keep(alloc, board, machine, Breach { index, place, rule });
         }
         self.judge.after(alloc, board, program, machine, answer)
     }

@@ -2,8 +2,9 @@
 
 use crate::boards::TWO;
 use crate::expected::{Noted, begins, notes, same};
-use crate::session_rows::answered;
+use crate::session_rows::received;
 use diagnostics::{Warnings, warnings_on};
+use session::Received;
 use std::alloc::{AllocError, Global};
 use std::process::Abort;
 use std::test::*;
@@ -51,7 +52,8 @@ static SPARED: [(&str, &str); 3] = [
 
 /// What is warned of a bundle.
 fn warnings_of(alloc: Global, text: &str) -> Result<Warnings, AllocError> {
-    match answered(alloc, text)?.seen {
+    let Received { seen, .. } = received(alloc, text)?;
+    match seen {
         Some(seen) => warnings_on(alloc, text, &seen),
         None => Ok(Warnings::none(alloc)),
     }

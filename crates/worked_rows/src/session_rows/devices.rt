@@ -3,7 +3,7 @@
 use super::{ASKED, ASKING};
 use crate::devices::SlowWriter;
 use crate::expected::same;
-use session::{DeviceFault, Status, answer, session};
+use session::{ReadFault, Status, receive, session};
 use std::alloc::Global;
 use std::io;
 use std::io::Read;
@@ -91,18 +91,12 @@ fn replies<R: Read>(rt: &impl Abort, alloc: Global, reader: &mut R, want: (Statu
     same(rt, (status, output.as_slice()), want);
 }
 
-/// Tries that a reader is told to fail, and that nothing is printed.
+/// Tries that a reader is told to fail.
 fn fails<R: Read>(rt: &impl Abort, alloc: Global, reader: &mut R) {
-    let mut output = Vec::new(alloc);
-    let ended = match answer(alloc, reader, &mut output) {
-        Ok(answered) => Ok(answered.status),
-        Err(fault) => Err(fault),
-    };
-    same(
-        rt,
-        (ended, output.is_empty()),
-        (Err(DeviceFault::Reader), true),
-    );
+    match receive(alloc, reader) {
+        Ok(_) => panic!(rt; "all was read"),
+        Err(fault) => same(rt, fault, ReadFault::Reader),
+    }
 }
 
 #[test]

@@ -8,50 +8,18 @@ ghost use Rattle.session.specs.Scenarios.{IsOnItsBoard};
 use crate::boards::{TWO, two_board};
 use crate::bundles_rows::answers_of;
 use crate::expected::{holds, same};
-use crate::session_rows::answered;
+use crate::session_rows::received;
 use board::{Board, read_board};
 use bundles::Answers;
 use facts::Rule;
 use seq_program::{Program, read_program};
 use session::{
-    Breach, Doubt, Keeping, Scenario, Seen, doubts_on, part_at, place_line, place_lines,
+    Breach, Doubt, Received, Scenario, Seen, doubts_on, part_at, place_line, place_lines,
     run_through, section_of,
 };
 use std::alloc::{AllocError, Global};
-use std::io::Read;
 use std::process::Abort;
 use std::test::*;
-
-/// How many bytes are read, and whether they are kept: those that aren't over 1 MiB.
-static KEPT: [(usize, bool); 4] = [
-    (0, true),
-    (5, true),
-    (1 << 20, true),
-    ((1 << 20) + 1, false),
-];
-
-/// Whether so many bytes are kept as they were, or none.
-fn is_kept(alloc: Global, count: usize) -> Option<bool> {
-    let bytes = "x".repeat(alloc, count).ok()?;
-    let mut reader = Keeping::new(alloc, bytes.as_bytes());
-    let mut text = String::new(alloc);
-    reader.read_to_string(&mut text).ok()?;
-    match reader.kept() {
-        Some(kept) => (kept == bytes.as_bytes()).then_some(true),
-        None => Some(false),
-    }
-}
-
-fn all_are_kept(rt: &impl Abort, alloc: Global, rows: &[(usize, bool)]) {
-    for (count, want) in rows {
-        same(rt, (*count, is_kept(alloc, *count)), (*count, Some(*want)));
-    }
-}
-
-#[test]
-fn kept_input(rt: HostRuntime) {
-    all_are_kept(&rt, rt.alloc(), &KEPT);
-}
 
 const BUNDLE: &str = "%check\n%board\n# none\n%program\nend\n\nfail\n%table\n";
 
@@ -191,7 +159,8 @@ fn early_is_whole(alloc: Global, answers: &str) -> Result<bool, AllocError> {
 fn early_breach(alloc: Global, answers: &str) -> Result<Option<Breach>, AllocError> {
     let run = format!(in alloc; "%program\n{EARLY}%answers\nstart 00,00 00,00\n{answers}")?;
     let text = format!(in alloc; "%run\n%board\n{TWO}{run}")?;
-    match answered(alloc, &text)?.seen {
+    let Received { seen, .. } = received(alloc, &text)?;
+    match seen {
         Some(seen) => Ok(breach_of(&seen)),
         None => Err(AllocError),
     }

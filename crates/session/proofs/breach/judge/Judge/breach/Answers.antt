@@ -1,4 +1,8 @@
-use Rattle.facts.specs.Rows.{row_view}
+use Rattle.std.proofs.Common.{refl}
+use Rattle.std.specs.Prelude.{Option}
+use Rattle.std.proofs.lemmas.Result.{IfOk-weaker}
+use Rattle.facts.specs.Duties.{IsFirstFailing, duties}
+use Rattle.facts.specs.declared.rule.Rule.{Rule}
 use Rattle.facts.specs.Sets.{rails_in}
 use Rattle.session.specs.Known.{known_row}
 use Rattle.session.proofs.Judged.{first_failing, silent_at}
@@ -14,10 +18,14 @@ returns-then-is_silent c = λ i here.
     c.instr_of-instr.ensures here (c.is_silent.ensures.request c.if-is_silent.true)
 
 pub returns : goal.returns
-returns c = λ i here.
+returns c =
     let b = c.args.board.now in
     let p = c.args.program.now in
     let m = c.args.machine.now in
-    first_failing b p m.place c.instr_of-instr.result.now i (row_view c.in_ok-row.row)
-    (known_row m (rails_in c.args.self.now.good)) c.duty.result c.instr_of-instr.ensures here
-    c.in_ok-row.ensures c.duty.ensures
+    let known = known_row m (rails_in c.args.self.now.good) in
+    let Fails : Option Rule → Type 0 = λ found.
+    IsFirstFailing b known c.instr_of-instr.result.now duties found in
+    IfOk-weaker c.failing.result Fails _
+    (λ found fails. λ i here.
+    first_failing b p m.place c.instr_of-instr.result.now i known known found
+    c.instr_of-instr.ensures here refl fails) c.failing.ensures

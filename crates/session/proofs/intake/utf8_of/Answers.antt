@@ -3,7 +3,7 @@ use Rattle.std.specs.Str.{IsUtf8, is_utf8}
 use Rattle.std.proofs.lemmas.Bool.{cases_Bool}
 use Rattle.std.proofs.lemmas.Str.{IsUtf8-from_is_utf8, is_utf8-from_IsUtf8}
 use Rattle.session.specs.Sessions.{text_if}
-use Rattle.session.proofs.answering.utf8_of.Goals as goal
+use Rattle.session.proofs.intake.utf8_of.Goals as goal
 
 not_text : (bytes : List ℕ) → (IsUtf8 bytes → ⊥) → text_if (is_utf8 bytes) bytes ≡ None
 not_text bytes isnt = elim (cases_Bool (is_utf8 bytes)) [
