@@ -16,8 +16,8 @@ pub(crate) struct Counted<'a> {
     pub below: Section<'a>,
 }
 
-/// Whether a line of a section says something.
-fn counts(line: &str) -> bool
+/// Whether a line of a section counts: it isn't blank, nor a comment, which begins with `#`.
+pub fn is_counted(line: &str) -> bool
     ensures { result ≡ is_counted line.now }
 {
     !is_blank(line) && line.as_bytes().first() != Some(&b'#')
@@ -34,7 +34,7 @@ pub(crate) fn first_counted<'a>(section: &Section<'a>) -> Option<Counted<'a>>
 {
     let mut rest = *section;
     while let Some((line, below)) = rest.split_first() {
-        if counts(line) {
+        if is_counted(line) {
             return Some(Counted {
                 number: rest.first_line,
                 line,

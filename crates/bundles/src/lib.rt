@@ -20,6 +20,7 @@ pub use answer_list::AnswerLines;
 pub use answers::{Answers, answers_in};
 pub use bundle::{Bundle, read_bundle};
 pub use command::{Command, Header};
+pub use counted::is_counted;
 pub use fault::BundleFault;
 pub use law::{
     answer_lines_are_read, message_lines_are_read, sections_keep_their_lines,

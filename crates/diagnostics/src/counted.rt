@@ -1,26 +1,12 @@
 //! The lines of a section that say something.
 
-ghost use Rattle.std.specs.Prelude.{◌≡◌, ◌==◌, ◌+◌};
-ghost use Rattle.std.specs.List.{list_all};
+ghost use Rattle.std.specs.Prelude.{◌≡◌, ◌+◌};
 ghost use Rattle.texts.specs.Words.{lines_by_feed};
-ghost use Rattle.bundles.specs.CountedLines.{is_counted};
 ghost use Rattle.diagnostics.specs.AnswerPlaces.{counted_line, run_line};
 
+use bundles::is_counted;
 use simulator::RunFault;
 use texts::first_by_feed;
-
-fn all_spaces(line: &[u8]) -> bool
-    ensures { result ≡ list_all (λ b. b == 32) line.now }
-{
-    line.iter().all(|byte| *byte == b' ')
-}
-
-/// Whether a line says something.
-fn counts(line: &str) -> bool
-    ensures { result ≡ is_counted line.now }
-{
-    !all_spaces(line.as_bytes()) && line.as_bytes().first() != Some(&b'#')
-}
 
 /// The number of the line that stands at a place among those that count, counted from 1.
 pub(crate) fn counted_line(text: &str, place: usize) -> Option<usize>
@@ -30,7 +16,7 @@ pub(crate) fn counted_line(text: &str, place: usize) -> Option<usize>
     let mut number = 1;
     let mut rest = text;
     while let Some((line, below)) = first_by_feed(rest) {
-        if counts(line) {
+        if is_counted(line) {
             if left == 0 {
                 return Some(number);
             }

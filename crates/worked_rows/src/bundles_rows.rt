@@ -1,7 +1,7 @@
 //! Answer lines, and the sections of a bundle.
 
 use crate::expected::{holds, same};
-use bundles::{Answers, BundleFault, answer_line_of, answers_in, read_bundle};
+use bundles::{Answers, BundleFault, answer_line_of, answers_in, is_counted, read_bundle};
 use std::alloc::{AllocError, Global};
 use std::process::Abort;
 use std::test::*;
@@ -74,6 +74,15 @@ fn all_say(
 #[test]
 fn answer_lines(rt: HostRuntime) {
     same(&rt, all_say(&rt, rt.alloc(), &LINES), Ok(()));
+}
+
+#[test]
+fn lines_that_count(rt: HostRuntime) {
+    same(&rt, is_counted("end # the last"), true);
+    same(&rt, is_counted(" # indented"), true);
+    same(&rt, is_counted("# all of it"), false);
+    same(&rt, is_counted("   "), false);
+    same(&rt, is_counted(""), false);
 }
 
 /// How many slots a line tells of, and what is held in the last.
