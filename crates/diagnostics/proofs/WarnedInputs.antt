@@ -1,5 +1,5 @@
 -- What is warned of is what was seen of the same input.
-use Rattle.std.proofs.Common.{◌≡◌, ◌≢◌, ℕ, List, [], None, Some, refl, ap, length, subst}
+use Rattle.std.proofs.Common.{◌≡◌, ℕ, List, None, Some, refl, length, subst}
 use Rattle.std.specs.Prelude.{Option, Result, Ok, Err, All, Box, option_map}
 use Rattle.std.specs.Global.{Global}
 use Rattle.std.proofs.lemmas.List.Elements.{All-nil}
