@@ -1,8 +1,8 @@
 -- An input of which something is told is kept as a whole.
-use Rattle.std.proofs.Common.{◌≡◌, ◌≤◌, ℕ, Bool, List, length, sym, ap, subst, ◌∙◌, arith}
+use Rattle.std.proofs.Common.{◌≡◌, ◌≤◌, ◌<◌, ℕ, Bool, List, length, sym, ap, subst, ◌∙◌, arith}
 use Rattle.std.specs.Prelude.{Option, String, Result, Ok, Err, MatchResult}
 use Rattle.std.specs.Global.{Global}
-use Rattle.std.proofs.lemmas.List.{take_all}
+use Rattle.std.proofs.lemmas.List.{take_all, length-take}
 use Rattle.texts.specs.Reading.{◌>>=◌}
 use Rattle.bundles.specs.declared.fault.BundleFault.{BundleFault}
 use Rattle.session.specs.Commands.{task_in}
@@ -26,6 +26,12 @@ pub text_kept : (kept input : List ℕ) (over : Bool) → IsFrontOf kept over in
 text_kept kept input over front short =
     ap (λ (bytes : List ℕ). kept_text bytes over) (all_kept kept input over front short)
     ∙ ap (kept_text input) front.more
+
+-- a longer one isn't kept as a short one
+pub none_short : (kept input : List ℕ) (over : Bool) → IsFrontOf kept over input
+    → length kept ≤ most_noted → most_noted < length input → ⊥
+none_short kept input over front few long =
+    omega (arith, ap length front.bytes, length-take kept_limit input, few, long)
 
 -- ---- of a text
 

@@ -1,5 +1,5 @@
 -- What a person is told of an input beside the reply: what to mend in it, and what is warned of.
-use Rattle.std.specs.Prelude.{◌≡◌, ◌≤◌, List, [], ℕ, Option, None, Result, String, All}
+use Rattle.std.specs.Prelude.{◌≡◌, ◌≤◌, ◌<◌, List, [], ℕ, Option, None, Result, String, All}
 use Rattle.std.specs.Prelude.{MatchResult, IsSomeAnd, length, take, option_map, string_bytes}
 use Rattle.std.specs.Global.{Global}
 use Rattle.std.specs.Str.Lossy.{utf8_valid_len}
@@ -17,6 +17,7 @@ use Rattle.diagnostics.specs.Boards.{board_lines, IsBoardWarning}
 use Rattle.diagnostics.specs.BundlePlaces.{IsOnFault}
 use Rattle.diagnostics.specs.Inputs.{NamesFault, NamesBundleFault, NamesTaskFaults}
 use Rattle.diagnostics.specs.Warnings.{HasEachDoubt, IsWarningOf}
+use Rattle.diagnostics.specs.declared.answering.Notes.{Notes}
 use Rattle.diagnostics.specs.declared.warning.Warnings.{Warnings}
 
 -- the most bytes of an input of which something is told: 1 MiB
@@ -93,3 +94,8 @@ abbrev pub WarnsOfInput : List ℕ → Warnings → Type 0
 WarnsOfInput input warnings =
     length input ≤ most_noted → MatchResult (text_in input)
     (λ text. WarnsOfRead text (task_in text) warnings) (λ fault. WarnsOfNothing warnings)
+
+-- of a longer input nothing is told
+pub record IsUntold (input : List ℕ) (notes : Notes) : Type 0 where
+  pub error : most_noted < length input → notes.error ≡ None
+  pub warnings : most_noted < length input → WarnsOfNothing notes.warnings

@@ -2,7 +2,7 @@
 
 ghost use Rattle.std.specs.Prelude.{◌≡◌, ◌≢◌, ℕ, List, IfOk, IfErr, IfSome, None, Result};
 ghost use Rattle.diagnostics.specs.Told.{text_front, IsErrorOf, IsErrorOfBytes, IsErrorIn};
-ghost use Rattle.diagnostics.specs.Told.{WarnsOfNothing, WarnsOfRead, WarnsOfInput};
+ghost use Rattle.diagnostics.specs.Told.{WarnsOfNothing, WarnsOfRead, WarnsOfInput, IsUntold};
 ghost use Rattle.session.specs.Commands.{Task};
 ghost use Rattle.session.specs.Intake.{IsFrontOf};
 ghost use Rattle.session.specs.Promises.{GivesUpOnLoopsAlone, IsKeptPromise};
@@ -110,6 +110,9 @@ fn notes_on(alloc: Global, received: &Received) -> Result<Notes, AllocError>
     ensures warnings { IfOk result (λ notes. (input : List ℕ)
         → IsFrontOf received.now.input.bytes.items received.now.input.too_large input
         → IsSeenAfter (task_of input) received.now.seen → WarnsOfInput input notes.warnings) }
+    ensures long { IfOk result (λ notes. (input : List ℕ)
+        → IsFrontOf received.now.input.bytes.items received.now.input.too_large input
+        → IsUntold input notes) }
 {
     let input = &received.input;
     if input.bytes.len() > MOST_NOTED {
@@ -152,6 +155,9 @@ pub fn answer<R: Read, W: Write>(
         IsErrorIn input answered.status answered.notes.error)) }
     ensures warnings { IfOk result (λ answered. IfSome (R.remaining reader.old) (λ input.
         WarnsOfInput input answered.notes.warnings)) }
+    // Of an input of over 1 MiB nothing is told.
+    ensures long { IfOk result (λ answered. IfSome (R.remaining reader.old) (λ input.
+        IsUntold input answered.notes)) }
     ensures begun { IfErr result
         (λ fault. fault ≡ Writer → IfSome (R.remaining reader.old) (λ input.
         IsBegun input (W.contents writer.old) (W.contents writer.new))) }

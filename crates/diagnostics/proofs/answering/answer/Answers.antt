@@ -37,3 +37,8 @@ returns-clause-warnings g c =
     (λ (input : List ℕ). WarnsOfInput input warnings) c.in_ok-received.ensures.input
     c.in_ok-received.ensures.seen
     (λ input front is. c.in_ok-notes.ensures.warnings input front is)
+
+pub returns-clause-long : goal.returns-clause-long
+returns-clause-long g c =
+    IfSome_then (g.R.Read.remaining c.args.reader.now) c.in_ok-received.ensures.input
+    (λ input front. c.in_ok-notes.ensures.long input front)
