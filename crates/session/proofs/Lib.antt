@@ -4,6 +4,7 @@ pub mod Told
 pub mod Reported
 pub mod GaveUp
 pub mod Promised
+pub mod Passing
 pub mod Replayed
 pub mod Places
 pub mod Sources

@@ -1,6 +1,6 @@
 -- What a run is asked with, and what it is: a program on its board, how the targets start, and what
 -- they answer.
-use Rattle.std.specs.Prelude.{List, length, Result, Ok, All}
+use Rattle.std.specs.Prelude.{◌≡◌, List, length, Result, Ok, All}
 use Rattle.texts.specs.Reading.{◌>>=◌}
 use Rattle.board.specs.Boards.{Board}
 use Rattle.board.specs.Files.{read_of}
@@ -11,7 +11,7 @@ use Rattle.seq_program.specs.Valid.{IsOnBoard}
 use Rattle.simulator.specs.declared.fault.RunFault.{RunFault}
 use Rattle.simulator.specs.declared.fault.RunFault.TheVariants.{BadStart}
 use Rattle.simulator.specs.Faults.{FailsAt}
-use Rattle.simulator.specs.Machines.{start_at, start_state}
+use Rattle.simulator.specs.Machines.{Machine, IsMachine, start_at, start_state}
 use Rattle.simulator.specs.Steps.{IsRun}
 use Rattle.simulator.specs.Traces.{Trace, IsTrace}
 use Rattle.session.specs.declared.fault.InputFault.{InputFault}
@@ -42,6 +42,17 @@ IsOnItsBoard s = All (λ i. IsOnBoard (length s.board.targets) i) s.program
 
 abbrev pub start_of : Scenario → BusState
 start_of s = start_state s.answers.pages s.answers.protects
+
+-- the machine at the run's start
+pub record IsAtStart (s : Scenario) (m : Machine) : Type 0 where
+  pub may_start : IsStart s.board (start_of s)
+  pub first : m ≡ start_at (start_of s)
+  pub machine : IsMachine s.board s.program m
+
+-- the targets can't start so
+pub record CannotStart (s : Scenario) (fault : RunFault) : Type 0 where
+  pub is_start : fault ≡ BadStart
+  pub may_not : IsStart s.board (start_of s) → ⊥
 
 -- the run from the start, with a step for each answer
 pub record IsRunOf (s : Scenario) (t : Trace) : Type 0 where

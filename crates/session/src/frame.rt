@@ -1,10 +1,13 @@
-ghost use Rattle.std.specs.Prelude.{◌≡◌, ◌≢◌, ◌≤◌, ◌<◌, ◌∷◌, true, All, IfOk};
+ghost use Rattle.std.specs.Prelude.{◌≡◌, ◌≢◌, ◌≤◌, ◌<◌, [], ◌∷◌, true, All, IfOk};
 ghost use Rattle.std.specs.Prelude.{length, string_bytes};
 ghost use Rattle.wires.specs.Events.{events_of};
 ghost use Rattle.wires.specs.Runs.{most_samples};
 ghost use Rattle.bit_bus.specs.Levels.{idle};
 ghost use Rattle.smbus.specs.Slots.{slots_of};
-ghost use Rattle.smbus.specs.OneFrame.{CanBeSent};
+ghost use Rattle.smbus.specs.Frames.{AreFrames};
+ghost use Rattle.smbus.specs.OneFrame.{CanBeSent, IsOnlyFrame};
+ghost use Rattle.smbus.specs.Shown.{Shown};
+ghost use Rattle.smbus.specs.Text.{text_of};
 ghost use Rattle.session.specs.Replies.{reply_view};
 ghost use Rattle.session.specs.FrameReplies.{IsFrameText, IsFrameReply};
 
@@ -35,6 +38,21 @@ fn events_behind_idle(alloc: Global, samples: &Runs) -> Result<Vec<Event>, Alloc
     events_of(alloc, &Runs::joined(alloc, &before, samples)?)
 }
 
+/// The text of the one frame that is read from these samples behind an idle one.
+fn seen_text(alloc: Global, samples: &Runs) -> Result<String, AllocError>
+    requires few { length samples.now < most_samples }
+    requires one { (f : Shown) × IsOnlyFrame (events_of (idle true ∷ samples.now)) f }
+    ensures { IfOk result (λ text. (f : Shown)
+        × AreFrames (events_of (idle true ∷ samples.now)) (f ∷ [])
+        × (string_bytes text ≡ text_of f)) }
+{
+    let events = events_behind_idle(alloc, samples)?;
+    let Some(frame) = only_frame(alloc, &events)? else {
+        unreachable!()
+    };
+    frame_text(alloc, &frame)
+}
+
 /// The lines of a message that can be sent.
 fn shown(
     alloc: Global,
@@ -51,11 +69,7 @@ fn shown(
         unreachable!()
     };
     let driven = drive(alloc, &plan, true)?;
-    let events = events_behind_idle(alloc, &driven.samples)?;
-    let Some(frame) = only_frame(alloc, &events)? else {
-        unreachable!()
-    };
-    let frame = frame_text(alloc, &frame)?;
+    let frame = seen_text(alloc, &driven.samples)?;
     let count = driven.samples.total();
     let outcome = outcome_line(alloc, message, answer, driven.cut)?;
     format!(in alloc; "{frame}\nsamples {count}\n{outcome}\n")

@@ -21,6 +21,7 @@ mod scenario;
 mod searching;
 mod seen;
 mod sequence;
+mod stage;
 mod tracing;
 mod trial;
 

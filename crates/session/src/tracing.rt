@@ -5,7 +5,7 @@ ghost use Rattle.session.specs.Known.{Knows};
 ghost use Rattle.session.specs.Replies.{reply_view};
 ghost use Rattle.session.specs.Reports.{telling_of, IsReport};
 ghost use Rattle.session.specs.RunReplies.{IsToldRun, IsRunText, IsRunReply};
-ghost use Rattle.session.specs.Scenarios.{IsOnItsBoard, IsFaultOf};
+ghost use Rattle.session.specs.Scenarios.{IsAtStart, IsOnItsBoard, IsFaultOf};
 ghost use Rattle.session.specs.Watching.{good_of, IsFoundIn};
 
 use crate::breach::{Reached, Watch};
@@ -14,16 +14,59 @@ use crate::law::accepted_runs_keep_rules;
 use crate::reply::{Reply, Status, refused};
 use crate::report::{Report, Telling};
 use crate::scenario::Scenario;
+use crate::stage::first_stage;
 use board::board_is_valid;
 use seq_program::program_is_valid;
-use simulator::{Ending, RunFault, Stage, runs_are_one, runs_go_on, start, steps_are_seen};
+use simulator::{Ending, RunFault, Stage, runs_are_one, runs_go_on, steps_are_seen};
 use std::alloc::{AllocError, Global};
 use table_check::accepted_runs_are_admitted;
 
-/// Tells each step of the run of a scenario, watches for the first rule that is broken, and gives
-/// how it ended and its ticks. An answer is read, done and told before the next is read, and of
-/// what it did only that is kept.
+/// Tells each step of the run of a scenario from its start, watches for the first rule that is
+/// broken, and gives the run's ticks. An answer is read, done and told before the next is read, and
+/// of what it did only that is kept.
 fn tell_steps(
+    alloc: Global,
+    scenario: &Scenario<'_>,
+    stage: &mut Stage,
+    report: &mut Report,
+    watch: &mut Watch,
+) -> Result<u64, RunFault>
+    requires on_board { IsOnItsBoard scenario.now }
+    requires at_start { IsAtStart scenario.now stage.old.machine }
+    requires empty { IsReport (telling_of report.old) [] report.old }
+    requires none { watch.old.found ≡ None }
+    requires knows { (b : AnyBoard) → Knows b [] (good_of watch.old) }
+    ensures told { IfOk result (λ ticks. IsToldRun (telling_of report.old) scenario.now report.new
+        stage.new.machine.ended ticks) }
+    ensures fault { IfErr result (λ e. e ≢ Memory → IsFaultOf scenario.now e) }
+    ensures found { IfOk result (λ ticks. IsFoundIn scenario.now watch.new.found) }
+    ensures found_before { IfErr result
+        (λ e. e ≢ Memory → IsFoundIn scenario.now watch.new.found) }
+{
+    let (board, program) = (&scenario.board, &scenario.program);
+    board_is_valid(board);
+    program_is_valid(program);
+    steps_are_seen();
+    accepted_runs_are_admitted();
+    accepted_runs_keep_rules();
+    runs_are_one();
+    runs_go_on();
+    let mut answers = scenario.answers.answers();
+    let mut index = 0;
+    let mut ticks = 0;
+    while let Some(answer) = answers.next(alloc)? {
+        watch.see(alloc, board, program, &stage.machine, &answer, index)?;
+        stage.step(alloc, board, program, &answer, index, ticks)?;
+        report.add(alloc, &stage.entry)?;
+        index += 1;
+        ticks += stage.entry.ticks;
+    }
+    Ok(ticks)
+}
+
+/// Starts the run of a scenario, tells its steps and watches them, and gives how it ended and its
+/// ticks.
+fn tell_run(
     alloc: Global,
     scenario: &Scenario<'_>,
     report: &mut Report,
@@ -40,27 +83,8 @@ fn tell_steps(
     ensures found_before { IfErr result
         (λ e. e ≢ Memory → IsFoundIn scenario.now watch.new.found) }
 {
-    let (board, program) = (&scenario.board, &scenario.program);
-    board_is_valid(board);
-    program_is_valid(program);
-    steps_are_seen();
-    accepted_runs_are_admitted();
-    accepted_runs_keep_rules();
-    runs_are_one();
-    runs_go_on();
-    let answered = &scenario.answers;
-    let machine = start(alloc, board, &answered.pages, &answered.protects)?;
-    let mut stage = Stage::new(alloc, machine);
-    let mut answers = answered.answers();
-    let mut index = 0;
-    let mut ticks = 0;
-    while let Some(answer) = answers.next(alloc)? {
-        watch.see(alloc, board, program, &stage.machine, &answer, index)?;
-        stage.step(alloc, board, program, &answer, index, ticks)?;
-        report.add(alloc, &stage.entry)?;
-        index += 1;
-        ticks += stage.entry.ticks;
-    }
+    let mut stage = first_stage(alloc, scenario)?;
+    let ticks = tell_steps(alloc, scenario, &mut stage, report, watch)?;
     Ok((stage.machine.ended, ticks))
 }
 
@@ -81,7 +105,7 @@ fn run_text(
         (λ e. e ≢ Memory → IsFoundIn scenario.now watch.new.found) }
 {
     let mut report = Report::new(alloc, telling)?;
-    let (ended, ticks) = tell_steps(alloc, scenario, &mut report, watch)?;
+    let (ended, ticks) = tell_run(alloc, scenario, &mut report, watch)?;
     Ok(report.whole(alloc, ended, ticks)?)
 }
 
