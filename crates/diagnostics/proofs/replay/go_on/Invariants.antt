@@ -1,7 +1,7 @@
 use Rattle.std.proofs.Common.{◌≤◌}
 use Rattle.simulator.specs.Faults.{most_ticks}
 use Rattle.simulator.specs.Machines.{IsMachine}
-use Rattle.diagnostics.proofs.replay.machine_after.Given as goal
+use Rattle.diagnostics.proofs.replay.go_on.Given as goal
 
 abbrev pub invariant-loop-index : goal.invariant-loop-index
 invariant-loop-index l = record {
