@@ -60,28 +60,6 @@ impl<'a> Judged<'a> {
     }
 }
 
-/// Where an instruction jumps to, if it may.
-fn jump_of(instr: &Instr) -> Option<usize> {
-    match instr {
-        Instr::Quick { otherwise, .. }
-        | Instr::Send { otherwise, .. }
-        | Instr::Receive { otherwise, .. }
-        | Instr::Write { otherwise, .. }
-        | Instr::Read { otherwise, .. }
-        | Instr::Call { otherwise, .. }
-        | Instr::BlockWrite { otherwise, .. }
-        | Instr::BlockRead { otherwise, .. }
-        | Instr::BlockCall { otherwise, .. }
-        | Instr::Alert { otherwise, .. } => Some(*otherwise),
-        Instr::IfAlert { jump }
-        | Instr::If { jump, .. }
-        | Instr::Above { jump, .. }
-        | Instr::Again { jump, .. }
-        | Instr::Goto { jump } => Some(*jump),
-        _ => None,
-    }
-}
-
 /// Whether an instruction may be followed by the next place's.
 fn goes_on(instr: &Instr) -> bool {
     !matches!(instr, Instr::Goto { .. } | Instr::End | Instr::Fail)
@@ -97,7 +75,7 @@ fn written_places(
     let Some(instr) = program.at(place) else {
         return Ok(places);
     };
-    if let Some(jump) = jump_of(instr) {
+    if let Some(jump) = instr.jump() {
         places.push(jump)?;
     }
     if goes_on(instr) {

@@ -3,40 +3,15 @@
 ghost use Rattle.std.specs.Prelude.{◌≡◌, ◌<◌, ◌↔◌, IsTrue, IfSome};
 ghost use Rattle.fact_search.specs.Forward.{IsForward};
 ghost use Rattle.fact_search.specs.Searching.{jump_at};
-ghost use Rattle.seq_program.specs.Valid.{jump_in};
 
-use seq_program::{Instr, Program};
-
-/// Where an instruction may jump to.
-fn jump_in(instr: &Instr) -> Option<usize>
-    ensures { result ≡ jump_in instr.now }
-{
-    match instr {
-        Instr::Quick { otherwise, .. }
-        | Instr::Send { otherwise, .. }
-        | Instr::Receive { otherwise, .. }
-        | Instr::Write { otherwise, .. }
-        | Instr::Read { otherwise, .. }
-        | Instr::Call { otherwise, .. }
-        | Instr::BlockWrite { otherwise, .. }
-        | Instr::BlockRead { otherwise, .. }
-        | Instr::BlockCall { otherwise, .. }
-        | Instr::Alert { otherwise, .. } => Some(*otherwise),
-        Instr::IfAlert { jump }
-        | Instr::If { jump, .. }
-        | Instr::Above { jump, .. }
-        | Instr::Again { jump, .. }
-        | Instr::Goto { jump } => Some(*jump),
-        _ => None,
-    }
-}
+use seq_program::Program;
 
 /// Where the instruction of a place may jump to.
 fn jump_at(program: &Program, place: usize) -> Option<usize>
     ensures { result ≡ jump_at program.now place }
 {
     match program.at(place) {
-        Some(instr) => jump_in(instr),
+        Some(instr) => instr.jump(),
         None => None,
     }
 }

@@ -33,7 +33,7 @@ IsShapedByPart b row =
     × (length row.pages.items ≡ length b.targets)
     × (length row.protects.items ≡ length b.targets)
     × EachTarget b (HasSets (row_view row))
-    × ((d : ℕ) → length b.rails ≤ d → IsTrue (rails_in row.good d) → ⊥)
+    × ((d : ℕ) → IsTrue (rails_in row.good d) → d < length b.rails)
     × All (λ s. (s.lo ≤ s.hi) × (s.hi < 65536)) row.regs
     × All (IsSource b) row.sources
     × All (λ s. (s.lo ≤ s.hi) × (s.hi < 65536)) row.counters

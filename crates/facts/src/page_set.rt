@@ -1,6 +1,6 @@
-ghost use Rattle.std.specs.Prelude.{◌≡◌, ◌<◌, ◌&&◌, ◌↔◌, ℕ, IsTrue, IfOk, option_map};
+ghost use Rattle.std.specs.Prelude.{◌≡◌, ◌<◌, ◌&&◌, ◌↔◌, IsTrue, IfOk, option_map};
 ghost use Rattle.board.specs.Valid.{is_page_value};
-ghost use Rattle.facts.specs.Sets.{is_page, page_bit, pages_in, set_of};
+ghost use Rattle.facts.specs.Sets.{is_page, page_bit, pages_in, set_of, HasValue};
 
 use crate::byte_set::{ByteSet, set_of};
 use crate::mask::{has_all, has_place, lowest, with_place, without_place};
@@ -62,8 +62,8 @@ impl PageSet {
     }
 
     /// Whether some value is in the set.
-    pub(crate) fn has_some(&self) -> bool
-        ensures { IsTrue result ↔ ((v : ℕ) × IsTrue (pages_in self.now v)) }
+    pub fn has_some(&self) -> bool
+        ensures { IsTrue result ↔ HasValue (pages_in self.now) }
     {
         self.bits != 0
     }

@@ -1,5 +1,5 @@
-ghost use Rattle.std.specs.Prelude.{◌≡◌, ◌<◌, IsTrue, IfOk, option_map};
-ghost use Rattle.facts.specs.Sets.{is_protect, protect_bit, protects_in, set_of};
+ghost use Rattle.std.specs.Prelude.{◌≡◌, ◌<◌, ◌↔◌, ◌||◌, IsTrue, IfOk, option_map};
+ghost use Rattle.facts.specs.Sets.{is_protect, protect_bit, protects_in, set_of, HasValue};
 
 use crate::byte_set::{ByteSet, set_of};
 use crate::mask::{has_all, has_place, with_place, without_place};
@@ -51,6 +51,20 @@ impl ProtectSet {
         ensures { IfOk result (λ s. option_map protects_in s ≡ set_of is_protect values.now) }
     {
         Ok(set_of(values))
+    }
+
+    /// Whether some value is in the set.
+    pub fn has_some(&self) -> bool
+        ensures { IsTrue result ↔ HasValue (protects_in self.now) }
+    {
+        self.has_one_of_four()
+    }
+
+    fn has_one_of_four(&self) -> bool
+        ensures { result ≡ (protects_in self.now 0x00 || protects_in self.now 0x20
+            || protects_in self.now 0x40 || protects_in self.now 0x80) }
+    {
+        self.contains(0x00) || self.contains(0x20) || self.contains(0x40) || self.contains(0x80)
     }
 
     /// Whether a value is in the set.

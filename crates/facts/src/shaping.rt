@@ -1,9 +1,9 @@
-//! Whether a row is one of the board.
+//! Whether a row is one of the board, and its parts are.
 
-ghost use Rattle.std.specs.Prelude.{◌≡◌, ◌<◌, ◌≤◌, ◌↔◌, ◌||◌, ℕ, IsTrue, All, length};
+ghost use Rattle.std.specs.Prelude.{◌≡◌, ◌<◌, ◌≤◌, ◌↔◌, ℕ, IsTrue, All, length};
 ghost use Rattle.board.specs.Valid.{is_page_value};
 ghost use Rattle.pmbus_table.specs.Protect.{is_protection};
-ghost use Rattle.facts.specs.Sets.{rails_in};
+ghost use Rattle.facts.specs.Sets.{rails_in, HasValue};
 ghost use Rattle.facts.specs.Rows.{row_view, set_at, IsSource, IsSetOf, IsRow, most_ticks};
 ghost use Rattle.facts.specs.Shapes.{IsSizedRow, EachTarget, HasSets, IsShapedByPart};
 
@@ -45,9 +45,40 @@ pub(crate) fn has_none_from(good: GoodSet, first: u8) -> bool
     true
 }
 
+/// Whether no rail that the board hasn't is in the set.
+fn has_none_beyond(board: &Board, good: GoodSet) -> bool
+    ensures { IsTrue result
+        ↔ ((d : ℕ) → length board.now.rails ≤ d → IsTrue (rails_in good d) → ⊥) }
+{
+    has_none_from(good, board.rails().len() as u8)
+}
+
+impl GoodSet {
+    /// Whether all rails of the set are rails of the board.
+    pub fn is_of(&self, board: &Board) -> bool
+        ensures { IsTrue result
+            ↔ ((d : ℕ) → IsTrue (rails_in self.now d) → d < length board.now.rails) }
+    {
+        has_none_beyond(board, *self)
+    }
+}
+
+impl Source {
+    /// Whether what it names is a rail or a target of the board.
+    pub fn is_of(&self, board: &Board) -> bool
+        ensures { IsTrue result ↔ IsSource board.now self.now }
+    {
+        match self {
+            Source::None => true,
+            Source::Status(rail) => *rail < board.rails().len(),
+            Source::Page(target) | Source::Protect(target) => *target < board.targets().len(),
+        }
+    }
+}
+
 /// Whether a target may store some value in PAGE.
 fn has_some_page(row: &Row, target: usize) -> bool
-    ensures { IsTrue result ↔ ((v : ℕ) × IsTrue (set_at (row_view row.now).pages target v)) }
+    ensures { IsTrue result ↔ HasValue (set_at (row_view row.now).pages target) }
 {
     pages_at(row, target).has_some()
 }
@@ -60,20 +91,15 @@ fn has_pages_below(row: &Row, target: usize, pages: u8) -> bool
     PageSet::values_of(pages).covers(&pages_at(row, target))
 }
 
-/// Whether a target may store one of the four values of WRITE_PROTECT.
-fn has_one_of_four(row: &Row, target: usize) -> bool
-    ensures { result ≡ (set_at (row_view row.now).protects target 0x00
-        || set_at (row_view row.now).protects target 0x20
-        || set_at (row_view row.now).protects target 0x40
-        || set_at (row_view row.now).protects target 0x80) }
+/// Whether a target may store some value in WRITE_PROTECT.
+fn has_some_protect(row: &Row, target: usize) -> bool
+    ensures { IsTrue result ↔ HasValue (set_at (row_view row.now).protects target) }
 {
-    has_protect(row, target, 0x00)
-        || has_protect(row, target, 0x20)
-        || has_protect(row, target, 0x40)
-        || has_protect(row, target, 0x80)
+    protects_at(row, target).has_some()
 }
 
 /// Whether what a target may store in PAGE is a set of its pages' values.
+#[tactic(auto, unfolding(crate::specs::Sets::HasValue))]
 fn has_page_set(row: &Row, index: usize, target: &Target) -> bool
     ensures { IsTrue result ↔ IsSetOf (λ v. IsTrue (is_page_value target.now.pages v))
         (set_at (row_view row.now).pages index) }
@@ -86,7 +112,7 @@ fn has_protect_set(row: &Row, index: usize) -> bool
     ensures { IsTrue result ↔ IsSetOf (λ v. IsTrue (is_protection v))
         (set_at (row_view row.now).protects index) }
 {
-    has_one_of_four(row, index)
+    has_some_protect(row, index)
 }
 
 /// Whether both sets of a target are sets of its values.
@@ -113,23 +139,11 @@ fn is_sized(row: &Row) -> bool
         && counts(&row.coeffs, 4)
 }
 
-/// Whether a source names a rail or a target of the board.
-fn is_source(board: &Board, source: &Source) -> bool
-    ensures { IsTrue result ↔ IsSource board.now source.now }
-{
-    match source {
-        Source::None => true,
-        Source::Status(rail) => *rail < board.rails().len(),
-        Source::Page(target) => *target < board.targets().len(),
-        Source::Protect(target) => *target < board.targets().len(),
-    }
-}
-
 /// Whether each source is one of the board.
 fn are_sources(board: &Board, sources: &[Source]) -> bool
     ensures { IsTrue result ↔ All (IsSource board.now) sources.now }
 {
-    sources.iter().all(|source| is_source(board, source))
+    sources.iter().all(|source| source.is_of(board))
 }
 
 /// Whether each span has a number.
@@ -165,14 +179,6 @@ fn has_all_sets(board: &Board, row: &Row) -> bool
     true
 }
 
-/// Whether all rails that are good are rails of the board.
-fn has_rails(board: &Board, row: &Row) -> bool
-    ensures { IsTrue result ↔ ((d : ℕ) → length board.now.rails ≤ d
-        → IsTrue (rails_in row.now.good d) → ⊥) }
-{
-    has_none_from(row.good, board.rails().len() as u8)
-}
-
 /// Whether each part of a row is one of the board.
 fn is_shaped_by_part(board: &Board, row: &Row) -> bool
     ensures { IsTrue result ↔ IsShapedByPart board.now row.now }
@@ -181,7 +187,7 @@ fn is_shaped_by_part(board: &Board, row: &Row) -> bool
         && row.pages.len() == board.targets().len()
         && row.protects.len() == board.targets().len()
         && has_all_sets(board, row)
-        && has_rails(board, row)
+        && row.good.is_of(board)
         && are_spans(&row.regs)
         && are_sources(board, &row.sources)
         && are_spans(&row.counters)

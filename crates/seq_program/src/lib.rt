@@ -5,6 +5,7 @@ mod command;
 mod fault;
 mod instr;
 mod jump_line;
+mod jumps;
 mod labels;
 mod law;
 mod line;

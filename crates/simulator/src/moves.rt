@@ -1,36 +1,11 @@
 //! Where an instruction leads, and what it does to registers and counters.
 
 ghost use Rattle.std.specs.Prelude.{◌≡◌, ◌<◌, ◌+◌, if◌then◌else◌};
-ghost use Rattle.seq_program.specs.Valid.{jump_in};
 ghost use Rattle.simulator.specs.Moves.{result_in, after_message, silently};
 
 use crate::machine::{Ending, Machine};
 use seq_program::{Instr, Register};
 use targets::Outcome;
-
-/// The place to which a message leads that isn't done.
-fn jump_in(instr: &Instr) -> Option<usize>
-    ensures { result ≡ jump_in instr.now }
-{
-    match instr {
-        Instr::Quick { otherwise, .. }
-        | Instr::Send { otherwise, .. }
-        | Instr::Receive { otherwise, .. }
-        | Instr::Write { otherwise, .. }
-        | Instr::Read { otherwise, .. }
-        | Instr::Call { otherwise, .. }
-        | Instr::BlockWrite { otherwise, .. }
-        | Instr::BlockRead { otherwise, .. }
-        | Instr::BlockCall { otherwise, .. }
-        | Instr::Alert { otherwise, .. } => Some(*otherwise),
-        Instr::IfAlert { jump }
-        | Instr::If { jump, .. }
-        | Instr::Above { jump, .. }
-        | Instr::Again { jump, .. }
-        | Instr::Goto { jump } => Some(*jump),
-        _ => None,
-    }
-}
 
 /// The register that what is read goes to.
 fn result_in(instr: &Instr) -> Option<Register>
@@ -61,7 +36,7 @@ pub(crate) fn after_message(instr: &Instr, outcome: Outcome, machine: &mut Machi
             machine.place += 1;
         }
         Outcome::NotAcknowledged | Outcome::TimedOut => {
-            machine.place = jump_in(instr).unwrap_or(machine.place);
+            machine.place = instr.jump().unwrap_or(machine.place);
         }
     }
 }

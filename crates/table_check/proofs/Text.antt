@@ -1,5 +1,4 @@
 -- Tables and their texts.
-pub mod Sets
 pub mod WritableRows
 pub mod Values
 pub mod Options

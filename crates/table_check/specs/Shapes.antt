@@ -1,19 +1,16 @@
 -- Rows of the code that can be written, part by part. No public contract cites this: `Writable`
 -- says what is asked.
-use Rattle.std.specs.Prelude.{◌≡◌, ◌≤◌, ℕ, length, All, IsTrue, Option, IfSome, option_map}
+use Rattle.std.specs.Prelude.{◌≡◌, ◌<◌, ℕ, length, All, IsTrue, Option, IfSome, option_map}
 use Rattle.board.specs.Boards.{Board}
-use Rattle.facts.specs.Sets.{pages_in, protects_in, rails_in}
+use Rattle.facts.specs.Sets.{pages_in, protects_in, rails_in, HasValue}
 use Rattle.facts.specs.Rows.{IsSource, row_view}
 use Rattle.facts.specs.declared.row.Row.{Row as CodeRow}
-use Rattle.table_check.specs.Writable.{HasValue, IsShapedRow}
+use Rattle.table_check.specs.Writable.{IsShapedRow}
 
 abbrev pub HasCounts : CodeRow → Type 0
 HasCounts row =
     (length row.regs ≡ 8) × (length row.sources ≡ 8) × (length row.counters ≡ 4)
     × (length row.coeffs ≡ 4)
-
-abbrev pub HasNoRailFrom : ℕ → ℕ → Type 0
-HasNoRailFrom good first = (d : ℕ) → first ≤ d → IsTrue (rails_in good d) → ⊥
 
 abbrev pub IsShapedByPart : Board → CodeRow → Type 0
 IsShapedByPart b row =
@@ -22,7 +19,7 @@ IsShapedByPart b row =
     × All (λ s. HasValue (pages_in s)) row.pages.items
     × (length row.protects.items ≡ length b.targets)
     × All (λ s. HasValue (protects_in s)) row.protects.items
-    × HasNoRailFrom row.good (length b.rails)
+    × ((d : ℕ) → IsTrue (rails_in row.good d) → d < length b.rails)
     × All (IsSource b) row.sources
 
 abbrev pub IsShapedPlace : Board → Option CodeRow → Type 0

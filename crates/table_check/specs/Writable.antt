@@ -1,13 +1,10 @@
 -- Tables that can be written.
 use Rattle.std.specs.Prelude.{◌≡◌, ◌<◌, ◌^◌, ℕ, length, All, IsTrue, IfSome}
 use Rattle.board.specs.Boards.{Board}
-use Rattle.facts.specs.Sets.{Set, is_page, is_protect}
+use Rattle.facts.specs.Sets.{Set, HasValue, is_page, is_protect}
 use Rattle.facts.specs.Rows.{Row, IsSource}
 use Rattle.facts.specs.declared.span.Span.{Span}
 use Rattle.table_check.specs.Tables.{Table}
-
-unfoldable pub HasValue : Set → Type 0
-HasValue set = (v : ℕ) × IsTrue (set v)
 
 -- a nonempty set of each kind for each target, with rails and targets of the board
 pub record IsShapedRow (b : Board) (r : Row) : Type 0 where

@@ -9,8 +9,8 @@ mod ticks;
 use crate::boards::two_board;
 use crate::expected::same;
 use board::Board;
-use facts::{Part, Row, duty, edges};
-use known::{Counted, NOTHING, row_of};
+use facts::{Part, Row, Source, duty, edges};
+use known::{Counted, Known, NOTHING, row_of, rule_board};
 use seq_program::{Program, read_program};
 use std::alloc::{AllocError, Global};
 use std::test::*;
@@ -102,4 +102,32 @@ fn ways_of_a_counted_loop(rt: HostRuntime) {
         ways.as_deref(),
         Some([(1, 1, 0, 2), (3, 1, 0, 0)].as_slice()),
     );
+}
+
+/// Whether the first sets of a row have a value, and its good rails and first source are a board's.
+fn parts_are_of(board: &Board, row: &Row) -> Option<[bool; 4]> {
+    Some([
+        row.pages.first()?.has_some(),
+        row.protects.first()?.has_some(),
+        row.good.is_of(board),
+        row.sources[0].is_of(board),
+    ])
+}
+
+fn parts_on(alloc: Global, board: &Board, known: Known) -> Option<[bool; 4]> {
+    parts_are_of(board, &row_of(alloc, known, ((0, 0), 0, 0))?)
+}
+
+/// The same on a board with three rails.
+fn known_parts(alloc: Global, known: Known) -> Option<[bool; 4]> {
+    let board = rule_board(alloc).ok()?;
+    parts_on(alloc, &board, known)
+}
+
+#[test]
+fn parts_of_a_board(rt: HostRuntime) {
+    let last: Known = (&[0], &[0x80], &[2], (0, 0), Source::Status(2));
+    same(&rt, known_parts(rt.alloc(), last), Some([true; 4]));
+    let beyond: Known = (&[], &[], &[3], (0, 0), Source::Status(3));
+    same(&rt, known_parts(rt.alloc(), beyond), Some([false; 4]));
 }

@@ -141,9 +141,21 @@ fn compare_sent(rt: &impl Abort, alloc: Global, board: &Board, program: &Program
     same(rt, sends_more, false);
 }
 
+/// Where the instruction of a place jumps to.
+fn jump_at(program: &Program, place: usize) -> Option<usize> {
+    program.at(place)?.jump()
+}
+
+fn compare_jumps(rt: &impl Abort, program: &Program) {
+    same(rt, jump_at(program, 0), Some(15));
+    same(rt, jump_at(program, 5), Some(0));
+    same(rt, jump_at(program, 14), None);
+}
+
 fn compare_messages_on(rt: &impl Abort, alloc: Global, board: &Board) -> Option<()> {
     let program = read_program(alloc, board, MESSAGES).ok()?;
     compare_sent(rt, alloc, board, &program);
+    compare_jumps(rt, &program);
     all_have(rt, &program, &PARTS);
     same(rt, block_of(program.at(12)), Some(b"\x21"));
     Some(())

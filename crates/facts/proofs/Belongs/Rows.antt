@@ -1,9 +1,8 @@
 -- A row whose parts are of the board is a row of the board.
-use Rattle.std.proofs.Common.{◌≡◌, ℕ, zero, suc, ◌≤◌, ◌<◌, ◌↔◌, ◌∙◌, List, [], ◌∷◌, inl, inr}
+use Rattle.std.proofs.Common.{◌≡◌, ℕ, zero, suc, ◌≤◌, ◌<◌, ◌↔◌, ◌∙◌, List, [], ◌∷◌}
 use Rattle.std.proofs.Common.{arith, All, IsTrue, Bool, sym, refl, length, slice_get, Some}
 use Rattle.std.specs.Prelude.{slice_index_or}
 use Rattle.std.specs.List.{AllByRecursion}
-use Rattle.std.proofs.lemmas.Bool.{cases_lt}
 use Rattle.std.proofs.lemmas.List.{length-map}
 use Rattle.std.proofs.lemmas.List.Elements.{All-from_recursion}
 use Rattle.std.proofs.lemmas.Option.{slice_get_within}
@@ -50,10 +49,7 @@ shaped b row x iff = (to, from)
           pages = λ i d at. (h.3 i d at).0;
           protects = λ i lt.
               let d = target_at b.targets i lt in (h.3 i d.0 d.1).1;
-          good = λ d good. elim (cases_lt d (length b.rails)) [
-            | inl lt ↦ lt
-            | inr le ↦ absurd (h.4 d le good)
-          ];
+          good = h.4;
           reg_count = sized.0;
           regs = λ r lt. (regs r no_span (omega (arith, sized.0, lt))).0;
           reg_range = λ r lt. (regs r no_span (omega (arith, sized.0, lt))).1;
@@ -76,7 +72,7 @@ shaped b row x iff = (to, from)
           sym (length-map row.pages.items pages_in) ∙ h.page_sets,
           sym (length-map row.protects.items protects_in) ∙ h.protect_sets,
           (λ i d at. (h.pages i d at, h.protects i (slice_get_within b.targets i d at))),
-          (λ d le good. let lt = h.good d good in absurd (omega (arith, le, lt))),
+          h.good,
           all_by_index (λ (s : Span). (s.lo ≤ s.hi) × (s.hi < 65536)) row.regs no_span 8 h.reg_count
               (λ r lt. (h.regs r lt, h.reg_range r lt)),
           all_by_index (IsSource b) row.sources source.None 8 h.source_count h.sources,

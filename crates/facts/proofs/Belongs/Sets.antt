@@ -9,6 +9,7 @@ use Rattle.board.specs.Valid.{is_page_value}
 use Rattle.pmbus_table.specs.Protect.{is_protection}
 use Rattle.wires.specs.Bits.{bit}
 use Rattle.facts.specs.Sets.{Set, pages_in, protects_in, is_page, is_protect, page_bit, gains}
+use Rattle.facts.specs.Sets.{HasValue}
 use Rattle.facts.specs.SetLaws.{in_kind}
 use Rattle.facts.specs.Rows.{set_at, IsSetOf, SetCovers}
 use Rattle.facts.proofs.Belongs.EachTargets.{false_true}
@@ -62,33 +63,44 @@ put false false false false (inr (inl t)) = t
 put false false false false (inr (inr (inl t))) = t
 put false false false false (inr (inr (inr t))) = t
 
-pub protect_set : (xs : List ℕ) (i : ℕ) (x : Bool)
-    → (x ≡ (set_at (map protects_in xs) i 0 || set_at (map protects_in xs) i 32
-    || set_at (map protects_in xs) i 64 || set_at (map protects_in xs) i 128))
-    → IsTrue x ↔ IsSetOf (λ v. IsTrue (is_protection v)) (set_at (map protects_in xs) i)
-protect_set xs i x e = (to, λ h. from h)
+-- some value is in a set that has one of the four
+pub some_protect : (s : ℕ) (x : Bool)
+    → (x ≡ (protects_in s 0 || protects_in s 32 || protects_in s 64 || protects_in s 128))
+    → IsTrue x ↔ HasValue (protects_in s)
+unfolding HasValue
+some_protect s x e = (to, from)
   where
-    s : ℕ → Bool
-    s = set_at (map protects_in xs) i
-
-    to : IsTrue x → IsSetOf (λ v. IsTrue (is_protection v)) s
+    to : IsTrue x → HasValue (protects_in s)
     to t =
-        record {
-          some = pick (s 0) (s 32) (s 64) (s 128) ((v : ℕ) × IsTrue (s v))
-              (λ a. (0, a)) (λ a. (32, a)) (λ a. (64, a)) (λ a. (128, a)) (subst IsTrue e t);
-          each = λ v in'. value_of v (λ n. IsTrue (is_protection n)) (protect_at xs i v in')
-              refl refl refl refl;
-        }
+        pick (protects_in s 0) (protects_in s 32) (protects_in s 64) (protects_in s 128)
+        (HasValue (protects_in s))
+        (λ a. (0, a)) (λ a. (32, a)) (λ a. (64, a)) (λ a. (128, a)) (subst IsTrue e t)
 
-    from : IsSetOf (λ v. IsTrue (is_protection v)) s → IsTrue x
+    put_in : (IsTrue (protects_in s 0) ⊎ IsTrue (protects_in s 32) ⊎ IsTrue (protects_in s 64)
+        ⊎ IsTrue (protects_in s 128)) → IsTrue x
+    put_in h =
+        subst IsTrue (sym e)
+        (put (protects_in s 0) (protects_in s 32) (protects_in s 64) (protects_in s 128) h)
+
+    from : HasValue (protects_in s) → IsTrue x
     from h =
-        let p = h.some in
-        value_of p.0 (λ n. IsTrue (s n) → IsTrue x) (protect_at xs i p.0 p.1)
-        (λ a. subst IsTrue (sym e) (put (s 0) (s 32) (s 64) (s 128) (inl a)))
-        (λ a. subst IsTrue (sym e) (put (s 0) (s 32) (s 64) (s 128) (inr (inl a))))
-        (λ a. subst IsTrue (sym e) (put (s 0) (s 32) (s 64) (s 128) (inr (inr (inl a)))))
-        (λ a. subst IsTrue (sym e) (put (s 0) (s 32) (s 64) (s 128) (inr (inr (inr a)))))
-        p.1
+        value_of h.0 (λ n. IsTrue (protects_in s n) → IsTrue x) (in_kind _ _ h.1)
+        (λ a. put_in (inl a)) (λ a. put_in (inr (inl a))) (λ a. put_in (inr (inr (inl a))))
+        (λ a. put_in (inr (inr (inr a)))) h.1
+
+-- a set of protections has no other values
+pub protect_set : (xs : List ℕ) (i : ℕ) (x : Bool)
+    → IsTrue x ↔ HasValue (set_at (map protects_in xs) i)
+    → IsTrue x ↔ IsSetOf (λ v. IsTrue (is_protection v)) (set_at (map protects_in xs) i)
+unfolding HasValue
+protect_set xs i x some = (
+  λ t. record {
+    some = some.0 t;
+    each = λ v in'. value_of v (λ n. IsTrue (is_protection n)) (protect_at xs i v in')
+        refl refl refl refl;
+  },
+  λ h. some.1 h.some,
+)
 
 -- all values of a target with so many pages
 value_places : (pages v : ℕ)
@@ -152,9 +164,10 @@ not_zero : (n : ℕ) → n ≢ 0 → IsTrue (not (n == 0))
 not_zero n ne = grind (arith, nat_tests)
 
 pub has_some : (bits set : ℕ) → bits ≡ set → bits < 2 ^ 33
-    → IsTrue (not (bits == 0)) ↔ ((v : ℕ) × IsTrue (pages_in set v))
+    → IsTrue (not (bits == 0)) ↔ HasValue (pages_in set)
+unfolding HasValue
 has_some bits set same small =
-    subst (λ n. IsTrue (not (bits == 0)) ↔ ((v : ℕ) × IsTrue (pages_in n v))) same (
+    subst (λ n. IsTrue (not (bits == 0)) ↔ HasValue (pages_in n)) same (
       λ t. some_value bits small (isnt_zero bits t),
       λ k. not_zero bits (λ e. no_value bits k.0 e k.1),
     )

@@ -21,7 +21,7 @@ use Rattle.texts.specs.Words.{is_nonempty}
 use Rattle.board.specs.Boards.{Board}
 use Rattle.board.specs.Valid.{IsBoard}
 use Rattle.seq_program.specs.JoinedWords.{is_word_byte, is_word}
-use Rattle.facts.specs.Sets.{Set}
+use Rattle.facts.specs.Sets.{Set, HasValue}
 use Rattle.facts.specs.Rows.{Row, IsSource}
 use Rattle.facts.specs.declared.source.Source.{Source}
 use Rattle.facts.specs.declared.source.Source.TheVariants as source
@@ -31,7 +31,7 @@ use Rattle.table_check.specs.Lines.{Words, register_names, counter_names, name_a
 use Rattle.table_check.specs.Lines.{byte_words, rail_words, source_words, page_words, protect_words}
 use Rattle.table_check.specs.Lines.{register_words, counter_words, ticks_words}
 use Rattle.table_check.specs.Lines.{each_at, place_lines, lines_from, line_of}
-use Rattle.table_check.specs.Writable.{HasValue, IsWordSpan, IsWritable}
+use Rattle.table_check.specs.Writable.{IsWordSpan, IsWritable}
 use Rattle.table_check.specs.Passes.{parted}
 use Rattle.table_check.proofs.Text.SetWords.{members_in}
 use Rattle.table_check.proofs.Text.SpelledRows.{IsKnown}

@@ -12,11 +12,11 @@ use Rattle.std.proofs.lemmas.List.Sums.{passes_at_first}
 use Rattle.texts.specs.Hex.{pair_of, pair_text}
 use Rattle.board.specs.Boards.{Board, place_of_name}
 use Rattle.board.specs.Valid.{IsBoard}
-use Rattle.facts.specs.Sets.{Set, is_page, is_protect, is_rail}
+use Rattle.facts.specs.Sets.{Set, is_page, is_protect, is_rail, HasValue}
 use Rattle.facts.specs.declared.span.Span.{Span}
 use Rattle.table_check.specs.Lines.{Words, name_at, values_below}
 use Rattle.table_check.specs.Lines.{byte_words, page_words, protect_words, rail_words, good_words}
-use Rattle.table_check.specs.Writable.{HasValue, IsWordSpan}
+use Rattle.table_check.specs.Writable.{IsWordSpan}
 use Rattle.table_check.specs.Saying.{after_key, after_name, rail_named, page_set}
 use Rattle.table_check.specs.Saying.{protect_set, rail_set, some_pages, some_protects, page_said}
 use Rattle.table_check.specs.Saying.{protect_said, good_said, word_of, number_of, span_of}

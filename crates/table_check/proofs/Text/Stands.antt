@@ -10,7 +10,7 @@ use Rattle.std.proofs.lemmas.List.{append_assoc, append-nil, length-map}
 use Rattle.std.proofs.lemmas.List.Elements.{All-from_recursion}
 use Rattle.board.specs.Boards.{Board}
 use Rattle.board.specs.Valid.{IsBoard}
-use Rattle.facts.specs.Sets.{Set, is_page, is_protect}
+use Rattle.facts.specs.Sets.{Set, is_page, is_protect, HasValue}
 use Rattle.facts.specs.Rows.{Row, IsSource}
 use Rattle.facts.specs.declared.source.Source.{Source}
 use Rattle.facts.specs.declared.span.Span.{Span}
@@ -18,7 +18,7 @@ use Rattle.table_check.specs.Tables.{Table}
 use Rattle.table_check.specs.Lines.{Words, each_at, page_words, protect_words, good_words}
 use Rattle.table_check.specs.Lines.{register_words, counter_words, ticks_words, head_words}
 use Rattle.table_check.specs.Lines.{place_lines, lines_from}
-use Rattle.table_check.specs.Writable.{HasValue, IsShapedRow, IsTypedRow, IsOfKind, IsWordSpan}
+use Rattle.table_check.specs.Writable.{IsShapedRow, IsTypedRow, IsOfKind, IsWordSpan}
 use Rattle.table_check.specs.Saying.{ticks_said, head_said}
 use Rattle.table_check.specs.Passes.{Part, RowsSoFar, no_part, is_full, row_from, finished}
 use Rattle.table_check.specs.Passes.{with_head}

@@ -9,7 +9,7 @@ use Rattle.std.proofs.lemmas.Bool.{eqb-true}
 use Rattle.texts.specs.Reading.{◌>>=◌}
 use Rattle.board.specs.Boards.{Board}
 use Rattle.board.specs.Valid.{IsBoard}
-use Rattle.facts.specs.Sets.{Set, empty, only, is_page, is_protect}
+use Rattle.facts.specs.Sets.{Set, empty, only, is_page, is_protect, HasValue}
 use Rattle.facts.specs.Rows.{Row}
 use Rattle.facts.specs.declared.source.Source.{Source}
 use Rattle.facts.specs.declared.source.Source.TheVariants as source
@@ -19,7 +19,7 @@ use Rattle.table_check.specs.declared.fault.TableFault.TheVariants.{BadLine}
 use Rattle.table_check.specs.Tables.{Table}
 use Rattle.table_check.specs.Lines.{Words, each_at, page_words, protect_words, good_words}
 use Rattle.table_check.specs.Lines.{register_words, counter_words, ticks_words, lines_from, line_of}
-use Rattle.table_check.specs.Writable.{HasValue, IsWordSpan}
+use Rattle.table_check.specs.Writable.{IsWordSpan}
 use Rattle.table_check.specs.Texts.{Lines, Begins, IsWrongAt, IsFirstBadLine}
 use Rattle.table_check.specs.Passes.{Part, RowsSoFar, no_pass, parted, row_from, after_lines}
 use Rattle.table_check.specs.Passes.{whole_of}

@@ -9,7 +9,7 @@ use Rattle.std.proofs.lemmas.List.{append_assoc, append-nil}
 use Rattle.std.proofs.lemmas.List.Elements.{recursion_from_All}
 use Rattle.board.specs.Boards.{Board}
 use Rattle.board.specs.Valid.{IsBoard}
-use Rattle.facts.specs.Sets.{Set, is_page, is_protect, is_rail}
+use Rattle.facts.specs.Sets.{Set, is_page, is_protect, is_rail, HasValue}
 use Rattle.facts.specs.Rows.{Row, IsSource}
 use Rattle.facts.specs.declared.source.Source.{Source}
 use Rattle.facts.specs.declared.span.Span.{Span}
@@ -17,7 +17,7 @@ use Rattle.table_check.specs.Tables.{Table}
 use Rattle.table_check.specs.Lines.{Words}
 use Rattle.table_check.specs.Lines.{head_words}
 use Rattle.table_check.specs.Lines.{place_lines, lines_from}
-use Rattle.table_check.specs.Writable.{HasValue, IsShapedRow, IsTypedRow, IsOfKind, IsWordSpan}
+use Rattle.table_check.specs.Writable.{IsShapedRow, IsTypedRow, IsOfKind, IsWordSpan}
 use Rattle.table_check.specs.Writable.{IsWritable}
 use Rattle.table_check.specs.Passes.{RowsSoFar, no_part, no_pass, row_from, with_head}
 use Rattle.table_check.proofs.Text.Known.{KnownOfNumbers}

@@ -1,17 +1,16 @@
 -- Rows whose parts can be written are rows that can be written.
 use Rattle.std.proofs.Common.{◌∙◌, ◌↔◌, List, [], ◌∷◌, Bool, Option, All, IsTrue}
-use Rattle.std.proofs.Common.{IfSome, length, map, option_map, sym, inl, inr, arith}
-use Rattle.std.proofs.lemmas.Bool.{cases_lt}
+use Rattle.std.proofs.Common.{IfSome, map, option_map, sym}
 use Rattle.std.proofs.lemmas.List.{length-map}
 use Rattle.std.specs.List.{AllByRecursion}
 use Rattle.std.proofs.lemmas.List.Elements.{All-map, All-from_recursion}
 use Rattle.std.proofs.lemmas.List.Elements.{recursion_from_All}
 use Rattle.board.specs.Boards.{Board}
-use Rattle.facts.specs.Sets.{pages_in, protects_in}
+use Rattle.facts.specs.Sets.{pages_in, protects_in, HasValue}
 use Rattle.facts.specs.Rows.{row_view}
 use Rattle.facts.specs.declared.row.Row.{Row as CodeRow}
 use Rattle.table_check.specs.Tables.{rows_view}
-use Rattle.table_check.specs.Writable.{HasValue, IsShapedRow, IsShaped}
+use Rattle.table_check.specs.Writable.{IsShapedRow, IsShaped}
 use Rattle.table_check.specs.Shapes.{IsShapedByPart, IsShapedPlace}
 
 -- what holds of all images holds of each item's image
@@ -37,10 +36,7 @@ shaped_row b row x iff = (to, from)
           pages = All-map HasValue pages_in row.pages.items h.2;
           protect_sets = length-map row.protects.items protects_in ∙ h.3;
           protects = All-map HasValue protects_in row.protects.items h.4;
-          good = λ d good. elim (cases_lt d (length b.rails)) [
-            | inl lt ↦ lt
-            | inr le ↦ absurd (h.5 d le good)
-          ];
+          good = h.5;
           reg_count = h.0.0;
           source_count = h.0.1;
           sources = h.6;
@@ -56,7 +52,7 @@ shaped_row b row x iff = (to, from)
           All-from_map HasValue pages_in row.pages.items h.pages,
           sym (length-map row.protects.items protects_in) ∙ h.protect_sets,
           All-from_map HasValue protects_in row.protects.items h.protects,
-          (λ d le good. let lt = h.good d good in absurd (omega (arith, le, lt))),
+          h.good,
           h.sources,
         )
 

@@ -3,5 +3,5 @@ use Rattle.facts.proofs.shaping.has_protect_set.Goals as goal
 
 pub returns : goal.returns
 returns c =
-    protect_set c.args.row.now.protects.items c.args.index c.has_one_of_four.result
-    c.has_one_of_four.ensures
+    protect_set c.args.row.now.protects.items c.args.index c.has_some_protect.result
+    c.has_some_protect.ensures
