@@ -1,5 +1,5 @@
 use crate::expected::{holds, same};
-use bit_bus::{Driven, Plan, Slot, drive, is_cut};
+use bit_bus::{Driven, Plan, Slot, drive, drive_onto, is_cut};
 use std::alloc::{AllocError, Global};
 use std::process::Abort;
 use std::test::*;
@@ -129,4 +129,17 @@ fn all_end_high(rt: &impl Abort, alloc: Global, rows: &[Held]) -> Option<()> {
 #[test]
 fn at_the_timeout(rt: HostRuntime) {
     same(&rt, all_end_high(&rt, rt.alloc(), &HOLDS), Some(()));
+}
+
+/// How many samples nine bits and a STOP take, and the slot that is cut.
+fn driven_onto(alloc: Global) -> Option<(u64, Option<usize>)> {
+    let plan = plan_of(alloc, 9, &[]).ok()??;
+    let mut samples = Runs::new(alloc);
+    let cut = drive_onto(&mut samples, &plan, false).ok()?;
+    Some((samples.total(), cut))
+}
+
+#[test]
+fn a_byte_is_driven_onto_samples(rt: HostRuntime) {
+    same(&rt, driven_onto(rt.alloc()), Some((22, None)));
 }

@@ -1,7 +1,11 @@
 //! Answer lines, and the sections of a bundle.
 
 use crate::expected::{holds, same};
-use bundles::{Answers, BundleFault, answer_line_of, answers_in, is_counted, read_bundle};
+use bundles::{
+    Answers, BundleFault, Command, Header, Section, answer_line_of, answers_in, exchange_in,
+    is_counted, read_bundle,
+};
+use session::section_text;
 use std::alloc::{AllocError, Global};
 use std::process::Abort;
 use std::test::*;
@@ -282,4 +286,51 @@ fn all_have_faults(
 #[test]
 fn bad_sections(rt: HostRuntime) {
     same(&rt, all_have_faults(&rt, rt.alloc(), &BAD_SECTIONS), Ok(()));
+}
+
+fn headers_of(line: &str) -> Option<&'static [Header]> {
+    Some(Command::of_line(line)?.headers())
+}
+
+#[test]
+fn sections_of_a_command(rt: HostRuntime) {
+    let wanted = [Header::Board, Header::Program].as_slice();
+    same(&rt, headers_of("%verify"), Some(wanted));
+    same(&rt, headers_of("%stop"), None);
+}
+
+/// A Send Byte of the code 03h, CLEAR_FAULTS, to the target at address 0x40.
+const SEND: &str = "%frame\n%message\n# faults\nform=send address=40 code=03\n";
+
+/// The address and the code of a section's message.
+fn message_in(alloc: Global, section: &Section<'_>) -> Option<(u8, u8)> {
+    let exchange = exchange_in(alloc, section).ok()?;
+    Some((exchange.message.address, exchange.message.code))
+}
+
+fn sent(alloc: Global) -> Option<(u8, u8)> {
+    let bundle = read_bundle(alloc, SEND).ok()?;
+    message_in(alloc, bundle.sections.first()?)
+}
+
+/// The text of a section behind its first line.
+fn text_below(alloc: Global, section: &Section<'_>) -> Option<String> {
+    let (_, below) = section.split_first()?;
+    section_text(alloc, &below).ok()
+}
+
+fn sent_below(alloc: Global) -> Option<String> {
+    let bundle = read_bundle(alloc, SEND).ok()?;
+    text_below(alloc, bundle.sections.first()?)
+}
+
+#[test]
+fn a_section_of_a_message(rt: HostRuntime) {
+    same(&rt, sent(rt.alloc()), Some((0x40, 0x03)));
+    let below = sent_below(rt.alloc());
+    same(
+        &rt,
+        below.as_deref(),
+        Some("form=send address=40 code=03\n"),
+    );
 }

@@ -131,3 +131,21 @@ fn parts_of_a_board(rt: HostRuntime) {
     let beyond: Known = (&[], &[], &[3], (0, 0), Source::Status(3));
     same(&rt, known_parts(rt.alloc(), beyond), Some([false; 4]));
 }
+
+/// Whether nothing known, but for what r7 equals, is a start of the board.
+fn is_start(alloc: Global, board: &Board, last: Source) -> Option<bool> {
+    let mut row = row_of(alloc, NOTHING, ((0, 0), 0, 0))?;
+    row.sources[7] = last;
+    Some(row.holds_starts(board))
+}
+
+fn starts_with(alloc: Global, last: Source) -> Option<bool> {
+    let board = rule_board(alloc).ok()?;
+    is_start(alloc, &board, last)
+}
+
+#[test]
+fn starts_of_a_board(rt: HostRuntime) {
+    same(&rt, starts_with(rt.alloc(), Source::None), Some(true));
+    same(&rt, starts_with(rt.alloc(), Source::Page(1)), Some(false));
+}

@@ -8,7 +8,9 @@ use fact_search::{FindFault, find};
 use seq_program::{Program, read_program};
 use std::alloc::Global;
 use std::test::*;
-use table_check::{Verdict, check, shaped, tables_are_judged_by_place};
+use table_check::{
+    Table, Verdict, check, read_table, shaped, tables_are_judged_by_place, write_table,
+};
 
 /// How many rows a table that is found has, whether it belongs to the board, and its verdict.
 type Found = (usize, bool, Verdict);
@@ -45,4 +47,51 @@ fn faults_of_the_search(rt: HostRuntime) {
     let memory = FindFault::Memory;
     same(&rt, (memory.number(), memory.name()), (1, "Memory"));
     same(&rt, memory.place(), None);
+}
+
+/// What is known where a program of one place begins, and that it takes a tick.
+const ONE_ROW: &str = "row 0
+page a 00
+page b 00
+protect a 00
+protect b 00
+good
+reg r0 0 0 none
+reg r1 0 0 none
+reg r2 0 0 none
+reg r3 0 0 none
+reg r4 0 0 none
+reg r5 0 0 none
+reg r6 0 0 none
+reg r7 0 0 none
+counter c0 0 0
+counter c1 0 0
+counter c2 0 0
+counter c3 0 0
+ticks 1 0 0 0 0
+";
+
+fn written(alloc: Global, board: &Board, table: &Table) -> Option<String> {
+    if shaped(board, table) {
+        write_table(alloc, board, table).ok()
+    } else {
+        None
+    }
+}
+
+fn written_on(alloc: Global, board: &Board) -> Option<String> {
+    let table = read_table(alloc, board, ONE_ROW).ok()?;
+    written(alloc, board, &table)
+}
+
+/// The text of a table that was read.
+fn written_again(alloc: Global) -> Option<String> {
+    let board = two_board(alloc).ok()?;
+    written_on(alloc, &board)
+}
+
+#[test]
+fn a_table_is_written_as_it_was_read(rt: HostRuntime) {
+    let text = written_again(rt.alloc());
+    same(&rt, text.as_deref(), Some(ONE_ROW));
 }

@@ -1,7 +1,10 @@
 use crate::boards::two_board;
 use crate::expected::same;
 use board::{Board, BoardFault};
-use seq_program::{Instr, Program, ProgramFault, message_of, read_program};
+use seq_program::{
+    Instr, Program, ProgramFault, Width, command_in, counter_of, direction_of, label_in,
+    message_of, number_within, read_program, register_of, sized_in, without_comment,
+};
 use smbus::Form;
 use std::alloc::Global;
 use std::process::Abort;
@@ -252,4 +255,45 @@ fn numbers_and_names_of_faults(rt: HostRuntime) {
     let fault = ProgramFault::UnknownWord(2);
     same(&rt, (fault.number(), fault.line()), (2, Some(2)));
     same(&rt, fault.name(), "UnknownWord");
+}
+
+fn register_in(word: &str) -> Option<usize> {
+    Some(register_of(word)?.index())
+}
+
+fn counter_in(word: &str) -> Option<usize> {
+    Some(counter_of(word)?.index())
+}
+
+#[test]
+fn operands(rt: HostRuntime) {
+    same(&rt, (register_in("r7"), register_in("r8")), (Some(7), None));
+    same(&rt, (counter_in("c3"), counter_in("c4")), (Some(3), None));
+    same(&rt, direction_of("r"), Some(true));
+    same(&rt, number_within(1, 1000, "0x3e8"), Some(1000));
+    same(&rt, number_within(1, 1000, "1001"), None);
+}
+
+fn code_in(word: &str) -> Option<u8> {
+    Some(command_in(Form::WriteByte, word)?.code())
+}
+
+fn size_in(word: &str) -> Option<(u8, Width)> {
+    let (command, width) = sized_in(Form::WriteByte, Form::WriteWord, word)?;
+    Some((command.code(), width))
+}
+
+#[test]
+fn commands(rt: HostRuntime) {
+    same(&rt, code_in("WRITE_PROTECT"), Some(0x10));
+    same(&rt, code_in("VOUT_COMMAND"), None);
+    same(&rt, size_in("VOUT_COMMAND"), Some((0x21, Width::Word)));
+    same(&rt, size_in("D0b"), Some((0xD0, Width::Byte)));
+}
+
+#[test]
+fn labels_and_comments(rt: HostRuntime) {
+    same(&rt, without_comment("end # the last"), "end ");
+    same(&rt, label_in(&["again:"]), Some("again"));
+    same(&rt, label_in(&["again:", "end"]), None);
 }

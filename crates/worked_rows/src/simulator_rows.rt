@@ -6,11 +6,11 @@ ghost use Rattle.seq_program.specs.Valid.{IsOnBoard};
 
 use crate::boards::alert_board;
 use crate::devices::SlowWriter;
-use crate::expected::same;
+use crate::expected::{same, says};
 use crate::runs::{ASKED, ASKING, NOTHING, answer_of, answers_of, trace_of};
 use board::Board;
 use seq_program::{Program, program_is_valid, read_program};
-use simulator::{Entry, RunFault, Trace, WriteFault, start, step, write_trace};
+use simulator::{Ending, Entry, RunFault, Trace, WriteFault, last_line, start, step, write_trace};
 use smbus::Answer;
 use std::alloc::{AllocError, Global};
 use std::process::Abort;
@@ -194,4 +194,14 @@ fn all_are_written(rt: &impl Abort, alloc: Global, rows: &[(usize, bool)]) -> Op
 #[test]
 fn writer_fails_on_the_way(rt: HostRuntime) {
     same(&rt, all_are_written(&rt, rt.alloc(), &WRITERS), Some(()));
+}
+
+#[test]
+fn the_last_line_of_a_trace(rt: HostRuntime) {
+    let alloc = rt.alloc();
+    says(
+        &rt,
+        last_line(alloc, Ending::Failed, 108),
+        "fail ticks 108\n",
+    );
 }
