@@ -8,34 +8,36 @@ use facts::{Part, Row, Source, Span};
 use seq_program::Instr;
 use std::alloc::{AllocError, Global};
 
-/// The first target whose pages aren't covered.
-fn pages_detail<'a>(board: &'a Board, known: &'a Row, claimed: &'a Row) -> Option<Sentence<'a>> {
-    for (target, (pages, more)) in claimed.pages.iter().zip(&known.pages).enumerate() {
-        if !pages.covers(more) {
-            return Some(Sentence::three(
-                "PAGE of {} may be {}, and there the row has only {}",
-                target_word(board, target),
-                Word::Pages(more),
-                Word::Pages(pages),
-            ));
+/// The first place at which a part of what a row has doesn't cover what is known, and both.
+fn first_uncovered<'a, P: Part>(claimed: &'a [P], known: &'a [P]) -> Option<(usize, &'a P, &'a P)> {
+    for (index, (part, more)) in claimed.iter().zip(known).enumerate() {
+        if !part.covers(more) {
+            return Some((index, part, more));
         }
     }
     None
 }
 
+/// The first target whose pages aren't covered.
+fn pages_detail<'a>(board: &'a Board, known: &'a Row, claimed: &'a Row) -> Option<Sentence<'a>> {
+    let (target, pages, more) = first_uncovered(&claimed.pages, &known.pages)?;
+    Some(Sentence::three(
+        "PAGE of {} may be {}, and there the row has only {}",
+        target_word(board, target),
+        Word::Pages(more),
+        Word::Pages(pages),
+    ))
+}
+
 /// The first target whose protections aren't covered.
 fn protects_detail<'a>(board: &'a Board, known: &'a Row, claimed: &'a Row) -> Option<Sentence<'a>> {
-    for (target, (protects, more)) in claimed.protects.iter().zip(&known.protects).enumerate() {
-        if !protects.covers(more) {
-            return Some(Sentence::three(
-                "WRITE_PROTECT of {} may be {}, and there the row has only {}",
-                target_word(board, target),
-                Word::Protects(more),
-                Word::Protects(protects),
-            ));
-        }
-    }
-    None
+    let (target, protects, more) = first_uncovered(&claimed.protects, &known.protects)?;
+    Some(Sentence::three(
+        "WRITE_PROTECT of {} may be {}, and there the row has only {}",
+        target_word(board, target),
+        Word::Protects(more),
+        Word::Protects(protects),
+    ))
 }
 
 /// The first rail that a row has for good, and that isn't known to be.
@@ -55,18 +57,14 @@ fn spans_detail(
     known: &[Span],
     claimed: &[Span],
 ) -> Option<Sentence<'static>> {
-    for (index, (span, more)) in claimed.iter().zip(known).enumerate() {
-        if !span.covers(more) {
-            return Some(Sentence::four(
-                "{}{} may be {}, and there the row has {}",
-                Word::Text(letter),
-                Word::Count(index),
-                Word::Span(more.lo, more.hi),
-                Word::Span(span.lo, span.hi),
-            ));
-        }
-    }
-    None
+    let (index, span, more) = first_uncovered(claimed, known)?;
+    Some(Sentence::four(
+        "{}{} may be {}, and there the row has {}",
+        Word::Text(letter),
+        Word::Count(index),
+        Word::Span(more.lo, more.hi),
+        Word::Span(span.lo, span.hi),
+    ))
 }
 
 /// That it isn't known what a register was read from.
@@ -96,12 +94,8 @@ fn sources_detail<'a>(
     known: &[Source; 8],
     claimed: &[Source; 8],
 ) -> Option<Sentence<'a>> {
-    for (index, (source, other)) in claimed.iter().zip(known).enumerate() {
-        if !source.covers(other) {
-            return Some(source_detail(board, index, *source));
-        }
-    }
-    None
+    let (index, source, _) = first_uncovered(claimed, known)?;
+    Some(source_detail(board, index, *source))
 }
 
 /// What a row says that isn't known.

@@ -5,7 +5,8 @@ use crate::suggestion::lowercase_suggestion;
 use smbus::{Form, form_named};
 use std::alloc::{AllocError, Global};
 
-const NAMES: [&str; 13] = [
+/// The words of all forms, the last that of alert responses.
+pub(crate) const NAMES: [&str; 13] = [
     "quickwrite",
     "quickread",
     "send",

@@ -8,20 +8,12 @@ use std::alloc::{AllocError, Global};
 
 /// The least number of each span.
 fn least(spans: &[Span; 8]) -> [u16; 8] {
-    let mut words = [0; 8];
-    for (word, span) in words.iter_mut().zip(spans) {
-        *word = span.lo;
-    }
-    words
+    spans.map(|span| span.lo)
 }
 
 /// The greatest number of each span.
 fn greatest(spans: &[Span; 8]) -> [u16; 8] {
-    let mut words = [0; 8];
-    for (word, span) in words.iter_mut().zip(spans) {
-        *word = span.hi;
-    }
-    words
+    spans.map(|span| span.hi)
 }
 
 /// The message with the least value, if one is sent.

@@ -5,6 +5,7 @@ use crate::boards::blamed::Blamed;
 use crate::boards::describe::shown;
 use crate::boards::draft::Site;
 use crate::boards::twice::{first_alike, same_page};
+use crate::form::NAMES;
 use crate::operand::Operand;
 use crate::quote::listed;
 use crate::remark::Remark;
@@ -15,22 +16,6 @@ use pmbus_table::{Command, by_name};
 use smbus::form_named;
 use std::alloc::{AllocError, Global};
 use toml::Value;
-
-/// The words of all forms.
-const FORMS: [&str; 12] = [
-    "quickwrite",
-    "quickread",
-    "send",
-    "receive",
-    "writebyte",
-    "writeword",
-    "readbyte",
-    "readword",
-    "call",
-    "blockwrite",
-    "blockread",
-    "blockcall",
-];
 
 /// How manufacturer commands are written.
 const MANUFACTURER_RULE: &str =
@@ -59,7 +44,10 @@ fn names_listed(alloc: Global, sort: &str, names: &[&str]) -> Result<Option<Stri
 /// What is said of an entry whose form isn't known.
 pub(crate) fn unknown_form(alloc: Global, blamed: &Blamed<'_>) -> Result<Remark, AllocError> {
     let word = blamed.text("form");
-    let help = names_help(alloc, word, "forms", &FORMS)?;
+    let names = NAMES.as_slice();
+    // (the last is that of alert responses, which no entry has)
+    let forms = names.get(..12).unwrap_or(names);
+    let help = names_help(alloc, word, "forms", forms)?;
     Sentence::two("unknown form {} of {}", Word::Name(word), blamed.word()).helped_by(alloc, help)
 }
 
