@@ -14,3 +14,6 @@ pub mod CheckedLines
 pub mod ListedBytes
 pub mod ListedHolds
 pub mod Silence
+pub mod ComposedBundles
+mod LastBytes
+mod NoFiles

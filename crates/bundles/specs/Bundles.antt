@@ -2,7 +2,7 @@
 -- header.
 use Rattle.std.specs.Prelude.{ℕ, ◌+◌, List, [], ◌∷◌, length, take, drop, count_by, find, slice_get}
 use Rattle.std.specs.Prelude.{Bool, false, not, ◌||◌, ◌==◌, nat_lt, Option, Some, None, option_map}
-use Rattle.std.specs.Prelude.{Result, Ok, Err, if◌then◌else◌, codes}
+use Rattle.std.specs.Prelude.{Result, Ok, Err, if◌then◌else◌, codes, map}
 use Rattle.std.specs.List.{list_all, slice_index, slice_split, enumerate_from}
 use Rattle.std.specs.Str.{bytes_eq}
 use Rattle.std.specs.Str.Lines.{lines}
@@ -23,16 +23,19 @@ use Rattle.texts.specs.Ascii as ascii
 abbrev pub Line : Type 0
 Line = List ℕ
 
+abbrev pub command_text : Command → Line
+command_text Frame = codes "%frame"
+command_text Run = codes "%run"
+command_text Wave = codes "%wave"
+command_text Check = codes "%check"
+command_text Find = codes "%find"
+command_text Verify = codes "%verify"
+
 -- the commands by their lines
 abbrev pub commands : List (Line × Command)
 commands =
-    (codes "%frame", Frame)
-    ∷ (codes "%run", Run)
-    ∷ (codes "%wave", Wave)
-    ∷ (codes "%check", Check)
-    ∷ (codes "%find", Find)
-    ∷ (codes "%verify", Verify)
-    ∷ []
+    map (λ command. (command_text command, command))
+    (Frame ∷ Run ∷ Wave ∷ Check ∷ Find ∷ Verify ∷ [])
 
 abbrev pub command_of : Line → Option Command
 command_of line = named_among line commands

@@ -1,5 +1,6 @@
 pub mod Texts
 pub mod Bundles
+pub mod Composed
 pub mod Faults
 pub mod Views
 pub mod Fields

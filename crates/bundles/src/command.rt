@@ -1,5 +1,5 @@
-ghost use Rattle.std.specs.Prelude.{◌≡◌};
-ghost use Rattle.bundles.specs.Bundles.{header_text, headers_of, command_of};
+ghost use Rattle.std.specs.Prelude.{◌≡◌, Some};
+ghost use Rattle.bundles.specs.Bundles.{header_text, headers_of, command_text, command_of};
 
 /// What a bundle asks for, by its first line.
 #[derive(Clone, Copy, Debug, PartialEq, Eq)]
@@ -46,6 +46,21 @@ impl Header {
 }
 
 impl Command {
+    /// The line of a command.
+    pub fn text(self) -> &'static str
+        ensures text { result.now ≡ command_text self }
+        ensures named { command_of result.now ≡ Some self }
+    {
+        match self {
+            Command::Frame => "%frame",
+            Command::Run => "%run",
+            Command::Wave => "%wave",
+            Command::Check => "%check",
+            Command::Find => "%find",
+            Command::Verify => "%verify",
+        }
+    }
+
     /// The headers of the sections that a command wants, in order.
     pub fn headers(self) -> &'static [Header]
         ensures { result.now ≡ headers_of self }

@@ -1,3 +1,4 @@
+ghost use Rattle.bundles.specs.Composed.{ComposedBundlesAreRead};
 ghost use Rattle.bundles.specs.MessageLines.{MessageLinesAreRead, OtherLinesAreBad};
 ghost use Rattle.bundles.specs.SectionLines.{SectionsStandInBundles, LastSectionsEndBundles};
 ghost use Rattle.bundles.specs.SpelledAnswers.{AnswerLinesAreRead};
@@ -9,6 +10,13 @@ ghost use Rattle.bundles.specs.WellFormed.{WellFormedBundlesAreRead, NoOthersAre
 pub fn well_formed_bundles_are_read()
     ensures read { WellFormedBundlesAreRead }
     ensures no_others { NoOthersAreRead }
+{}
+
+/// The bundle of a command and of files, one for each of its sections, is read as that command,
+/// and its sections hold the lines of these files and nothing else, where each file's last line is
+/// ended and none of its lines begins with `%`.
+pub fn composed_bundles_are_read()
+    ensures { ComposedBundlesAreRead }
 {}
 
 /// The lines of each section are lines of its bundle, and their numbers are the bundle's, counted

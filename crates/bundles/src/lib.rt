@@ -7,6 +7,7 @@ mod answer_words;
 mod answers;
 mod bundle;
 mod command;
+mod composing;
 mod counted;
 mod fault;
 mod field;
@@ -20,11 +21,12 @@ pub use answer_list::AnswerLines;
 pub use answers::{Answers, answers_in};
 pub use bundle::{Bundle, read_bundle};
 pub use command::{Command, Header};
+pub use composing::{compose, end_last_line};
 pub use counted::is_counted;
 pub use fault::BundleFault;
 pub use law::{
-    answer_lines_are_read, message_lines_are_read, sections_keep_their_lines,
-    well_formed_bundles_are_read,
+    answer_lines_are_read, composed_bundles_are_read, message_lines_are_read,
+    sections_keep_their_lines, well_formed_bundles_are_read,
 };
 pub use message::{Exchange, exchange_in};
 pub use section::Section;
