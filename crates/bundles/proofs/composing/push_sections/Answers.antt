@@ -6,5 +6,5 @@ pub returns-in-None : goal.returns-in-None
 returns-in-None c =
     let l = c.loop-header in
     sym (without_files (λ f. f.items) l.bundle.items (drop l.header-index c.args.headers.now)
-        l.rest.now c.in-None.ensures.cases)
+    l.rest.now c.in-None.ensures.cases)
     ∙ l.invariant
