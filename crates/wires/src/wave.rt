@@ -17,7 +17,8 @@ use std::alloc::{AllocError, Global};
 use std::marker::Model;
 
 /// The levels of the lines over the steps of a run so far, as the text of a Value Change Dump
-/// (IEEE 1364-2005, 18.2). Its times count ticks of 5 µs.
+/// (IEEE 1364-2005, 18.2). Its times are in microseconds, and a variable of its own tells the
+/// place of each step.
 #[derive(Debug, Drop)]
 pub struct Wave {
     text: String,

@@ -1,16 +1,18 @@
-ghost use Rattle.std.specs.Prelude.{◌≡◌, ◌++◌, IfOk, OnOk, string_bytes};
-ghost use Rattle.wires.specs.Marks.{Stamp, Level, wire_code, level_digit, mark_text};
+ghost use Rattle.std.specs.Prelude.{◌≡◌, ◌≤◌, ◌++◌, IfOk, OnOk, string_bytes};
+ghost use Rattle.wires.specs.Marks.{Stamp, Place, Level, wire_code, level_digit, mark_text};
 ghost use Rattle.wires.specs.Marks.{marks_text, header};
 ghost use Rattle.wires.specs.Drawing.{change, changes};
+ghost use Rattle.wires.specs.Runs.{most_samples};
 
 use crate::lines::Sample;
 use std::alloc::{AllocError, Global};
 
-const HEADER: &str = "$timescale 5 us $end
+const HEADER: &str = "$timescale 1 us $end
 $scope module bus $end
 $var wire 1 ! SCL $end
 $var wire 1 \" SDA $end
 $var wire 1 # SMBALERT $end
+$var real 64 $ place $end
 $upscope $end
 $enddefinitions $end
 #0
@@ -21,6 +23,9 @@ $dumpvars
 $end
 ";
 
+/// The length of a tick in the header's unit of time.
+const TICK_IN_MICROSECONDS: u64 = 5;
+
 /// A line of the bus.
 #[derive(Clone, Copy)]
 pub(crate) enum Wire {
@@ -29,20 +34,29 @@ pub(crate) enum Wire {
     Smbalert,
 }
 
-/// The lines before the first step: the wires, and that they are high at first.
+/// The lines before the first step: what is declared, and that the wires are high at first.
 pub(crate) fn header(alloc: Global) -> Result<String, AllocError>
     ensures { IfOk result (λ text. string_bytes text ≡ header) }
 {
     String::from_str(alloc, HEADER)
 }
 
-/// Appends the line of a number of ticks of 5 µs.
+/// Appends the line of the time after a number of ticks.
 pub(crate) fn push_stamp(alloc: Global, text: &mut String, ticks: u64) -> Result<(), AllocError>
+    requires { ticks ≤ most_samples }
     ensures { OnOk result
         (string_bytes text.new ≡ string_bytes text.old ++ mark_text (Stamp ticks)) }
 {
-    let line = format!(in alloc; "#{ticks}\n")?;
+    let time = ticks * TICK_IN_MICROSECONDS;
+    let line = format!(in alloc; "#{time}\n")?;
     text.push_str(&line)
+}
+
+/// The line of a step's place.
+pub(crate) fn place_line(alloc: Global, place: usize) -> Result<String, AllocError>
+    ensures { IfOk result (λ line. string_bytes line ≡ mark_text (Place place)) }
+{
+    format!(in alloc; "r{place} $\n")
 }
 
 /// The identifier code of a wire (IEEE 1364-2005, 18.2).

@@ -5,7 +5,7 @@ ghost use Rattle.wires.specs.Drawing.{run_marks, step_marks, levels_behind};
 
 use crate::lines::Sample;
 use crate::runs::Run;
-use crate::wave::drawing::{push_changes, push_stamp};
+use crate::wave::drawing::{place_line, push_changes, push_stamp};
 use std::alloc::{AllocError, Global};
 
 /// Appends the lines of runs that follow so many ticks and these levels.
@@ -41,7 +41,7 @@ pub(crate) fn step_text(
     ensures { IfOk result (λ text. string_bytes text
         ≡ marks_text (step_marks start levels place runs.now)) }
 {
-    let mut text = format!(in alloc; "$comment place {place} $end\n")?;
+    let mut text = place_line(alloc, place)?;
     push_runs(alloc, &mut text, start, levels, runs)?;
     Ok(text)
 }

@@ -8,11 +8,12 @@ use std::test::*;
 use wires::{Sample, Wave};
 
 /// The declarations, and the levels at first.
-const HEADER: &str = "$timescale 5 us $end
+const HEADER: &str = "$timescale 1 us $end
 $scope module bus $end
 $var wire 1 ! SCL $end
 $var wire 1 \" SDA $end
 $var wire 1 # SMBALERT $end
+$var real 64 $ place $end
 $upscope $end
 $enddefinitions $end
 #0
@@ -79,7 +80,7 @@ static START: [Ticks; 3] = [
 #[test]
 fn changes_and_stamps(rt: HostRuntime) {
     let wave = wave_of(&rt, rt.alloc(), (0, &[(IDLE, 3)]), (7, &START));
-    let steps = "$comment place 0 $end\n#3\n$comment place 7 $end\n#4\n0\"\n#9\n0!\n0#\n#11\n";
+    let steps = "r0 $\n#15\nr7 $\n#20\n0\"\n#45\n0!\n0#\n#55\n";
     draws(&rt, wave, steps);
 }
 
@@ -96,6 +97,6 @@ static CLOCK_LOW: [Ticks; 1] = [(
 #[test]
 fn levels_are_kept_between_steps(rt: HostRuntime) {
     let wave = wave_of(&rt, rt.alloc(), (7, &CLOCK_LOW), (8, &CLOCK_LOW));
-    let steps = "$comment place 7 $end\n0!\n#2\n$comment place 8 $end\n#4\n";
+    let steps = "r7 $\n0!\n#10\nr8 $\n#20\n";
     draws(&rt, wave, steps);
 }
