@@ -17,12 +17,16 @@ use crate::seen::{Made, Seen};
 use std::alloc::{AllocError, Global};
 use std::io::{Read, Write};
 use texts::{CutShort, ReadError, send};
+use thiserror::Error;
 
 /// Why an input got no whole reply.
-#[derive(Clone, Copy, Debug, PartialEq, Eq)]
+#[derive(Clone, Copy, Debug, PartialEq, Eq, Error)]
 pub enum DeviceFault {
+    #[error("memory ran out, and nothing was written")]
     Memory,
+    #[error("the input wasn't read to its end, and nothing was judged")]
     Reader,
+    #[error("the output wasn't taken whole")]
     Writer,
 }
 
