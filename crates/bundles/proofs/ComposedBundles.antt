@@ -184,7 +184,8 @@ sections_lines : (headers : List Header) (files : List (List ℕ)) → All IsPla
 sections_lines [] files plain = refl
 sections_lines (header ∷ headers) [] plain = refl
 sections_lines (header ∷ headers) (file ∷ files) plain =
-    section_lines header file (sections_text headers files) (All-head IsPlain file files plain).whole
+    section_lines header file (sections_text headers files)
+    (All-head IsPlain file files plain).whole
     ∙ ap (λ (ls : List Line). header_text header ∷ (lines file ++ ls))
     (sections_lines headers files (All-tail IsPlain file files plain))
 
@@ -233,7 +234,8 @@ has_sections (header ∷ headers) (file ∷ files) above e plain none =
     slice_split_at starts_section above (header_text header)
     (lines file ++ lines_below headers files) none (header_starts header)
     ∙ ap (λ (parts : List (List Line)). above ∷ parts)
-    (has_sections headers files (lines file) (omega (arith, e)) (All-tail IsPlain file files plain) (All-head IsPlain file files plain).no_header)
+    (has_sections headers files (lines file) (omega (arith, e)) (All-tail IsPlain file files plain)
+    (All-head IsPlain file files plain).no_header)
 
 well_formed : (command : Command) (files : List (List ℕ))
     → length files ≡ length (headers_of command) → All IsPlain files

@@ -1,5 +1,6 @@
 -- The last byte of a file says whether its last line is ended.
-use Rattle.std.proofs.Common.{◌≡◌, ℕ, ◌-◌, suc, Bool, true, List, [], ◌∷◌, length, Option, Some, None}
+use Rattle.std.proofs.Common.{◌≡◌, ℕ, ◌-◌, suc, Bool, true, List, [], ◌∷◌, length, Option, Some}
+use Rattle.std.proofs.Common.{None}
 use Rattle.std.proofs.Common.{refl, ap, ◌∙◌, sym, arith}
 use Rattle.std.specs.Prelude.{slice_get, ◌==◌}
 use Rattle.bundles.specs.Composed.{is_ended}

@@ -1,6 +1,10 @@
 -- What a note looks like.
 use Rattle.std.specs.Prelude.{◌≡◌, ◌≢◌, ◌==◌, ◌-◌, ◌++◌, ℕ, List, [], Option, Some, None, All}
-use Rattle.std.specs.Prelude.{IfSome, slice_get, codes, if◌then◌else◌}
+use Rattle.std.specs.Prelude.{Bool, true, not, ◌||◌, ◌&&◌, nat_le, length}
+use Rattle.std.specs.Prelude.{IfSome, IsSomeAnd, slice_get, codes, if◌then◌else◌}
+use Rattle.std.specs.List.{list_all}
+use Rattle.std.specs.Str.{chars}
+use Rattle.std.specs.Char.{is_control}
 use Rattle.std.specs.Fmt.{decimal}
 use Rattle.texts.specs.Ascii as ascii
 
@@ -17,6 +21,23 @@ abbrev pub head : List ℕ → List ℕ → ℕ → List ℕ
 head kind section number =
     section ++ codes ":" ++ decimal number ++ codes ": " ++ kind ++ codes ": "
 
+-- the most bytes of a line that are shown
+abbrev pub most_shown : ℕ
+most_shown = 200
+
+-- no control character but tabs (9)
+abbrev pub has_no_control : List ℕ → Bool
+has_no_control line = list_all (λ c. (c == 9) || not (is_control c)) (chars line)
+
+-- a line that can be shown as it is
+abbrev pub is_plain : List ℕ → Bool
+is_plain line = nat_le (length line) most_shown && has_no_control line
+
+-- a line as it is shown, if there is one: a plain one as it is
+abbrev pub IsShown : Option (List ℕ) → Option (List ℕ) → Type 0
+IsShown None shown = shown ≡ None
+IsShown (Some line) shown = IsSomeAnd shown (λ text. is_plain line ≡ true → text ≡ line)
+
 -- a line of the text, indented, if there is one
 abbrev pub quoted : Option (List ℕ) → List ℕ
 quoted None = []
@@ -32,20 +53,22 @@ abbrev pub helped : Option (List ℕ) → List ℕ
 helped None = []
 helped (Some help) = codes "help: " ++ help ++ codes "\n"
 
--- a note of a kind on the line of a section with this number: a message, the line itself if there
--- is one, the facts at its place, the way that leads there, and help
+-- a note of a kind on the line of a section with this number: a message, the line if there is one,
+-- the facts at its place, the way that leads there, and help
 pub record IsNoteOf (kind section : List ℕ) (number : ℕ) (lines : List (List ℕ)) (note : List ℕ)
     : Type 0 where
   pub message : List ℕ
+  pub shown : Option (List ℕ)
   pub known : Option (List ℕ)
   pub way : Option (List ℕ)
   pub help : Option (List ℕ)
   pub one_line : NoFeed message
+  pub is_line : IsShown (line_at number lines) shown
   pub one_known : IfSome known NoFeed
   pub one_way : IfSome way NoFeed
   pub one_help : IfSome help NoFeed
   pub parts : note ≡ head kind section number ++ message ++ codes "\n"
-      ++ quoted (line_at number lines) ++ noted known ++ noted way ++ helped help
+      ++ quoted shown ++ noted known ++ noted way ++ helped help
 
 abbrev pub IsNote : List ℕ → ℕ → List (List ℕ) → List ℕ → Type 0
 IsNote section number lines note = IsNoteOf (codes "error") section number lines note

@@ -80,8 +80,8 @@ fn text_notes(
     Ok(Notes { error, warnings })
 }
 
-/// The longest beginning of an input that is text.
-fn text_front(input: &[u8]) -> &str
+/// The longest beginning of some bytes that is text (UTF-8).
+pub fn text_front(input: &[u8]) -> &str
     ensures { result.now ≡ text_front input.now }
 {
     match input.utf8_chunks().next() {

@@ -1,13 +1,14 @@
 //! The text of a note.
 
 ghost use Rattle.std.specs.Prelude.{◌≡◌, ◌++◌, codes, option_copied, string_bytes};
-ghost use Rattle.std.specs.Prelude.{IfOk, OnOk};
+ghost use Rattle.std.specs.Prelude.{IfOk, OnOk, option_map};
 ghost use Rattle.texts.specs.Words.{lines_by_feed};
 ghost use Rattle.diagnostics.specs.Notes.{head, quoted, noted, helped, IsNote, IsNoteOf};
 
 use crate::background::Background;
 use crate::lines::line_at;
 use crate::remark::Remark;
+use crate::shown::shown_line;
 use std::alloc::{AllocError, Global};
 
 /// Adds the first line of a note.
@@ -25,9 +26,10 @@ fn push_message(
 }
 
 /// Adds the line that has the fault, if there is one.
-fn push_line(note: &mut String, line: Option<&str>) -> Result<(), AllocError>
+fn push_line(note: &mut String, line: &Option<String>) -> Result<(), AllocError>
     ensures { OnOk result
-        (string_bytes note.new ≡ string_bytes note.old ++ quoted (option_copied line.entry)) }
+        (string_bytes note.new
+        ≡ string_bytes note.old ++ quoted (option_map string_bytes line.now)) }
 {
     match line {
         Some(line) => write!(note, "    {line}\n"),
@@ -73,7 +75,8 @@ fn made(
 {
     let mut note = String::new(alloc);
     push_message(&mut note, kind, section, number, remark.message())?;
-    push_line(&mut note, line_at(text, number))?;
+    let shown = shown_line(alloc, line_at(text, number))?;
+    push_line(&mut note, &shown)?;
     push_noted(&mut note, background.known())?;
     push_noted(&mut note, background.way())?;
     push_help(&mut note, remark.help())?;

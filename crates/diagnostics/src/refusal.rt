@@ -78,12 +78,12 @@ fn help_on(refusal: Refusal) -> Option<&'static str> {
         ),
         Refusal::Breaks(Rule::K7) => Some(
             "of a row's `ticks`, the first are left in any case, and the others for each turn left \
-             of c0 to c3; %find makes a table anew",
+             of c0 to c3; `find` makes a table anew",
         ),
         Refusal::Breaks(Rule::K6 | Rule::K8) => Some(
-            "in a row, values stand side by side, as in `page a 00 01`; %find makes a table anew",
+            "in a row, values stand side by side, as in `page a 00 01`; `find` makes a table anew",
         ),
-        Refusal::Breaks(Rule::K9) => Some("%find makes a table anew"),
+        Refusal::Breaks(Rule::K9) => Some("`find` makes a table anew"),
     }
 }
 

@@ -41,13 +41,34 @@ impl<'a> Judged<'a> {
     /// The edges of a place, by what is known there. None where the table has no row of the board
     /// for it, or its message may not be sent.
     pub(crate) fn edges(self, alloc: Global, place: usize) -> Result<Vec<Edge>, AllocError> {
-        let (Some(instr), Some(row)) = (self.program.at(place), self.row(place)) else {
+        match self.row(place) {
+            Some(row) => self.edges_at(alloc, place, row),
+            None => Ok(Vec::new(alloc)),
+        }
+    }
+
+    /// The same, by another row of the board.
+    pub(crate) fn edges_at(
+        self,
+        alloc: Global,
+        place: usize,
+        row: &Row,
+    ) -> Result<Vec<Edge>, AllocError> {
+        let Some(instr) = self.program.at(place) else {
             return Ok(Vec::new(alloc));
         };
         if !row.is_of(self.board) || !may_be_sent(self.board, instr, row) {
             return Ok(Vec::new(alloc));
         }
         edges(alloc, self.board, self.program, place, row)
+    }
+
+    /// The first of the rules K1 to K5 that a place's instruction breaks at a row.
+    pub(crate) fn broken_at(self, place: usize, row: &Row) -> Option<Rule> {
+        match self.program.at(place) {
+            Some(instr) => duty(self.board, instr, row),
+            None => None,
+        }
     }
 
     /// Where those edges lead.

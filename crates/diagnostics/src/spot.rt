@@ -97,7 +97,7 @@ fn whole_message(words: &[&str]) -> &'static str {
 fn message_remark(alloc: Global, spot: Spot) -> Result<Remark, AllocError> {
     let Some(line) = line_at(spot.text, spot.number) else {
         let advice = Advice {
-            message: Sentence::plain("the section has no message"),
+            message: Sentence::plain("there is no message"),
             help: Some(Sentence::plain("a message is a line of fields: form=F address=HH ..")),
         };
         return advice.told(alloc);

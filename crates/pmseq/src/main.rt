@@ -28,7 +28,10 @@ fn main(rt: HostRuntime) -> ExitCode {
             tell(&mut rt.stderr(), &answered.notes);
             answered.status
         }
-        Err(_) => Status::DeviceFault,
+        Err(fault) => {
+            let _told = eprintln!(rt; "pmseq: {fault}");
+            Status::DeviceFault
+        }
     };
     ExitCode::from(status.code())
 }

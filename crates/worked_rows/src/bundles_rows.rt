@@ -2,8 +2,8 @@
 
 use crate::expected::{holds, same};
 use bundles::{
-    Answers, BundleFault, Command, Header, Section, answer_line_of, answers_in, exchange_in,
-    is_counted, read_bundle,
+    Answers, BundleFault, Command, Header, Section, answer_line_of, answers_in, compose,
+    end_last_line, exchange_in, is_counted, read_bundle,
 };
 use session::section_text;
 use std::alloc::{AllocError, Global};
@@ -333,4 +333,43 @@ fn a_section_of_a_message(rt: HostRuntime) {
         below.as_deref(),
         Some("form=send address=40 code=03\n"),
     );
+}
+
+/// A file, and the same with its last line ended.
+static FILES: [(&[u8], &[u8]); 4] = [
+    (b"", b""),
+    (b"\n", b"\n"),
+    (b"end", b"end\n"),
+    (b"set r0 1\r\nend\n", b"set r0 1\r\nend\n"),
+];
+
+fn ended(alloc: Global, file: &[u8]) -> Result<Vec<u8>, AllocError> {
+    let mut file = file.to_vec(alloc)?;
+    end_last_line(&mut file)?;
+    Ok(file)
+}
+
+fn all_end(rt: &impl Abort, alloc: Global, files: &[(&[u8], &[u8])]) {
+    for (file, want) in files {
+        holds(rt, ended(alloc, file), want);
+    }
+}
+
+#[test]
+fn files_end_with_a_line_feed(rt: HostRuntime) {
+    all_end(&rt, rt.alloc(), &FILES);
+}
+
+fn composed(alloc: Global) -> Result<Vec<u8>, AllocError> {
+    let mut files = Vec::new(alloc);
+    files.push(b"[[target]]\n".to_vec(alloc)?)?;
+    files.push(b"end\n".to_vec(alloc)?)?;
+    compose(alloc, Command::Verify, &files)
+}
+
+#[test]
+fn files_make_a_bundle(rt: HostRuntime) {
+    let want = b"%verify\n%board\n[[target]]\n%program\nend\n".as_slice();
+    holds(&rt, composed(rt.alloc()), want);
+    same(&rt, Command::Frame.text(), "%frame");
 }

@@ -3,6 +3,7 @@
 
 mod devices;
 mod found;
+mod judged;
 
 use crate::expected::{same, says};
 use crate::runs::answer_of;

@@ -2,7 +2,7 @@
 
 use crate::boards::TWO;
 use crate::expected::same;
-use diagnostics::{Answered, answer};
+use diagnostics::{Answered, answer, text_front};
 use session::Status;
 use std::alloc::{AllocError, Global};
 use std::process::Abort;
@@ -88,4 +88,10 @@ fn long_inputs_have_no_notes(rt: HostRuntime) {
     blank_tells(&rt, rt.alloc(), 1 << 20, FAULT);
     let silent = (Status::InputFault, false, 0, false);
     blank_tells(&rt, rt.alloc(), (1 << 20) + 1, silent);
+}
+
+#[test]
+fn what_stands_before_a_byte_that_is_no_text(rt: HostRuntime) {
+    same(&rt, text_front(b"gr\xFCn"), "gr");
+    same(&rt, text_front("gr\u{FC}n".as_bytes()), "gr\u{FC}n");
 }

@@ -1,0 +1,72 @@
+//! A way on which a rule may fail, by the facts of that way alone.
+
+use crate::roads::{Edge, Judged};
+use crate::starts::start_edges;
+use crate::trail::{Trail, Trails};
+use facts::Rule;
+use std::alloc::{AllocError, Global};
+
+/// So many trails at most are gone on from.
+pub(crate) const MOST_STEPS: usize = 20_000;
+
+/// What a search for a single way came to.
+#[derive(Drop)]
+pub(crate) enum SingleWay {
+    /// The rule may fail at the end of this one.
+    Found(Vec<Trail>),
+    /// There is none.
+    Nowhere,
+    /// There are too many ways.
+    Unknown,
+}
+
+/// The edges from a trail's place, by what is known along that way. None where a rule fails there.
+fn edges_from(
+    alloc: Global,
+    judged: Judged<'_>,
+    trails: &Trails,
+    trail: Trail,
+) -> Result<Vec<Edge>, AllocError> {
+    match trails.row(trail) {
+        Some(row) if judged.broken_at(trail.place, row).is_none() => {
+            judged.edges_at(alloc, trail.place, row)
+        }
+        _ => Ok(Vec::new(alloc)),
+    }
+}
+
+/// Whether a rule is the first that fails at a trail's place.
+fn breaks(judged: Judged<'_>, trails: &Trails, trail: Trail, rule: Rule) -> bool {
+    match trails.row(trail) {
+        Some(row) => judged.broken_at(trail.place, row) == Some(rule),
+        None => false,
+    }
+}
+
+/// A search for ways from the starts of the board.
+pub(crate) fn first_trails(alloc: Global, judged: Judged<'_>) -> Result<Trails, AllocError> {
+    let starts = start_edges(alloc, judged.board)?;
+    Trails::new(alloc, judged.program.places(), starts)
+}
+
+/// The first of the shortest ways to a place on which a rule may fail there. Facts of several ways
+/// are never joined; a trail that brings no more than one before isn't gone on from.
+pub(crate) fn single_way(
+    alloc: Global,
+    judged: Judged<'_>,
+    trails: &mut Trails,
+    place: usize,
+    rule: Rule,
+) -> Result<SingleWay, AllocError> {
+    for number in 0..MOST_STEPS {
+        let Some(trail) = trails.at(number) else {
+            return Ok(SingleWay::Nowhere);
+        };
+        if trail.place == place && breaks(judged, trails, trail, rule) {
+            return Ok(SingleWay::Found(trails.way_to(alloc, trail)?));
+        }
+        let edges = edges_from(alloc, judged, trails, trail)?;
+        trails.go_on(edges)?;
+    }
+    Ok(SingleWay::Unknown)
+}
