@@ -1,0 +1,129 @@
+//! The pages of help.
+
+use bundles::Command;
+
+/// What a call without words on a terminal gets.
+pub(crate) const SHORT_HELP: &str = "\
+usage: pmseq verify BOARD PROGRAM
+pmseq --help has the other commands; pmseq - reads a bundle from standard input
+";
+
+/// The page of help.
+pub(crate) const HELP: &str = "\
+pmseq judges controller programs that bring up a board's supply rails over PMBus, before they
+meet the board.
+
+    pmseq verify BOARD PROGRAM          judges a program, and finds the facts that it needs
+    pmseq find BOARD PROGRAM            prints the table of facts that verify finds
+    pmseq check BOARD PROGRAM TABLE     judges a program with a table of facts
+    pmseq run BOARD PROGRAM ANSWERS     runs a program on a simulated bus, and prints a trace
+    pmseq wave BOARD PROGRAM ANSWERS    the same, and prints the levels of the bus as a waveform
+    pmseq frame MESSAGE                 sends one message, and prints its frame
+    pmseq COMMAND --help                explains a command
+    pmseq --version                     tells which build this is
+    pmseq -                             does what a bundle on standard input asks for
+    pmseq build                         proves and builds pmseq itself
+
+BOARD, PROGRAM, TABLE, ANSWERS and MESSAGE are files; one of them may be -, standard input.
+
+verify and check print `accepted bound N`: whatever the targets answer within the board's ranges,
+the program ends within N ticks of 5 microseconds with both lines high, sends only what the board
+allows, writes nothing that is protected, commands no voltage over its limit, and enables no rail
+before its needs reported good. Or they print `refused place P rule K`: what the instruction of
+place P (the first is 0) does isn't known to be safe, by a rule of docs/RULES.md. Where no counter
+bounds a loop, verify and find print `gave up place P`.
+
+`accepted` doesn't say that
+    a need's own needs are still on, or that a rail had a voltage before it was enabled
+    a page without a [[rail]] is safe: it has no limit and no needs
+    power stays good: a report doesn't age, and no later fault takes it back
+    `fail` turns anything off, or `end` protects anything
+    VOUT_MAX or the limits of faults and warnings are below `limit_uv`
+docs/RULES.md has a program for each.
+
+Notes on standard error say what to mend, at a file's line. Exit status: 0 done, and by verify and
+check accepted; 1 refused, or the search gave up; 2 a fault in a file, or a word or a file that
+isn't known; 3 where memory, reading or writing failed, and nothing was judged.
+";
+
+const VERIFY: &str = "\
+pmseq verify BOARD PROGRAM
+
+Finds what is known at each place of a program on a board, and judges the program with it.
+Prints `accepted bound N` (status 0), `refused place P rule K` or `gave up place P` (status 1).
+
+    pmseq verify examples/boards/two_rails.toml examples/programs/bring_up.txt
+
+docs/BOARD.md and docs/PROGRAM.md say how the files are written, docs/RULES.md what the rules ask.
+";
+
+const FIND: &str = "\
+pmseq find BOARD PROGRAM
+
+Prints the table of facts that `pmseq verify` finds, for `pmseq check`, or `gave up place P`.
+
+    pmseq find examples/boards/two_rails.toml examples/programs/bring_up.txt > table.txt
+
+docs/SEARCH.md says what is found and what isn't.
+";
+
+const CHECK: &str = "\
+pmseq check BOARD PROGRAM TABLE
+
+Judges a program with a table of facts, which `pmseq find` made or a person wrote.
+Prints `accepted bound N` (status 0) or `refused place P rule K` (status 1).
+
+docs/TABLES.md says how a table is written, docs/RULES.md what the rules ask.
+";
+
+const RUN: &str = "\
+pmseq run BOARD PROGRAM ANSWERS
+
+Runs a program on a simulated bus whose targets answer as ANSWERS says, and prints a line for each
+step: its place, its ticks of 5 microseconds, its frame, and how it ended. Nothing is refused; a
+warning tells the first step that no accepted program takes.
+
+docs/SIMULATOR.md says how answers are written.
+";
+
+const WAVE: &str = "\
+pmseq wave BOARD PROGRAM ANSWERS
+
+Runs a program as `pmseq run` does, and prints the levels of SCL, SDA and SMBALERT as a Value
+Change Dump, which GTKWave, PulseView and sigrok-cli open.
+
+    pmseq wave BOARD PROGRAM ANSWERS > run.vcd
+";
+
+const FRAME: &str = "\
+pmseq frame MESSAGE
+
+Sends one message over a bus with one controller, and prints its frame as an observer of the lines
+reads it, its samples, and how it ended. MESSAGE holds one line, such as
+
+    form=writebyte address=40 code=00 out=01
+
+docs/BUNDLES.md has all words of a message.
+";
+
+/// The page of help on a command.
+pub(crate) fn page_of(command: Command) -> &'static str {
+    match command {
+        Command::Verify => VERIFY,
+        Command::Find => FIND,
+        Command::Check => CHECK,
+        Command::Run => RUN,
+        Command::Wave => WAVE,
+        Command::Frame => FRAME,
+    }
+}
+
+/// The files that a command takes, as its page names them.
+pub(crate) fn names_of(command: Command) -> &'static str {
+    match command {
+        Command::Verify | Command::Find => "BOARD PROGRAM",
+        Command::Check => "BOARD PROGRAM TABLE",
+        Command::Run | Command::Wave => "BOARD PROGRAM ANSWERS",
+        Command::Frame => "MESSAGE",
+    }
+}

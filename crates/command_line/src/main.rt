@@ -1,0 +1,144 @@
+//! The command `pmseq`: judges the files that its words name, or answers a bundle on standard
+//! input.
+#![tactic(auto)]
+
+mod call;
+mod file_fault;
+mod help;
+mod judging;
+mod misuse;
+mod named;
+mod reading;
+mod stop;
+mod telling;
+mod version;
+
+use crate::call::{Call, Request, call_of};
+use crate::file_fault::{fault_in, fault_note};
+use crate::help::{HELP, SHORT_HELP, page_of};
+use crate::judging::judge;
+use crate::misuse::misuse_text;
+use crate::named::{SectionFile, told_name};
+use crate::reading::read_file;
+use crate::stop::{MISUSED, Stop, unread};
+use crate::telling::{tell, tell_text};
+use crate::version::version_text;
+use diagnostics::answer;
+use session::{DeviceFault, Status};
+use std::env;
+use std::io::{IsTerminal, Write};
+use std::process::ExitCode;
+
+/// Prints a page.
+fn print_page(rt: &HostRuntime, page: &str) -> Result<u8, Stop> {
+    match rt.stdout().write_all(page.as_bytes()) {
+        Ok(()) => Ok(Status::Accepted.code()),
+        Err(_) => Err(Stop::Device(DeviceFault::Writer)),
+    }
+}
+
+/// Answers a bundle on standard input.
+fn answer_bundle(rt: &HostRuntime) -> Result<u8, Stop> {
+    let answered = answer(rt.alloc(), &mut rt.stdin(), &mut rt.stdout())?;
+    tell(&mut rt.stderr(), &[], &answered.notes);
+    Ok(answered.status.code())
+}
+
+/// Reads a file, and looks whether it may be judged.
+fn take_file(rt: &HostRuntime, name: &str, told: &str) -> Result<Vec<u8>, Stop> {
+    let bytes = match read_file(rt, name) {
+        Ok(bytes) => bytes,
+        Err(error) => return Err(unread(rt, told, error)),
+    };
+    match fault_in(&bytes) {
+        Some(fault) => {
+            tell_text(&mut rt.stderr(), &fault_note(rt.alloc(), told, fault)?);
+            Err(Stop::Told(MISUSED))
+        }
+        None => Ok(bytes),
+    }
+}
+
+/// Reads the files of a call, one for each of its command's sections, into lists of their names and
+/// their bytes.
+fn take_files(
+    rt: &HostRuntime,
+    request: Request<'_>,
+    files: &mut Vec<SectionFile>,
+    texts: &mut Vec<Vec<u8>>,
+) -> Result<(), Stop> {
+    for (header, name) in request.command.headers().iter().zip(request.names) {
+        let told = told_name(rt.alloc(), name)?;
+        texts.push(take_file(rt, name, &told)?)?;
+        files.push(SectionFile {
+            header: *header,
+            name: told,
+        })?;
+    }
+    Ok(())
+}
+
+/// Reads all files, and then does what is asked for on them.
+fn judge_files(rt: &HostRuntime, request: Request<'_>) -> Result<u8, Stop> {
+    let alloc = rt.alloc();
+    let mut files = Vec::new(alloc);
+    let mut texts = Vec::new(alloc);
+    take_files(rt, request, &mut files, &mut texts)?;
+    let answered = judge(alloc, request.command, &texts, &mut rt.stdout())?;
+    tell(&mut rt.stderr(), &files, &answered.notes);
+    Ok(answered.status.code())
+}
+
+/// Does what a call asks for.
+fn carry_out(rt: &HostRuntime, call: Call<'_>) -> Result<u8, Stop> {
+    match call {
+        Call::Nothing if rt.stdin().is_terminal() => {
+            tell_text(&mut rt.stderr(), SHORT_HELP);
+            Ok(MISUSED)
+        }
+        Call::Nothing | Call::Bundle => answer_bundle(rt),
+        Call::Help => print_page(rt, HELP),
+        Call::HelpOn(command) => print_page(rt, page_of(command)),
+        Call::Version => print_page(rt, &version_text(rt)?),
+        Call::Judge(request) => judge_files(rt, request),
+    }
+}
+
+/// Does what the words behind the command's name ask for.
+fn obey(rt: &HostRuntime, words: &[String]) -> Result<u8, Stop> {
+    match call_of(words) {
+        Ok(call) => carry_out(rt, call),
+        Err(misuse) => {
+            let text = misuse_text(rt.alloc(), misuse)?;
+            let _told = eprintln!(rt; "pmseq: {text}");
+            Ok(MISUSED)
+        }
+    }
+}
+
+/// The words behind the command's name.
+fn words_of(rt: &HostRuntime) -> Result<Vec<String>, Stop> {
+    let Ok(mut words) = env::args(rt) else {
+        let _told = eprintln!(rt; "pmseq: a word of the call isn't UTF-8");
+        return Err(Stop::Told(MISUSED));
+    };
+    let _program = words.next();
+    Ok(words.collect(rt.alloc())?)
+}
+
+/// Ends with a status, after all that is to be told.
+fn run(rt: &HostRuntime) -> Result<u8, Stop> {
+    let words = words_of(rt)?;
+    obey(rt, &words)
+}
+
+fn main(rt: HostRuntime) -> ExitCode {
+    let code = match run(&rt) {
+        Ok(code) | Err(Stop::Told(code)) => code,
+        Err(Stop::Device(fault)) => {
+            let _told = eprintln!(rt; "pmseq: {fault}");
+            Status::DeviceFault.code()
+        }
+    };
+    ExitCode::from(code)
+}

@@ -1,0 +1,71 @@
+//! Words that can't be understood, and what is said of them.
+
+use crate::call::{COMMANDS, word_of};
+use crate::help::names_of;
+use bundles::Command;
+use std::alloc::{AllocError, Global};
+use strsim::osa_distance;
+
+/// Why a call's words ask for nothing.
+#[derive(Clone, Copy)]
+pub(crate) enum Misuse<'a> {
+    UnknownCommand(&'a str),
+    UnknownOption(&'a str),
+    /// Another number of files than the command takes.
+    WrongCount { command: Command, count: usize },
+    /// Two files are standard input.
+    TwoInputs,
+}
+
+/// The command that is spelled most like a word, if at most a third of the word has to be edited.
+fn nearest(alloc: Global, word: &str) -> Result<Option<Command>, AllocError> {
+    let mut found = None;
+    let mut least = word.len() / 3 + 1;
+    for command in &COMMANDS {
+        let edits = osa_distance(alloc, word, word_of(*command))?;
+        if edits < least {
+            least = edits;
+            found = Some(*command);
+        }
+    }
+    Ok(found)
+}
+
+/// What is said of a word that is no command.
+fn unknown_command(alloc: Global, word: &str) -> Result<String, AllocError> {
+    match nearest(alloc, word)? {
+        Some(command) => {
+            let command = word_of(command);
+            format!(in alloc; "no command is called {word:?}; did you mean `{command}`?")
+        }
+        None => {
+            format!(in alloc; "no command is called {word:?}; `pmseq --help` lists the commands")
+        }
+    }
+}
+
+/// How many files a command takes, in words.
+fn wanted(command: Command) -> &'static str {
+    match command.headers().len() {
+        1 => "one file",
+        2 => "two files",
+        _ => "three files",
+    }
+}
+
+/// What is said of a call that can't be understood.
+pub(crate) fn misuse_text(alloc: Global, misuse: Misuse<'_>) -> Result<String, AllocError> {
+    match misuse {
+        Misuse::UnknownCommand(word) => unknown_command(alloc, word),
+        Misuse::UnknownOption(word) => {
+            format!(in alloc; "there is no option {word:?}; behind `--` it is the name of a file")
+        }
+        Misuse::WrongCount { command, count } => {
+            let (word, wanted, names) = (word_of(command), wanted(command), names_of(command));
+            format!(in alloc; "{word} takes {wanted}, {names}, not {count}")
+        }
+        Misuse::TwoInputs => {
+            String::from_str(alloc, "one file alone may be `-`, standard input")
+        }
+    }
+}
