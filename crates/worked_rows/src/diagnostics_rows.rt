@@ -38,14 +38,14 @@ static CARRIAGE_RETURNS: [(&str, &str); 2] = [
     (
         "end\r\n",
         "%program:1: error: unknown instruction \"end\\r\"
-    end\r
+    end\\u{d}
 help: lines end with LF alone, and a CR is a character like any other
 ",
     ),
     (
         "goto x\r",
         "%program:1: error: expected a label, found \"x\\r\"
-    goto x\r
+    goto x\\u{d}
 help: lines end with LF alone, and a CR is a character like any other
 ",
     ),
