@@ -11,6 +11,7 @@ pub mod SafeRuns
 pub mod Doing
 pub mod Joining
 pub mod MadeSteps
+pub mod FittingSteps
 pub mod SmallCodes
 pub mod WireMessages
 pub mod SeenSteps

@@ -9,7 +9,7 @@ use Rattle.board.specs.Boards.{Board}
 use Rattle.seq_program.specs.declared.instr.Instr.{Instr}
 use Rattle.simulator.specs.declared.fault.RunFault.{RunFault}
 use Rattle.simulator.specs.declared.fault.RunFault.TheVariants.{Memory}
-use Rattle.simulator.specs.Faults.{most_ticks, IsStepFault, FailsAt}
+use Rattle.simulator.specs.Faults.{most_ticks, IsStepFault, RunFails}
 use Rattle.simulator.specs.Machines.{Machine, Entry}
 use Rattle.simulator.specs.Steps.{IsStep, IsRun, total_ticks}
 use Rattle.simulator.specs.Traces.{HasItsFrame}
@@ -50,7 +50,7 @@ pub fails_here : (b : Board) (p : List Instr) (m reached : Machine) (answers : L
     (entries : List Entry) (index ticks : ℕ) (a : Answered) (fault : RunFault)
     → IsRun b p m (take index answers) entries reached → ticks ≡ total_ticks entries
     → ticks ≤ most_ticks → index < length answers → a ≡ slice_index_or answers index a
-    → IsStepFault b p reached a ticks index fault → FailsAt b p m answers fault
+    → IsStepFault b p reached a ticks index fault → RunFails b p m answers fault
 fails_here b p m reached answers entries index ticks a fault run sum few lt is why = record {
   index = index;
   entries = entries;

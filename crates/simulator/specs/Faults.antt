@@ -58,7 +58,7 @@ IsStepFault b p m a before index fault.TooLong = IsTooLong b p m a before
 IsStepFault b p m a before index other = ⊥
 
 -- the run goes as far as an answer, and there it fails
-pub record FailsAt (b : Board) (p : List Instr) (m : Machine) (answers : List Answered)
+pub record RunFails (b : Board) (p : List Instr) (m : Machine) (answers : List Answered)
     (fault : RunFault) : Type 0 where
   pub index : ℕ
   pub entries : List Entry

@@ -12,6 +12,7 @@ pub mod Reports
 pub mod Safe
 pub mod SafeLaws
 pub mod Headline
+pub mod GoingOn
 pub mod SmallPrograms
 pub mod StepDoes
 pub mod StepLaws

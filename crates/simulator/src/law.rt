@@ -1,5 +1,6 @@
 ghost use Rattle.simulator.specs.Does.{EntriesDoAsAsked};
 ghost use Rattle.simulator.specs.EntryLaws.{EntriesReadBack, IdleReadsBack, JoinedReadBack};
+ghost use Rattle.simulator.specs.GoingOn.{FittingAnswersHaveSteps, GoingOnHasSteps};
 ghost use Rattle.simulator.specs.RunLaws.{RunsAreOne, RunsAreSeen, RunsGoOn};
 ghost use Rattle.simulator.specs.RunLaws.{StepsAreOne, TicksAddUp};
 ghost use Rattle.simulator.specs.SafeLaws.{AllowedFramesAreSeen, SafeStepsAreSafeRuns};
@@ -18,8 +19,8 @@ ghost use Rattle.simulator.specs.StepLaws.{StepsAreSeen, StartsAreReady, SomeSte
 use bit_bus::{plans_keep_slots, reads_back};
 use smbus::{messages_have_one_frame, slots_are_one_frame};
 use targets::{
-    fitting_bytes_are_on_wire, ranges_are_of_forms, some_answer_fits, states_belong,
-    targets_are_found,
+    answers_have_states, fitting_bytes_are_on_wire, ranges_are_of_forms, some_answer_fits,
+    states_belong, targets_are_found,
 };
 
 /// The samples of an entry that sends a message have one frame, the one that shows the message, and
@@ -77,6 +78,15 @@ pub fn runs_go_on()
     ensures run { RunsGoOn }
     ensures ticks { TicksAddUp }
 {}
+
+/// No run is stuck: each answer that fits what the instruction at a machine's place sends has a
+/// step, and where the targets can answer, there is an answer with one.
+pub fn fitting_answers_have_steps()
+    ensures steps { FittingAnswersHaveSteps }
+    ensures going_on { GoingOnHasSteps }
+{
+    answers_have_states();
+}
 
 /// What makes steps and runs safe, without a look at the samples: the frame of a step is allowed
 /// where its message is, and a run of safe steps is safe as a whole, where the targets can answer

@@ -1,6 +1,6 @@
 ghost use Rattle.std.specs.Prelude.{◌≢◌, length, All, IfOk, IfErr};
 ghost use Rattle.seq_program.specs.Valid.{IsOnBoard};
-ghost use Rattle.simulator.specs.Faults.{FailsAt};
+ghost use Rattle.simulator.specs.Faults.{RunFails};
 ghost use Rattle.simulator.specs.Machines.{IsMachine};
 ghost use Rattle.simulator.specs.RunLaws.{RunIsSeen};
 ghost use Rattle.simulator.specs.Steps.{IsRun};
@@ -57,7 +57,7 @@ pub fn run(
     ensures seen { IfOk result
         (λ t. RunIsSeen board.now program.now machine.now answers.now t.entries t.last) }
     ensures fault { IfErr result
-        (λ e. e ≢ Memory → FailsAt board.now program.now machine.now answers.now e) }
+        (λ e. e ≢ Memory → RunFails board.now program.now machine.now answers.now e) }
 {
     board_is_valid(board);
     program_is_valid(program);

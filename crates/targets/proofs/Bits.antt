@@ -1,11 +1,11 @@
 -- A word of 16 bits has none from bit 16 on.
-use Rattle.std.proofs.Common.{◌≡◌, ◌<◌, ◌==◌, ◌⊎◌, ◌↔◌, ◌∙◌, inl, inr, ℕ, IsTrue, false, bit_or}
-use Rattle.std.proofs.Common.{bit_and, w16, max, ◌*◌, ◌^◌, ◌%◌, ◌≢◌, ap, sym, arith}
+use Rattle.std.proofs.Common.{◌≡◌, ◌<◌, ◌==◌, ◌⊎◌, ◌↔◌, ◌∙◌, inl, inr, ℕ, IsTrue, true, false, bit_or}
+use Rattle.std.proofs.Common.{bit_and, w16, max, ◌*◌, ◌^◌, ◌%◌, ◌≢◌, ap, sym, Some, arith}
 use Rattle.std.specs.Int.{bit_at, bit_not}
 use Rattle.std.proofs.lemmas.Bool.{cases_lt}
 use Rattle.std.proofs.lemmas.Nat.Bits.{bit_at_above, bit_at_or, bit_at-lt, bit_at_clear_same}
 use Rattle.std.proofs.lemmas.Nat.Bits.{bit_at_clear_other}
-use Rattle.std.proofs.lemmas.Nat.{and_le_l}
+use Rattle.std.proofs.lemmas.Nat.{and_le_l, and_le_r}
 use Rattle.std.proofs.lemmas.Bool.Decides.{nat_tests}
 use Rattle.wires.specs.Bits.{bit}
 
@@ -68,3 +68,48 @@ bit_without_other n k fits lt i other = elim (cases_lt i 16) [
       zero_is _ (bit_at_above _ 16 i (omega arith) many)
       ∙ sym (zero_is _ (bit_at_above n 16 i fits many))
 ]
+
+below_word : (n : ℕ) → bit_not w16 n < 65536
+below_word n = omega arith
+
+-- what is left of a number without bits from 16 on, where bit k is cleared
+pub bit_without_left : (n k : ℕ) → k < 16 → ((i : ℕ) → IsTrue (bit n i) → i < 16) → (i : ℕ)
+    → IsTrue (bit (bit_and n (bit_not w16 (1 * 2 ^ k % 2 ^ 16))) i)
+    ↔ (IsTrue (bit n i) × (Some k ≢ Some i))
+bit_without_left n k lt low i = elim (cases_lt i 16) [
+  | inl few ↦ by_place few (same_place i k)
+  | inr many ↦ (
+    (λ t.
+        let le = and_le_r n (bit_not w16 (1 * 2 ^ k % 2 ^ 16)) in
+        absurd (not_one _ (bit_at_above _ 16 i (omega (arith, below_word (1 * 2 ^ k % 2 ^ 16))) many)
+        t)),
+    (λ both. absurd (let few = low i both.0 in omega arith)),
+  )
+]
+  where
+    same_place : (i k : ℕ) → (i ≡ k) ⊎ (i ≢ k)
+    same_place i k = elim (cases_lt i k) [
+      | inl lt ↦ inr (λ e. omega arith)
+      | inr le ↦ elim (cases_lt k i) [
+        | inl lt ↦ inr (λ e. omega arith)
+        | inr ge ↦ inl (omega arith)
+      ]
+    ]
+
+    by_place : i < 16 → (i ≡ k) ⊎ (i ≢ k)
+        → IsTrue (bit (bit_and n (bit_not w16 (1 * 2 ^ k % 2 ^ 16))) i)
+        ↔ (IsTrue (bit n i) × (Some k ≢ Some i))
+    by_place few (inl e) = (
+      (λ t.
+          let off = bit_without_same n k lt in
+          let on = rw e at t in
+          let bad : true ≡ false = sym on ∙ off in
+          cc),
+      (λ both. absurd (both.1 (ap Some (sym e)))),
+    )
+    by_place few (inr other) =
+        let same : bit (bit_and n (bit_not w16 (1 * 2 ^ k % 2 ^ 16))) i ≡ bit n i =
+        ap (λ (b : ℕ). b == 1) (bit_at_clear_other w16 n k lt i few other) in (
+          (λ t. (sym same ∙ t, λ e. let h : k ≡ i = cc in other (sym h))),
+          (λ both. same ∙ both.0),
+        )

@@ -9,6 +9,8 @@ pub mod Written
 pub mod Winner
 pub mod StoredAfter
 pub mod AlertingAfter
+pub mod WriteChoices
+pub mod NextStates
 pub mod Answering
 pub mod SomeAnswerLaw
 pub mod StateLawProofs

@@ -20,5 +20,5 @@ takes Page t value = is_page_value t.pages value
 takes Protect t value = is_protection value
 
 -- `WritesPage` or `WritesProtect`
-abbrev pub WritesTo : Register → Board → BusState → Option Asked → Answered → ℕ → ℕ → Type 0
-WritesTo r b s m a i value = Writes (code_of r) (takes r) b s m a i value
+abbrev pub SetsRegister : Register → Board → BusState → Option Asked → Answered → ℕ → ℕ → Type 0
+SetsRegister r b s m a i value = Writes (code_of r) (takes r) b s m a i value

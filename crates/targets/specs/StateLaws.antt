@@ -16,3 +16,13 @@ StartsBelong = (b : Board) (s : BusState) → IsBoard b → IsStart b s → Belo
 abbrev pub StepsBelong : Type 0
 StepsBelong = (b : Board) (s new : BusState) (m : Option Asked) (a : Answered) → Belongs b s
     → FitsStep b s m a → IsAfter b s m a new → Belongs b new
+
+-- a state after a message, or after a step that sends none
+pub record HasStateAfter (b : Board) (s : BusState) (m : Option Asked) (a : Answered) : Type 0 where
+  pub state : BusState
+  pub after : IsAfter b s m a state
+
+-- whatever is asked and answered, there is one
+abbrev pub AnswersHaveStates : Type 0
+AnswersHaveStates = (b : Board) (s : BusState) (m : Option Asked) (a : Answered) → IsBoard b
+    → Belongs b s → HasStateAfter b s m a

@@ -9,7 +9,7 @@ ghost use Rattle.targets.specs.Outcomes.{IsDone, cut_of};
 ghost use Rattle.targets.specs.WriteSlots.{reaches_value, cuts_after_value};
 ghost use Rattle.targets.specs.Effects.{IsByteWrite, ValueWentOut, TakesEffect, IsPermitted};
 ghost use Rattle.targets.specs.Effects.{WritesPage, WritesProtect};
-ghost use Rattle.targets.specs.Registers.{code_of, takes, WritesTo};
+ghost use Rattle.targets.specs.Registers.{code_of, takes, SetsRegister};
 
 use crate::outcome::cut_of;
 use crate::state::BusState;
@@ -169,9 +169,9 @@ fn write_by(
     answer: &Answer,
 ) -> Option<(usize, u8)>
     ensures some { IfSome result
-        (λ w. WritesTo register board.now state.now (Some message.now) answer.now w.0 w.1) }
+        (λ w. SetsRegister register board.now state.now (Some message.now) answer.now w.0 w.1) }
     ensures only { IsBoard board.now → (i value : ℕ)
-        → WritesTo register board.now state.now (Some message.now) answer.now i value
+        → SetsRegister register board.now state.now (Some message.now) answer.now i value
         → result ≡ Some (i, value) }
 {
     let code = register.code();

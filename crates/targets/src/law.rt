@@ -1,5 +1,5 @@
 ghost use Rattle.targets.specs.SomeAnswer.{MessagesHaveAnswers, SilenceHasAnswers, SomeCase};
-ghost use Rattle.targets.specs.StateLaws.{StartsBelong, StepsBelong};
+ghost use Rattle.targets.specs.StateLaws.{StartsBelong, StepsBelong, AnswersHaveStates};
 ghost use Rattle.targets.specs.AlertLaws.{SomeTargetWins, OneTargetWins, LowestAddressWins};
 ghost use Rattle.targets.specs.PlaceLaws.{TargetsAreFound};
 ghost use Rattle.targets.specs.RangeLaws.{ValuesAreOfForm, LengthsAreOfBlocks};
@@ -31,6 +31,13 @@ pub fn lowest_address_wins()
     ensures lowest { LowestAddressWins }
 {
     least_byte_wins();
+}
+
+/// Whatever is asked and answered in a state of the board, there is a state after it.
+pub fn answers_have_states()
+    ensures { AnswersHaveStates }
+{
+    lowest_address_wins();
 }
 
 /// A target is found by its address, which no other target of the board has.

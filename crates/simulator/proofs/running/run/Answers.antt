@@ -1,6 +1,6 @@
 use Rattle.std.proofs.Common.{◌≡◌, ◌<◌, ap, subst, take, All}
 use Rattle.std.proofs.lemmas.List.{take_all}
-use Rattle.simulator.specs.Faults.{FailsAt}
+use Rattle.simulator.specs.Faults.{RunFails}
 use Rattle.simulator.specs.Machines.{Machine, Entry}
 use Rattle.simulator.proofs.Runs.{fails_here, passed_on, out_of_memory, next_run, seen_more}
 use Rattle.simulator.proofs.Runs.{sum_more, still_within}
@@ -9,7 +9,7 @@ use Rattle.simulator.proofs.running.run.Goals as goal
 pub returns-in_err-step-clause-fault : goal.returns-in_err-step-clause-fault
 returns-in_err-step-clause-fault c =
     passed_on c.from_residual-in_err-step.result c.in_err-step.field-0.0
-    (λ e. FailsAt c.args.board.now c.args.program.now c.args.machine.now c.args.answers.now e)
+    (λ e. RunFails c.args.board.now c.args.program.now c.args.machine.now c.args.answers.now e)
     c.from_residual-in_err-step.ensures.1
     (λ real.
     fails_here c.args.board.now c.args.program.now c.args.machine.now c.loop-index.last
@@ -22,7 +22,7 @@ returns-in_err-step-clause-fault c =
 pub returns-in_err-push-clause-fault : goal.returns-in_err-push-clause-fault
 returns-in_err-push-clause-fault c =
     out_of_memory c.from_residual-in_err-push.result
-    (λ e. FailsAt c.args.board.now c.args.program.now c.args.machine.now c.args.answers.now e)
+    (λ e. RunFails c.args.board.now c.args.program.now c.args.machine.now c.args.answers.now e)
     c.from_residual-in_err-push.ensures.1
 
 pub loop-index-preserved : goal.loop-index-preserved
