@@ -21,7 +21,7 @@ use Rattle.table_check.specs.Obligations.{of_row, of_places, AllHold, IsInductiv
 use Rattle.table_check.specs.Obligations.{IsFirstFault, IsVerdict, verdict_on}
 use Rattle.table_check.specs.declared.verdict.Verdict.{Verdict}
 use Rattle.table_check.specs.declared.verdict.Verdict.TheVariants as verdict
-use Rattle.table_check.specs.ByPlace.{Follows, GoesOn, MeetsAll, KeepsDuties}
+use Rattle.table_check.specs.ByPlace.{Follows, EdgesHold, MeetsAll, KeepsDuties}
 use Rattle.table_check.specs.ByPlace.{InductiveByPlace, FollowingTablesTellDuties}
 use Rattle.table_check.specs.ByPlace.{ClosedTablesTellDutiesOrTicks}
 use Rattle.table_check.proofs.Obligations.{hold_front, hold_back, hold_edge, hold_place, hold_shape}
@@ -78,14 +78,14 @@ abbrev after_duties : Board → ℕ → Instr → Row → List Obligation
 after_duties b n i row = of_edges n (worst_ticks b i) (edges b n i row) ++ of_end n row i
 
 all_after : (b : Board) (p : List Instr) (t : Table) (n : ℕ) (i : Instr) (u : Row)
-    → GoesOn b t n i u → AllHold b p t (after_duties b n i u)
+    → EdgesHold b t n i u → AllHold b p t (after_duties b n i u)
 all_after b p t n i u k =
     all_append b p t (of_edges n (worst_ticks b i) (edges b n i u)) (of_end n u i)
     (all_edges b p t n (worst_ticks b i) (edges b n i u) (λ e h. (k.covered e h, k.falls e h)))
     (all_end b p t n u i k.ends)
 
 all_row : (b : Board) (p : List Instr) (t : Table) (n : ℕ) (i : Instr) (u : Row)
-    → MeetsAll b i u → GoesOn b t n i u → AllHold b p t (of_row b n i u)
+    → MeetsAll b i u → EdgesHold b t n i u → AllHold b p t (of_row b n i u)
 all_row b p t n i u duty k =
     (duty K1, (duty K2, (duty K3, (duty K4, (duty K5, all_after b p t n i u k)))))
 
@@ -110,19 +110,19 @@ here b p t first i is' u rows Holds' k =
     let e : first + 0 ≡ first = omega arith in subst P e (k 0 i u refl refl)
 
 all_places : (b : Board) (p : List Instr) (t : Table) (is' : List Instr) (rows : Table) (first : ℕ)
-    → At b p t first is' rows (λ n i u. MeetsAll b i u × GoesOn b t n i u)
+    → At b p t first is' rows (λ n i u. MeetsAll b i u × EdgesHold b t n i u)
     → AllHold b p t (of_places b first is' rows)
 all_places b p t [] rows first k = tt
 all_places b p t (i ∷ is') [] first k = tt
 all_places b p t (i ∷ is') (None ∷ rows) first k =
     all_places b p t is' rows (first + 1)
-    (later b p t first i is' None rows (λ n i u. MeetsAll b i u × GoesOn b t n i u) k)
+    (later b p t first i is' None rows (λ n i u. MeetsAll b i u × EdgesHold b t n i u) k)
 all_places b p t (i ∷ is') (Some x ∷ rows) first k =
-    let at' = here b p t first i is' x rows (λ n i u. MeetsAll b i u × GoesOn b t n i u) k in
+    let at' = here b p t first i is' x rows (λ n i u. MeetsAll b i u × EdgesHold b t n i u) k in
     all_append b p t (of_row b first i x) (of_places b (first + 1) is' rows)
     (all_row b p t first i x at'.0 at'.1)
     (all_places b p t is' rows (first + 1)
-    (later b p t first i is' (Some x) rows (λ n i u. MeetsAll b i u × GoesOn b t n i u) k))
+    (later b p t first i is' (Some x) rows (λ n i u. MeetsAll b i u × EdgesHold b t n i u) k))
 
 at_first : (n : ℕ) → n ≡ 0 + n
 at_first n = omega arith
@@ -134,7 +134,7 @@ built b p t k met = (
   all_append b p t (shapes 0 t) (Start ∷ of_places b 0 p t) (all_shapes b p t t 0 k.rows) (
     k.start,
     all_places b p t p t 0 (λ n i u a r.
-        let P : ℕ → Type 0 = λ x. MeetsAll b i u × GoesOn b t x i u in
+        let P : ℕ → Type 0 = λ x. MeetsAll b i u × EdgesHold b t x i u in
         subst P (at_first n) (met n i u a r, k.goes_on n i u a r (met n i u a r))),
   ),
 )
@@ -148,7 +148,7 @@ all_of b p t n i u h a r =
     (hold_back b p t (shapes 0 t) (Start ∷ of_places b 0 p t) h.1).1 (at_first n) a r
 
 goes : (b : Board) (p : List Instr) (t : Table) (n : ℕ) (i : Instr) (u : Row)
-    → AllHold b p t (of_row b n i u) → GoesOn b t n i u
+    → AllHold b p t (of_row b n i u) → EdgesHold b t n i u
 goes b p t n i u h =
     let es = of_edges n (worst_ticks b i) (edges b n i u) in
     let rest : AllHold b p t (after_duties b n i u) = h.1.1.1.1.1 in
@@ -328,8 +328,8 @@ tells_duty b p t (verdict.Accepted bound) k is = tt
 tells_duty b p t (verdict.Refused place rule) k is =
     tells (Contains duties) b p t (verdict.Refused place rule) k.places k.rows k.start
     (λ n i u a r rest found.
-    let P : ℕ → Type 0 = λ x. MeetsAll b i u → GoesOn b t x i u in
-    let goes_on : MeetsAll b i u → GoesOn b t (0 + n) i u =
+    let P : ℕ → Type 0 = λ x. MeetsAll b i u → EdgesHold b t x i u in
+    let goes_on : MeetsAll b i u → EdgesHold b t (0 + n) i u =
     subst P (at_first n) (k.goes_on n i u a r) in
     tells_duties (Contains duties) b p t (0 + n) i u rest found (λ x c. c)
     (λ met h. inr (past b p t (after_duties b (0 + n) i u) rest found

@@ -17,7 +17,7 @@ use Rattle.table_check.specs.Obligations.{IsInductive, IsVerdict}
 use Rattle.table_check.specs.Rules.{IsCovered, Pays, PaysEnd, Starts}
 
 -- K6 and K7 of an instruction at its row
-pub record GoesOn (b : Board) (t : Table) (place : ℕ) (i : Instr) (row : Row) : Type 0 where
+pub record EdgesHold (b : Board) (t : Table) (place : ℕ) (i : Instr) (row : Row) : Type 0 where
   pub covered : (e : Edge) → HasEdge (edges b place i row) e → IsCovered b t e
   pub falls : (e : Edge) → HasEdge (edges b place i row) e → Pays t (worst_ticks b i) e
   pub ends : IsTrue (is_end i) → PaysEnd row
@@ -33,7 +33,7 @@ pub record Follows (b : Board) (p : List Instr) (t : Table) : Type 0 where
   pub start : Starts b t
   pub goes_on : (place : ℕ) (i : Instr) (row : Row)
       → slice_get p place ≡ Some i → row_of t place ≡ Some row → MeetsAll b i row
-      → GoesOn b t place i row
+      → EdgesHold b t place i row
 
 -- K8, K9, and wherever a place's duties are met, K6 there
 pub record IsClosed (b : Board) (p : List Instr) (t : Table) : Type 0 where

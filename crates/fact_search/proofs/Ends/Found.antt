@@ -11,7 +11,7 @@ use Rattle.facts.specs.Rows.{Row, IsRow, RowCovers, most_ticks, rank}
 use Rattle.facts.specs.Starts.{HoldsStarts}
 use Rattle.facts.specs.Steps.{HasEdge}
 use Rattle.facts.specs.Ticks.{worst_ticks}
-use Rattle.table_check.specs.ByPlace.{Follows, GoesOn, KeepsDuties, MeetsAll}
+use Rattle.table_check.specs.ByPlace.{Follows, EdgesHold, KeepsDuties, MeetsAll}
 use Rattle.table_check.specs.Obligations.{IsInductive}
 use Rattle.table_check.specs.Tables.{Table, row_of}
 use Rattle.fact_search.specs.Finds.{IsFound, TellsCause}
@@ -112,7 +112,7 @@ goes_on : (b : Board) (p : List Instr) (t : Table) (ticks : List ℕ) (place : �
     (row : Row) → Premises b p → IsFollowedTable b p t → DoFit b p t ticks
     → slice_get p place ≡ Some i → row_of t place ≡ Some row
     → MeetsAll b i (left_with row (slice_index ticks place))
-    → GoesOn b (ticked (map plain ticks) t) place i (left_with row (slice_index ticks place))
+    → EdgesHold b (ticked (map plain ticks) t) place i (left_with row (slice_index ticks place))
 goes_on b p t ticks place i row given k fit here there met = record {
   covered = λ e h.
       let y = back e h in
@@ -183,7 +183,7 @@ follows b p t ticks given k fit = record {
   );
   goes_on = λ place i row here at' met.
       let x = plain_row ticks t place row same_length at' in
-      let P : Row → Type 0 = λ z. GoesOn b (ticked (map plain ticks) t) place i z in
+      let P : Row → Type 0 = λ z. EdgesHold b (ticked (map plain ticks) t) place i z in
       let Q : Row → Type 0 = λ z. MeetsAll b i z in
       subst P (sym x.2) (goes_on b p t ticks place i x.0 given k fit here x.1 (subst Q x.2 met));
 }
