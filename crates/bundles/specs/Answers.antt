@@ -63,8 +63,8 @@ read_or_silent (Err fault) = record {
 abbrev pub answer_said : ℕ × Line → Answered
 answer_said line = read_or_silent (answer_line_of line.0 line.1)
 
-abbrev pub IsAnswer : ℕ × Line → Type 0
-IsAnswer line = answer_line_of line.0 line.1 ≡ Ok (answer_said line)
+abbrev pub IsGoodAnswer : ℕ × Line → Type 0
+IsGoodAnswer line = answer_line_of line.0 line.1 ≡ Ok (answer_said line)
 
 -- what lines say that are answers
 abbrev pub answers_said : List (ℕ × Line) → List Answered

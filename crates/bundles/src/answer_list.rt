@@ -4,7 +4,7 @@ ghost use Rattle.std.specs.Prelude.{◌≡◌, ◌≤◌, ◌<◌, ◌^◌, [], 
 ghost use Rattle.std.specs.Prelude.{IfSome, OnOk, MatchOption};
 ghost use Rattle.texts.specs.Reading.{Fails, Gives};
 ghost use Rattle.bundles.specs.AnswerLines.{answer_line_of};
-ghost use Rattle.bundles.specs.Answers.{IsAnswer, answer_said, answers_said, answer_lines_of};
+ghost use Rattle.bundles.specs.Answers.{IsGoodAnswer, answer_said, answers_said, answer_lines_of};
 ghost use Rattle.bundles.specs.CountedLines.{counted_lines};
 ghost use Rattle.bundles.specs.Views.{section_view};
 
@@ -27,7 +27,7 @@ pub struct AnswerLines<'a> {
 impl<'a> Model for AnswerLines<'a> {
     ghost use Rattle.std.specs.Prelude.{List, All};
     ghost use Rattle.smbus.specs.Answered.{Answered};
-    ghost use Rattle.bundles.specs.Answers.{IsAnswer, answers_said};
+    ghost use Rattle.bundles.specs.Answers.{IsGoodAnswer, answers_said};
     ghost use Rattle.bundles.specs.CountedLines.{counted_lines};
     ghost use Rattle.bundles.specs.Views.{section_view};
 
@@ -35,12 +35,12 @@ impl<'a> Model for AnswerLines<'a> {
 
     ghost view = { λ a. answers_said (counted_lines (section_view a.section)) };
 
-    ghost invariant = { λ a. All IsAnswer (counted_lines (section_view a.section)) };
+    ghost invariant = { λ a. All IsGoodAnswer (counted_lines (section_view a.section)) };
 }
 
 /// Looks at a line, which `-` alone needn't be read for.
 fn check_line(alloc: Global, number: usize, line: &str) -> Result<(), ReadError<BundleFault>>
-    ensures said { OnOk result (IsAnswer (number, line.now)) }
+    ensures said { OnOk result (IsGoodAnswer (number, line.now)) }
     ensures held { OnOk result
         (All (λ hold. hold ≤ 6999) (answer_said (number, line.now)).holds) }
     ensures fault { IfErr result (λ e. Fails e (answer_line_of number line.now)) }
@@ -54,7 +54,7 @@ fn check_line(alloc: Global, number: usize, line: &str) -> Result<(), ReadError<
 
 /// Looks at each line that counts, up to the first that is no answer.
 fn check_lines(alloc: Global, section: &Section<'_>) -> Result<(), ReadError<BundleFault>>
-    ensures all { OnOk result (All IsAnswer (counted_lines (section_view section.now))) }
+    ensures all { OnOk result (All IsGoodAnswer (counted_lines (section_view section.now))) }
     ensures held { OnOk result (All (λ answer. All (λ hold. hold ≤ 6999) answer.holds)
         (answers_said (counted_lines (section_view section.now)))) }
     ensures value { Gives (λ _. answers_said (counted_lines (section_view section.now))) result

@@ -1,6 +1,6 @@
 //! Bundles made of a command and files.
 
-ghost use Rattle.std.specs.Prelude.{◌≡◌, ◌++◌, map, IfOk, OnOk};
+ghost use Rattle.std.specs.Prelude.{◌≡◌, ◌++◌, map, IfOk, OnOk, OnErr};
 ghost use Rattle.bundles.specs.Composed.{is_ended, ended, section_text, sections_text, composed};
 
 use crate::command::{Command, Header};
@@ -16,9 +16,11 @@ fn is_ended(file: &[u8]) -> bool
     }
 }
 
-/// Ends the last line of a file by a line feed, where it lacks one. Fails only for want of memory.
+/// Ends the last line of a file by a line feed, where it lacks one. Fails only for want of memory,
+/// and then leaves the file as it was.
 pub fn end_last_line(file: &mut Vec<u8>) -> Result<(), AllocError>
-    ensures { OnOk result (file.new.items ≡ ended file.old.items) }
+    ensures ends { OnOk result (file.new.items ≡ ended file.old.items) }
+    ensures unchanged { OnErr result (file.new.items ≡ file.old.items) }
 {
     if is_ended(file) {
         Ok(())

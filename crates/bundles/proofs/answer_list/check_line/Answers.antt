@@ -2,13 +2,13 @@ use Rattle.std.proofs.Common.{◌≡◌, ◌≤◌, ℕ, codes, subst, sym}
 use Rattle.std.proofs.lemmas.List.Elements.{All-nil}
 use Rattle.std.proofs.lemmas.Slice.Eq.{bytes_eq-Decides}
 use Rattle.bundles.specs.AnswerLines.{silence}
-use Rattle.bundles.specs.Answers.{IsAnswer, answer_said}
+use Rattle.bundles.specs.Answers.{IsGoodAnswer, answer_said}
 use Rattle.bundles.specs.Bundles.{Line}
 use Rattle.bundles.proofs.CheckedLines.{IsHeld, is_answer, is_held}
 use Rattle.bundles.proofs.Silence.{dash_is_silence}
 use Rattle.bundles.proofs.answer_list.check_line.Goals as goal
 
-is_said : (number : ℕ) → IsAnswer (number, codes "-")
+is_said : (number : ℕ) → IsGoodAnswer (number, codes "-")
 is_said number = is_answer (number, codes "-") silence (dash_is_silence number)
 
 none_held : (number : ℕ) → IsHeld (answer_said (number, codes "-"))
@@ -19,7 +19,7 @@ pub returns-then-eq-clause-said : goal.returns-then-eq-clause-said
 returns-then-eq-clause-said c =
     let dash : c.args.line.now ≡ codes "-" =
     (bytes_eq-Decides c.args.line.now (codes "-")).0 (sym c.if-eq.ensures) in
-    subst (λ (line : Line). IsAnswer (c.args.number, line)) (sym dash) (is_said c.args.number)
+    subst (λ (line : Line). IsGoodAnswer (c.args.number, line)) (sym dash) (is_said c.args.number)
 
 pub returns-then-eq-clause-held : goal.returns-then-eq-clause-held
 returns-then-eq-clause-held c =
