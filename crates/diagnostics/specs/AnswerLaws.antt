@@ -7,7 +7,7 @@ use Rattle.diagnostics.specs.AnswerPlaces.{counted_line}
 use Rattle.diagnostics.specs.Notes.{line_at}
 
 -- on the line with this number stands this answer
-pub record SaysAnswer (lines : List (List ℕ)) (number : ℕ) (answer : Answered) : Type 0 where
+pub record TellsAnswer (lines : List (List ℕ)) (number : ℕ) (answer : Answered) : Type 0 where
   pub line : List ℕ
   pub stands : line_at number lines ≡ Some line
   pub reads : answer_line_of number line ≡ Ok answer
@@ -19,4 +19,4 @@ AnswersAreFound = (lines : List (List ℕ)) (answers : Answers) (index : ℕ) (a
     → answers_in (record { first_line = 1; lines = lines }) ≡ Ok answers
     → slice_get answers.answers index ≡ Some answer
     → (number : ℕ) × (counted_line (index + 1) lines ≡ Some number)
-    × SaysAnswer lines number answer
+    × TellsAnswer lines number answer

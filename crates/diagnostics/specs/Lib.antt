@@ -1,3 +1,4 @@
+pub mod ShownLines
 pub mod Notes
 pub mod Nearest
 pub mod ProgramPlaces

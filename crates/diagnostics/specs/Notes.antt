@@ -1,12 +1,9 @@
 -- What a note looks like.
 use Rattle.std.specs.Prelude.{◌≡◌, ◌≢◌, ◌==◌, ◌-◌, ◌++◌, ℕ, List, [], Option, Some, None, All}
-use Rattle.std.specs.Prelude.{Bool, true, not, ◌||◌, ◌&&◌, nat_le, length}
-use Rattle.std.specs.Prelude.{IfSome, IsSomeAnd, slice_get, codes, if◌then◌else◌}
-use Rattle.std.specs.List.{list_all}
-use Rattle.std.specs.Str.{chars}
-use Rattle.std.specs.Char.{is_control}
+use Rattle.std.specs.Prelude.{IfSome, slice_get, codes, if◌then◌else◌}
 use Rattle.std.specs.Fmt.{decimal}
 use Rattle.texts.specs.Ascii as ascii
+use Rattle.diagnostics.specs.ShownLines.{IsShown}
 
 -- the line with this number, counted from 1
 abbrev pub line_at : ℕ → List (List ℕ) → Option (List ℕ)
@@ -20,23 +17,6 @@ NoFeed text = All (λ b. b ≢ ascii.line_feed) text
 abbrev pub head : List ℕ → List ℕ → ℕ → List ℕ
 head kind section number =
     section ++ codes ":" ++ decimal number ++ codes ": " ++ kind ++ codes ": "
-
--- the most bytes of a line that are shown
-abbrev pub most_shown : ℕ
-most_shown = 200
-
--- no control character but tabs (9)
-abbrev pub has_no_control : List ℕ → Bool
-has_no_control line = list_all (λ c. (c == 9) || not (is_control c)) (chars line)
-
--- a line that can be shown as it is
-abbrev pub is_plain : List ℕ → Bool
-is_plain line = nat_le (length line) most_shown && has_no_control line
-
--- a line as it is shown, if there is one: a plain one as it is
-abbrev pub IsShown : Option (List ℕ) → Option (List ℕ) → Type 0
-IsShown None shown = shown ≡ None
-IsShown (Some line) shown = IsSomeAnd shown (λ text. is_plain line ≡ true → text ≡ line)
 
 -- a line of the text, indented, if there is one
 abbrev pub quoted : Option (List ℕ) → List ℕ

@@ -7,7 +7,7 @@ ghost use Rattle.session.specs.Commands.{Task};
 ghost use Rattle.session.specs.Intake.{IsFrontOf};
 ghost use Rattle.session.specs.Promises.{GivesUpOnLoopsAlone, IsKeptPromise};
 ghost use Rattle.session.specs.Seen.{IsSeenAfter};
-ghost use Rattle.session.specs.Sessions.{task_of, IsAnswered, IsBegun};
+ghost use Rattle.session.specs.Sessions.{task_of, IsAnswered, IsCutShort};
 ghost use Rattle.session.specs.declared.answering.DeviceFault.TheVariants.{Writer};
 ghost use Rattle.session.specs.declared.fault.InputFault.{InputFault};
 
@@ -158,9 +158,10 @@ pub fn answer<R: Read, W: Write>(
     // Of an input of over 1 MiB nothing is told.
     ensures long { IfOk result (λ answered. IfSome (R.remaining reader.old) (λ input.
         IsUntold input answered.notes)) }
-    ensures begun { IfErr result
-        (λ fault. fault ≡ Writer → IfSome (R.remaining reader.old) (λ input.
-        IsBegun input (W.contents writer.old) (W.contents writer.new))) }
+    // Where the writer failed, all was read, and a beginning of the reply was written.
+    ensures begun { IfErr result (λ fault. fault ≡ Writer
+        → IsCutShort (R.remaining reader.old) (R.remaining reader.new)
+        (W.contents writer.old) (W.contents writer.new)) }
 
     // Where memory or the reader failed, nothing was written.
     ensures silent { IfErr result (λ fault. fault ≢ Writer → writer.new ≡ writer.old) }

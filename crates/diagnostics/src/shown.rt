@@ -1,30 +1,42 @@
 //! Lines of a file as notes show them.
 
-ghost use Rattle.std.specs.Prelude.{◌≡◌, option_copied, option_map, true, IfOk, string_bytes};
-ghost use Rattle.diagnostics.specs.Notes.{has_no_control, is_plain, IsShown};
+ghost use Rattle.std.specs.Prelude.{◌≡◌, ◌++◌, flat_map, length, take, option_copied, option_map};
+ghost use Rattle.std.specs.Prelude.{IfOk, OnOk, string_bytes};
+ghost use Rattle.std.specs.Str.{chars};
+ghost use Rattle.diagnostics.specs.ShownLines.{is_harmless, are_harmless, is_plain, shown_char};
+ghost use Rattle.diagnostics.specs.ShownLines.{IsBeginning, IsEscaped, IsShownAs, IsShown};
 
 use std::alloc::{AllocError, Global};
 
 /// The most bytes of a line that are shown.
 const MOST_SHOWN: usize = 200;
 
-/// Whether a line has no control character but tabs, which a terminal might obey.
-fn has_no_control(line: &str) -> bool
-    ensures { result ≡ has_no_control line.now }
+/// Whether a character may stand in a note: a terminal might obey control characters, but for tabs.
+fn is_harmless(c: char) -> bool
+    ensures { result ≡ is_harmless c }
 {
-    line.chars().all(|c| c == '\t' || !c.is_control())
+    c == '\t' || !c.is_control()
+}
+
+/// Whether all characters of a line may.
+fn are_harmless(line: &str) -> bool
+    ensures { result ≡ are_harmless line.now }
+{
+    line.chars().all(|c| is_harmless(c))
 }
 
 /// Whether a line can be shown as it is.
 fn is_plain(line: &str) -> bool
     ensures { result ≡ is_plain line.now }
 {
-    line.len() <= MOST_SHOWN && has_no_control(line)
+    line.len() <= MOST_SHOWN && are_harmless(line)
 }
 
-/// Adds a character, or how it is escaped.
-fn push_escaped(text: &mut String, c: char) -> Result<(), AllocError> {
-    if c == '\t' || !c.is_control() {
+/// Adds a character, or its number where it is a control character.
+fn push_char(text: &mut String, c: char) -> Result<(), AllocError>
+    ensures { OnOk result (string_bytes text.new ≡ string_bytes text.old ++ shown_char c) }
+{
+    if is_harmless(c) {
         text.push(c)
     } else {
         let code = u32::from(c);
@@ -32,15 +44,32 @@ fn push_escaped(text: &mut String, c: char) -> Result<(), AllocError> {
     }
 }
 
-/// The beginning of a line, with its control characters escaped.
-fn escaped(alloc: Global, line: &str) -> Result<String, AllocError> {
-    let beginning = line
-        .get(..line.floor_char_boundary(MOST_SHOWN))
-        .unwrap_or("");
-    let mut text = String::new(alloc);
-    for c in beginning.chars() {
-        push_escaped(&mut text, c)?;
+/// Adds the characters of a text.
+fn push_chars(text: &mut String, added: &str) -> Result<(), AllocError>
+    ensures { OnOk result (string_bytes text.new
+        ≡ string_bytes text.old ++ flat_map shown_char (chars added.now)) }
+{
+    for c in added.chars() {
+        push_char(text, c)?;
     }
+    Ok(())
+}
+
+/// As many whole characters of the beginning of a line as are shown.
+fn beginning(line: &str) -> &str
+    ensures whole { IsBeginning line.now (length result.now) }
+    ensures is { result.now ≡ take (length result.now) line.now }
+{
+    &line[..line.floor_char_boundary(MOST_SHOWN)]
+}
+
+/// The beginning of a line, with its control characters escaped.
+fn escaped(alloc: Global, line: &str) -> Result<String, AllocError>
+    ensures { IfOk result (λ text. IsEscaped line.now (string_bytes text)) }
+{
+    let beginning = beginning(line);
+    let mut text = String::new(alloc);
+    push_chars(&mut text, beginning)?;
     if beginning.len() < line.len() {
         text.push_str("..")?;
     }
@@ -49,7 +78,7 @@ fn escaped(alloc: Global, line: &str) -> Result<String, AllocError> {
 
 /// A line as it is shown.
 fn shown(alloc: Global, line: &str) -> Result<String, AllocError>
-    ensures { IfOk result (λ text. is_plain line.now ≡ true → string_bytes text ≡ line.now) }
+    ensures { IfOk result (λ text. IsShownAs line.now (string_bytes text)) }
 {
     if is_plain(line) {
         String::from_str(alloc, line)

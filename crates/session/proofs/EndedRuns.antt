@@ -29,7 +29,7 @@ use Rattle.table_check.specs.Tables.{Table}
 use Rattle.session.specs.Accepted.{AdmittedKeepRules}
 use Rattle.session.specs.Breaches.{ComesTo, KeepsRulesAt, IsKnownAt, IsFirstBreach}
 use Rattle.session.specs.Known.{known_row}
-use Rattle.session.specs.Runs.{GoesOn}
+use Rattle.session.specs.Runs.{IsNextOrFault}
 use Rattle.session.proofs.JudgedRuns.{IsJudged, IsTold, kept_here, kept_at}
 use Rattle.session.proofs.Replayed.{IsReplayed, next_is}
 
@@ -121,7 +121,7 @@ stopped one step s left later index ticks m a fault h first why k lt =
 pub stops : RunsAreOne → StepsAreOne → (s : Scenario) (left later : List Answered)
     (index ticks : ℕ) (m : Machine) (good : Set) (a : Answered)
     → IsJudged s left index ticks m good → left ≡ a ∷ later → IsTold s m good None
-    → GoesOn s.board s.program m a ticks index None → IsFirstBreach s None
+    → IsNextOrFault s.board s.program m a ticks index None → IsFirstBreach s None
 stops one step s left later index ticks m good a j first told why =
     kept_at s index j.kept (kept_here one s left index ticks m good j told)
     (stopped one step s left later index ticks m a why.0 j.replayed first why.1)

@@ -10,9 +10,10 @@ use Rattle.session.specs.Commands.{task_in}
 use Rattle.session.specs.Replies.{Reply}
 use Rattle.std.proofs.lemmas.Bool.{cases_lt, lt-ltb}
 use Rattle.std.proofs.lemmas.List.{take_all}
-use Rattle.session.specs.Intake.{kept_limit, IsFrontOf}
+use Rattle.session.specs.Intake.{kept_limit, IsFrontOf, IsKeptOfAll}
 use Rattle.session.specs.Seen.{Sight, IsSeenAfter}
 use Rattle.session.specs.Sessions.{kept_text, kept_task, text_in, task_of, IsReplyAfter, IsReplyTo}
+use Rattle.session.specs.Sessions.{IsReplyToAll}
 
 too_large : (kept all : List ℕ) (over : Bool) → over ≡ true → nat_lt kept_limit (length all) ≡ true
     → kept_text kept over ≡ text_in all
@@ -38,6 +39,15 @@ replies_to (Some input) kept over reply front h =
     subst (λ (text : Result (List ℕ) BundleFault).
     IsReplyAfter (faulted faults.Bundle text >>= task_in) reply)
     (kept_text-front kept input over front) h
+
+pub replies_to_all : (first rest : Option (List ℕ)) (kept : List ℕ) (over : Bool) (reply : Reply)
+    → IsKeptOfAll first rest kept over → IsReplyAfter (kept_task kept over) reply
+    → IsReplyToAll first rest reply
+replies_to_all first rest kept over reply k h = record {
+  input = k.all;
+  read = k.read;
+  replies = replies_to (Some k.all) kept over reply k.front h;
+}
 
 -- and the same is seen of it
 pub seen_of : (first : Option (List ℕ)) (kept : List ℕ) (over : Bool) (seen : Sight)

@@ -10,7 +10,7 @@ use Rattle.smbus.specs.Answered.{Answered}
 use Rattle.targets.specs.States.{IsStart}
 use Rattle.simulator.specs.declared.fault.RunFault.{RunFault}
 use Rattle.simulator.specs.declared.fault.RunFault.TheVariants as faults
-use Rattle.simulator.specs.Faults.{most_ticks, IsStepFault, FailsAt}
+use Rattle.simulator.specs.Faults.{most_ticks, IsStepFault, RunFails}
 use Rattle.simulator.specs.Machines.{Machine, Entry, start_at, IsMachine}
 use Rattle.simulator.specs.Steps.{IsRun, total_ticks}
 use Rattle.simulator.specs.RunLaws.{RunsGoOn, TicksAddUp}
@@ -83,7 +83,7 @@ one_more go_on add_up s left later index ticks m next a e h first n =
     }
 
 is_fault : (s : Scenario) (fault : RunFault) → IsStart s.board (start_of s)
-    → FailsAt s.board s.program (start_at (start_of s)) s.answers.answers fault → IsFaultOf s fault
+    → RunFails s.board s.program (start_at (start_of s)) s.answers.answers fault → IsFaultOf s fault
 is_fault s faults.Memory start fails = absurd fails.why
 is_fault s (faults.AnswerDoesNotFit index) start fails = (start, fails)
 is_fault s (faults.AfterEnd index) start fails = (start, fails)

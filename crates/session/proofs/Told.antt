@@ -11,7 +11,7 @@ use Rattle.targets.specs.States.{IsStart}
 use Rattle.simulator.specs.declared.fault.RunFault.{RunFault}
 use Rattle.simulator.specs.declared.fault.RunFault.TheVariants as faults
 use Rattle.simulator.specs.declared.machine.Ending.{Ending}
-use Rattle.simulator.specs.Faults.{most_ticks, IsStepFault, FailsAt}
+use Rattle.simulator.specs.Faults.{most_ticks, IsStepFault, RunFails}
 use Rattle.simulator.specs.Machines.{Machine, Entry, start_at, IsMachine}
 use Rattle.simulator.specs.Steps.{IsStep, IsRun, total_ticks}
 use Rattle.simulator.specs.RunLaws.{RunsGoOn, TicksAddUp}
@@ -19,7 +19,7 @@ use Rattle.simulator.specs.Traces.{Trace, HasItsFrame}
 use Rattle.session.specs.declared.scenario.Scenario.{Scenario}
 use Rattle.session.specs.declared.report.Report.{Report}
 use Rattle.session.specs.declared.report.Telling.{Telling}
-use Rattle.session.specs.Reports.{IsReport, HasRoom, IsWhole, telling_of}
+use Rattle.session.specs.Reports.{IsReport, HasRoom, TellsAll, telling_of}
 use Rattle.session.specs.declared.report.Report.TheVariants as reports
 use Rattle.session.specs.declared.report.Telling.TheVariants.{Lines, Levels}
 use Rattle.session.specs.RunReplies.{IsToldRun, IsRunText}
@@ -126,7 +126,7 @@ told_run telling s index ticks m report h le start = record {
 }
 
 is_fault : (s : Scenario) (fault : RunFault) → IsStart s.board (start_of s)
-    → FailsAt s.board s.program (start_at (start_of s)) s.answers.answers fault → IsFaultOf s fault
+    → RunFails s.board s.program (start_at (start_of s)) s.answers.answers fault → IsFaultOf s fault
 is_fault s faults.Memory start fails = absurd fails.why
 is_fault s (faults.AnswerDoesNotFit index) start fails = (start, fails)
 is_fault s (faults.AfterEnd index) start fails = (start, fails)
@@ -208,7 +208,7 @@ empty_told telling report h =
 abbrev pub IsAll : Report → Ending → ℕ → List ℕ → Type 0
 IsAll report ended ticks text = (telling : Telling) (trace : Trace)
     → IsReport telling trace.entries report → ended ≡ trace.last.ended
-    → ticks ≡ total_ticks trace.entries → IsWhole telling trace text
+    → ticks ≡ total_ticks trace.entries → TellsAll telling trace text
 
 pub run_told : (telling : Telling) (s : Scenario) (empty report : Report) (ended : Ending)
     (ticks : ℕ) (text : List ℕ) → IsReport telling [] empty

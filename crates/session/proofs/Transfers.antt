@@ -9,7 +9,7 @@ use Rattle.std.proofs.lemmas.Bool.{cases_lt, lt-ltb, le-ltb}
 use Rattle.std.proofs.lemmas.List.{append-nil, take-append-le, take_all, take_min, length-take}
 use Rattle.std.proofs.lemmas.List.{length-append}
 use Rattle.std.proofs.Math.Seq.{take-append-add}
-use Rattle.session.specs.Intake.{kept_limit, IsFrontOf}
+use Rattle.session.specs.Intake.{kept_limit, IsFrontOf, IsKeptOfAll}
 
 pub record HasRead (first now : Option (List ℕ)) (kept : List ℕ) (too_large : Bool) : Type 0 where
   pub seen : List ℕ
@@ -97,6 +97,20 @@ pub read_all : (first now next : Option (List ℕ)) (kept : List ℕ) (over : Bo
 read_all first now next kept over h came end =
     Consumes-whole first next h.seen (IsFrontOf kept over) (subst (Consumes first next)
     (append-nil h.seen) (Consumes-trans first now next h.seen [] h.came came)) end h.front
+
+pub kept_whole : (first now next : Option (List ℕ)) (kept : List ℕ) (over : Bool)
+    → HasRead first now kept over → Consumes now next [] → IsAtEnd next
+    → IsKeptOfAll first next kept over
+kept_whole first now next kept over h came end = record {
+  all = h.seen;
+  read = record {
+    came =
+        subst (Consumes first next) (append-nil h.seen)
+        (Consumes-trans first now next h.seen [] h.came came);
+    ended = end;
+  };
+  front = h.front;
+}
 
 pub read_none : (a : Option (List ℕ)) → HasRead a a [] false
 read_none a =

@@ -68,12 +68,12 @@ asked_by commands.Verify sections =
     sequence_in (section_at sections 0) (section_at sections 1) >>= λ sequence.
     Ok (Verify sequence)
 
-abbrev pub task_of : Bundle → Result Task InputFault
-task_of bundle = asked_by bundle.command bundle.sections
+abbrev pub bundle_task : Bundle → Result Task InputFault
+bundle_task bundle = asked_by bundle.command bundle.sections
 
 -- what the lines of a bundle ask for
 abbrev pub task_in_lines : List Line → Result Task InputFault
-task_in_lines lines = faulted faults.Bundle (bundle_of lines) >>= λ bundle. task_of bundle
+task_in_lines lines = faulted faults.Bundle (bundle_of lines) >>= λ bundle. bundle_task bundle
 
 -- what the text of a bundle asks for
 abbrev pub task_in : List ℕ → Result Task InputFault

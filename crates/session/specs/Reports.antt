@@ -39,6 +39,6 @@ abbrev pub IsWaveText : Trace → List ℕ → Type 0
 IsWaveText t text = (marks : List Mark) × IsDump (steps_of t.entries) marks text
 
 -- all that is told of a run
-abbrev pub IsWhole : Telling → Trace → List ℕ → Type 0
-IsWhole Lines t text = IsTraceText t text
-IsWhole Levels t text = IsWaveText t text
+abbrev pub TellsAll : Telling → Trace → List ℕ → Type 0
+TellsAll Lines t text = IsTraceText t text
+TellsAll Levels t text = IsWaveText t text

@@ -10,7 +10,7 @@ use Rattle.session.specs.declared.scenario.Scenario.{Scenario}
 use Rattle.session.specs.declared.report.Report.{Report}
 use Rattle.session.specs.declared.report.Telling.{Telling}
 use Rattle.session.specs.Replies.{Reply, refusal}
-use Rattle.session.specs.Reports.{IsReport, IsWhole}
+use Rattle.session.specs.Reports.{IsReport, TellsAll}
 use Rattle.session.specs.Scenarios.{IsRunOf, IsFaultOf}
 
 -- its steps are told, and this is how it ended and how long it took
@@ -26,18 +26,18 @@ pub record IsToldRun (telling : Telling) (s : Scenario) (report : Report) (ended
 pub record IsRunText (telling : Telling) (s : Scenario) (text : List ℕ) : Type 0 where
   pub trace : Trace
   pub is_run : IsRunOf s trace
-  pub prints : IsWhole telling trace text
+  pub prints : TellsAll telling trace text
 
 pub record IsTraced (telling : Telling) (s : Scenario) (reply : Reply) : Type 0 where
   pub trace : Trace
   pub is_run : IsRunOf s trace
   pub status : reply.status ≡ Accepted
-  pub text : IsWhole telling trace reply.text
+  pub text : TellsAll telling trace reply.text
 
-pub record IsRefused (s : Scenario) (reply : Reply) : Type 0 where
+pub record TellsFault (s : Scenario) (reply : Reply) : Type 0 where
   pub fault : RunFault
   pub is_fault : IsFaultOf s fault
   pub refused : reply ≡ refusal (Run fault)
 
 abbrev pub IsRunReply : Telling → Scenario → Reply → Type 0
-IsRunReply telling s reply = IsTraced telling s reply ⊎ IsRefused s reply
+IsRunReply telling s reply = IsTraced telling s reply ⊎ TellsFault s reply

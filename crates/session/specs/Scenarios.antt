@@ -10,7 +10,7 @@ use Rattle.seq_program.specs.Programs.{program_of}
 use Rattle.seq_program.specs.Valid.{IsOnBoard}
 use Rattle.simulator.specs.declared.fault.RunFault.{RunFault}
 use Rattle.simulator.specs.declared.fault.RunFault.TheVariants.{BadStart}
-use Rattle.simulator.specs.Faults.{FailsAt}
+use Rattle.simulator.specs.Faults.{RunFails}
 use Rattle.simulator.specs.Machines.{Machine, IsMachine, start_at, start_state}
 use Rattle.simulator.specs.Steps.{IsRun}
 use Rattle.simulator.specs.Traces.{Trace, IsTrace}
@@ -65,4 +65,4 @@ abbrev pub IsFaultOf : Scenario → RunFault → Type 0
 IsFaultOf s BadStart = IsStart s.board (start_of s) → ⊥
 IsFaultOf s fault =
     IsStart s.board (start_of s)
-    × FailsAt s.board s.program (start_at (start_of s)) s.answers.answers fault
+    × RunFails s.board s.program (start_at (start_of s)) s.answers.answers fault

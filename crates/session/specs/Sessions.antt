@@ -5,7 +5,7 @@ use Rattle.std.specs.Str.{is_utf8}
 use Rattle.std.specs.Io.KnownBytes.{Appends}
 use Rattle.texts.specs.Reading.{◌>>=◌, some_or, value_if}
 use Rattle.texts.specs.Sending.{AppendsBeginning}
-use Rattle.session.specs.Intake.{kept_limit}
+use Rattle.session.specs.Intake.{kept_limit, IsReadWhole}
 use Rattle.session.specs.Commands.{Task, task_in, IsReplyOf}
 use Rattle.session.specs.Replies.{Reply, refusal}
 use Rattle.session.specs.declared.reply.Status.{Status}
@@ -58,3 +58,15 @@ pub record IsBegun (input : List ℕ) (old new : Option (List ℕ)) : Type 0 whe
   pub reply : Reply
   pub replies : IsReplyTo input reply
   pub written : AppendsBeginning old new reply.text
+
+-- a reply to all bytes of a reader
+pub record IsReplyToAll (first rest : Option (List ℕ)) (reply : Reply) : Type 0 where
+  pub input : List ℕ
+  pub read : IsReadWhole first rest input
+  pub replies : IsReplyTo input reply
+
+-- a reader was read to its end, and of the reply to its bytes no more than a beginning was written
+pub record IsCutShort (first rest old new : Option (List ℕ)) : Type 0 where
+  pub input : List ℕ
+  pub read : IsReadWhole first rest input
+  pub begun : IsBegun input old new

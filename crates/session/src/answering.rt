@@ -4,7 +4,7 @@ ghost use Rattle.session.specs.Intake.{IsFrontOf};
 ghost use Rattle.session.specs.Replies.{reply_view, refusal};
 ghost use Rattle.session.specs.Seen.{IsSeenAfter};
 ghost use Rattle.session.specs.Sessions.{kept_task, IsReplyAfter, IsReplyTo, IsAnswered, IsBegun};
-ghost use Rattle.session.specs.Sessions.{task_of};
+ghost use Rattle.session.specs.Sessions.{task_of, IsReplyToAll, IsCutShort};
 ghost use Rattle.session.specs.Promises.{GivesUpOnLoopsAlone, IsKeptPromise};
 ghost use Rattle.session.specs.Devices.{device_of};
 ghost use Rattle.session.specs.declared.answering.DeviceFault.TheVariants.{Memory, Writer};
@@ -103,6 +103,9 @@ pub fn receive<R: Read>(alloc: Global, reader: &mut R) -> Result<Received, ReadF
         (IsFrontOf received.input.bytes.items received.input.too_large)) }
     ensures replies { IfOk result (λ received. IfSome (R.remaining reader.old)
         (λ input. IsReplyTo input (reply_view received.reply))) }
+    // Where the reader doesn't tell its bytes beforehand, it is the reply to those that it gave.
+    ensures all { IfOk result (λ received. IsReplyToAll (R.remaining reader.old)
+        (R.remaining reader.new) (reply_view received.reply)) }
     // The board and the program, and where the run breaks a rule first.
     ensures seen { IfOk result (λ received. IfSome (R.remaining reader.old)
         (λ input. IsSeenAfter (task_of input) received.seen)) }
@@ -139,8 +142,9 @@ pub fn deliver<W: Write>(writer: &mut W, reply: &Reply) -> Result<Status, Device
     }
 }
 
-/// Answers an input, or tells which device failed.
-fn serve<R: Read, W: Write>(
+/// Answers an input: the whole reply to it is written. Fails where memory, the reader or the writer
+/// does, and tells which.
+pub fn serve<R: Read, W: Write>(
     alloc: Global,
     reader: &mut R,
     writer: &mut W,
@@ -152,9 +156,11 @@ fn serve<R: Read, W: Write>(
     ensures gave_up { IfOk result (λ _. IfSome (R.remaining reader.old) (λ input.
         GivesUpOnLoopsAlone input (W.contents writer.old) (W.contents writer.new))) }
     ensures whole { IfOk result (λ status. status ≢ Status.DeviceFault) }
-    ensures begun { IfErr result
-        (λ fault. fault ≡ Writer → IfSome (R.remaining reader.old) (λ input.
-        IsBegun input (W.contents writer.old) (W.contents writer.new))) }
+    // Where the writer failed, all was read, and a beginning of the reply was written.
+    ensures begun { IfErr result (λ fault. fault ≡ Writer
+        → IsCutShort (R.remaining reader.old) (R.remaining reader.new)
+        (W.contents writer.old) (W.contents writer.new)) }
+    // Where memory or the reader failed, nothing was written.
     ensures silent { IfErr result (λ fault. fault ≢ Writer → writer.new ≡ writer.old) }
 {
     let received = receive(alloc, reader)?;
@@ -175,10 +181,11 @@ pub fn session<R: Read, W: Write>(alloc: Global, reader: &mut R, writer: &mut W)
     ensures gave_up { result ≢ Status.DeviceFault → IfSome (R.remaining reader.old) (λ input.
         GivesUpOnLoopsAlone input (W.contents writer.old) (W.contents writer.new)) }
 
-    // A device failed: nothing was written, or a beginning of the reply.
-    ensures failed { result ≡ Status.DeviceFault
-        → (writer.new ≡ writer.old) ⊎ IfSome (R.remaining reader.old) (λ input.
-        IsBegun input (W.contents writer.old) (W.contents writer.new)) }
+    // A device failed: nothing was written, or all was read and a beginning of the reply was
+    // written. `serve` tells which device it was.
+    ensures failed { result ≡ Status.DeviceFault → (writer.new ≡ writer.old)
+        ⊎ IsCutShort (R.remaining reader.old) (R.remaining reader.new)
+        (W.contents writer.old) (W.contents writer.new) }
 {
     match serve(alloc, reader, writer) {
         Ok(status) => status,

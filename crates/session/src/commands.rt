@@ -4,7 +4,7 @@ ghost use Rattle.bundles.specs.Bundles.{headers_of};
 ghost use Rattle.bundles.specs.Views.{bundle_view};
 ghost use Rattle.session.specs.Replies.{reply_view};
 ghost use Rattle.session.specs.CheckReplies.{IsCheckReply};
-ghost use Rattle.session.specs.Commands.{task_of, task_in, task_view, IsReady, IsReplyOf};
+ghost use Rattle.session.specs.Commands.{bundle_task, task_in, task_view, IsReady, IsReplyOf};
 ghost use Rattle.session.specs.FrameReplies.{IsFrameReply};
 ghost use Rattle.session.specs.RunReplies.{IsRunReply};
 ghost use Rattle.session.specs.Scenarios.{IsOnItsBoard};
@@ -41,7 +41,7 @@ pub enum Task<'a> {
 /// What a bundle asks for. Its sections are read in order.
 fn task_of<'a>(alloc: Global, bundle: &Bundle<'a>) -> Result<Task<'a>, ReadError<InputFault>>
     requires { vec_len bundle.now.sections ≡ length (headers_of bundle.now.command) }
-    ensures value { Gives task_view result (task_of (bundle_view bundle.now)) }
+    ensures value { Gives task_view result (bundle_task (bundle_view bundle.now)) }
     ensures ready { IfOk result (λ task. IsReady (task_view task)) }
 {
     match bundle.command {

@@ -3,7 +3,7 @@ ghost use Rattle.std.specs.Prelude.{option_copied, MatchResult, Ok, Err};
 ghost use Rattle.std.specs.Io.KnownBytes.{IsAtEnd};
 ghost use Rattle.std.specs.Str.{is_utf8};
 ghost use Rattle.session.specs.declared.intake.ReadFault.TheVariants.{Memory};
-ghost use Rattle.session.specs.Intake.{IsFrontOf};
+ghost use Rattle.session.specs.Intake.{IsFrontOf, IsKeptOfAll};
 ghost use Rattle.session.specs.Sessions.{text_if, kept_text};
 
 use bundles::BundleFault;
@@ -90,6 +90,9 @@ fn gather<R: Read>(alloc: Global, reader: &mut R, buffer: &mut [u8]) -> Result<I
     ensures kept { IfOk result (λ input. IfSome (R.remaining reader.old)
         (IsFrontOf input.bytes.items input.too_large)) }
     ensures ended { OnOk result (IsAtEnd (R.remaining reader.new)) }
+    // It is the front of what the reader gave, be that known before or not.
+    ensures all { IfOk result (λ input. IsKeptOfAll (R.remaining reader.old) (R.remaining reader.new)
+        input.bytes.items input.too_large) }
 {
     let mut input = Input {
         bytes: Vec::new(alloc),
@@ -117,6 +120,9 @@ pub fn read_input<R: Read>(alloc: Global, reader: &mut R) -> Result<Input, ReadF
     ensures kept { IfOk result (λ input. IfSome (R.remaining reader.old)
         (IsFrontOf input.bytes.items input.too_large)) }
     ensures ended { OnOk result (IsAtEnd (R.remaining reader.new)) }
+    // It is the front of what the reader gave, be that known before or not.
+    ensures all { IfOk result (λ input. IsKeptOfAll (R.remaining reader.old) (R.remaining reader.new)
+        input.bytes.items input.too_large) }
 {
     let mut buffer = empty_buffer(alloc)?;
     gather(alloc, reader, &mut buffer)

@@ -25,7 +25,7 @@ mod stage;
 mod tracing;
 mod trial;
 
-pub use answering::{DeviceFault, Received, deliver, receive, session};
+pub use answering::{DeviceFault, Received, deliver, receive, serve, session};
 pub use breach::{Breach, Reached};
 pub use commands::{Task, read_task};
 pub use doubts::{Doubt, Lack, doubts_on};

@@ -2,7 +2,7 @@ ghost use Rattle.std.specs.Prelude.{◌≡◌, ◌∷◌, ◌++◌, [], List, If
 ghost use Rattle.simulator.specs.Machines.{Entry as Step};
 ghost use Rattle.simulator.specs.Steps.{total_ticks};
 ghost use Rattle.simulator.specs.Traces.{Trace, HasItsFrame};
-ghost use Rattle.session.specs.Reports.{IsReport, HasRoom, IsWhole};
+ghost use Rattle.session.specs.Reports.{IsReport, HasRoom, TellsAll};
 
 use simulator::{Ending, Entry, last_line, push_line, runs_go_on};
 use std::alloc::{AllocError, Global};
@@ -60,7 +60,7 @@ impl Report {
     pub fn whole(self, alloc: Global, ended: Ending, ticks: u64) -> Result<String, AllocError>
         ensures { IfOk result (λ text. (telling : Telling) → (trace : Trace)
             → IsReport telling trace.entries self → ended ≡ trace.last.ended
-            → ticks ≡ total_ticks trace.entries → IsWhole telling trace (string_bytes text)) }
+            → ticks ≡ total_ticks trace.entries → TellsAll telling trace (string_bytes text)) }
     {
         match self {
             Report::Lines(mut text) => {

@@ -3,7 +3,7 @@
 use super::{ASKED, ASKING};
 use crate::devices::SlowWriter;
 use crate::expected::same;
-use session::{ReadFault, Status, receive, session};
+use session::{DeviceFault, ReadFault, Status, receive, serve, session};
 use std::alloc::Global;
 use std::io;
 use std::io::Read;
@@ -183,4 +183,43 @@ fn all_stop(rt: &impl Abort, alloc: Global, bundle: &[u8], want: &[u8]) {
 fn the_writer_fails_at_each_call(rt: HostRuntime) {
     all_stop(&rt, rt.alloc(), FRAME, FRAME_REPLY);
     all_stop(&rt, rt.alloc(), ASKING.as_bytes(), ASKED.as_bytes());
+}
+
+/// How a message is answered by a reader and a writer that fail after so many calls, and what the
+/// writer has got.
+fn served(alloc: Global, reads: usize, writes: usize) -> (Result<Status, DeviceFault>, Vec<u8>) {
+    let mut output = SlowWriter {
+        taken: Vec::new(alloc),
+        calls_left: writes,
+        fails: true,
+    };
+    let status = serve(alloc, &mut slow_reader(0, reads), &mut output);
+    (status, output.taken)
+}
+
+/// Tries how it is answered.
+fn serves(
+    rt: &impl Abort,
+    alloc: Global,
+    calls: (usize, usize),
+    want: (Result<Status, DeviceFault>, &[u8]),
+) {
+    let (status, taken) = served(alloc, calls.0, calls.1);
+    same(
+        rt,
+        (calls, status, taken.as_slice()),
+        (calls, want.0, want.1),
+    );
+}
+
+#[test]
+fn the_device_that_fails_is_told(rt: HostRuntime) {
+    let reads = FRAME.len() + 1;
+    let writes = FRAME_REPLY.len();
+    let all = (Ok(Status::Accepted), FRAME_REPLY);
+    serves(&rt, rt.alloc(), (reads, writes), all);
+    let unread = (Err(DeviceFault::Reader), b"".as_slice());
+    serves(&rt, rt.alloc(), (reads - 1, writes), unread);
+    let begun = (Err(DeviceFault::Writer), b"S 80".as_slice());
+    serves(&rt, rt.alloc(), (reads, 4), begun);
 }
