@@ -13,6 +13,7 @@ ghost use Rattle.simulator.specs.SmallPrograms.{SomeVoltageIsWithin, SomeRailHas
 ghost use Rattle.simulator.specs.SmallPrograms.{SomeFormIsUnlisted, SomeWriteIsProtected};
 ghost use Rattle.simulator.specs.SmallPrograms.{SomeVoltageIsOver, SomeRailHasNeeds};
 ghost use Rattle.simulator.specs.SmallPrograms.{SomeNeedIsWithdrawn, SomeClearingIsListed};
+ghost use Rattle.simulator.specs.SmallPrograms.{AtEachVoltage, AtEachEnabling};
 ghost use Rattle.simulator.specs.StepLaws.{StepsAreSeen, StartsAreReady, SomeStepIsTaken};
 
 use bit_bus::{plans_keep_slots, reads_back};
@@ -96,7 +97,8 @@ pub fn safe_steps_are_safe_runs()
 /// has an entry for it, the stored protection permits it, and the limits and needs of the rails
 /// allow it. It doesn't hold, whatever else the board says, of programs that send a form for which
 /// the target has no entry, write what is protected, exceed a voltage's limit, or turn on a rail
-/// before its needs reported good or after such a report was withdrawn.
+/// before its needs reported good or after such a report was withdrawn. A voltage is any of the
+/// three, also one at a margin, and a rail is turned on by any value that enables.
 pub fn small_programs_are_judged()
     ensures ends { EndingIsSafe }
     ensures sends { ListedSendIsSafe }
@@ -111,13 +113,13 @@ pub fn small_programs_are_judged()
     // Each of them speaks of some program, for which all else that the others ask for holds.
     ensures some_send { SomeSendIsListed }
     ensures some_clearing { SomeClearingIsListed }
-    ensures some_voltage { SomeVoltageIsWithin }
-    ensures some_rail { SomeRailHasNoNeeds }
+    ensures some_voltage { AtEachVoltage SomeVoltageIsWithin }
+    ensures some_rail { AtEachEnabling SomeRailHasNoNeeds }
     ensures unlisted { SomeFormIsUnlisted }
     ensures protected { SomeWriteIsProtected }
-    ensures over { SomeVoltageIsOver }
-    ensures needed { SomeRailHasNeeds }
-    ensures withdrawn { SomeNeedIsWithdrawn }
+    ensures over { AtEachVoltage SomeVoltageIsOver }
+    ensures needed { AtEachEnabling SomeRailHasNeeds }
+    ensures withdrawn { AtEachEnabling SomeNeedIsWithdrawn }
 {
     messages_have_one_frame();
     entries_read_back();
