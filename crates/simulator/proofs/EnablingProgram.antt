@@ -10,6 +10,7 @@ use Rattle.simulator.specs.Machines.{start_at}
 use Rattle.simulator.specs.Reports.{write_to, IsReportedGood}
 use Rattle.simulator.specs.StepLaws.{StepsAreSeen, StartsAreReady}
 use Rattle.simulator.specs.SmallPrograms.{enabling_program, EnablingAtOnceIsUnsafe}
+use Rattle.simulator.specs.SmallPrograms.{AtEachEnabling, margin_values}
 use Rattle.simulator.proofs.NextPlaces.{at_place}
 use Rattle.simulator.proofs.PlainSteps.{plain, is_done, entry_by}
 use Rattle.simulator.proofs.TakenForms.{enabling_byte}
@@ -23,8 +24,9 @@ none_good : (b : Board) (needs : List ℕ) → needs ≢ [] → AllByRecursion (
 none_good b [] some all = some refl
 none_good b (n ∷ needs) some all = all.0.last
 
-pub enabling_at_once_is_unsafe : StepsAreSeen → StartsAreReady → EnablingAtOnceIsUnsafe
-enabling_at_once_is_unsafe steps ready b s d value r bound is starts turns_on selected some runs =
+pub enabling_at_once_is_unsafe : StepsAreSeen → StartsAreReady
+    → AtEachEnabling EnablingAtOnceIsUnsafe
+enabling_at_once_is_unsafe steps ready value turns_on b s d r bound is starts selected some runs =
     let i = r.target in
     let rail : IsRail b r = at_place (IsRail b) b.rails d r is.rails selected.rail in
     let t = rail.on_page.0 in
@@ -41,3 +43,9 @@ enabling_at_once_is_unsafe steps ready b s d value r bound is starts turns_on se
     (record { to = refl; form = refl; command = refl; content = refl }) (is_done m 0) in
     let good = first.safe.safe.0.order i t value d r at begins turns_on selected in
     none_good b r.needs some (recursion_from_All (IsReportedGood b []) r.needs good)
+
+pub margins_at_once_are_unsafe : StepsAreSeen → StartsAreReady
+    → AllByRecursion EnablingAtOnceIsUnsafe margin_values
+margins_at_once_are_unsafe steps ready =
+    let unsafe = enabling_at_once_is_unsafe steps ready in
+    (unsafe 0x94 refl, (unsafe 0x98 refl, (unsafe 0xA4 refl, (unsafe 0xA8 refl, tt))))

@@ -94,11 +94,11 @@ VoltageWithinLimitIsSafe = (b : Board) (i : ℕ) (t : Target) (code word : ℕ) 
     → RunsAreSafe b (voltage_program i code word) (3 + 37 * (3 + largest_stretch b.targets))
 
 -- a voltage over the limit of a rail isn't safe, where PAGE may select the rail at the start
-abbrev pub VoltageOverLimitIsUnsafe : Type 0
-VoltageOverLimitIsUnsafe =
-    (b : Board) (s : BusState) (d : ℕ) (r : Rail) (t : Target) (code word bound : ℕ)
+abbrev pub VoltageOverLimitIsUnsafe : ℕ → Type 0
+VoltageOverLimitIsUnsafe code =
+    (b : Board) (s : BusState) (d : ℕ) (r : Rail) (t : Target) (word bound : ℕ)
     → IsBoard b → IsStart b s → Selects b s r.target d r → IsTargetAt b r.target t
-    → IsTrue (carries_voltage code) → word < 65536
+    → word < 65536
     → (IsWithin word t.exponent r.limit_uv → ⊥)
     → RunsAreSafe b (voltage_program r.target code word) bound → ⊥
 
@@ -122,10 +122,9 @@ EnablingWithoutNeedsIsSafe = (b : Board) (i : ℕ) (t : Target) (value : ℕ) �
 
 -- a program that turns on a rail with needs, at a margin or not, and asks for none of them, isn't
 -- safe within any bound: not where PAGE may select the rail at the start
-abbrev pub EnablingAtOnceIsUnsafe : Type 0
-EnablingAtOnceIsUnsafe = (b : Board) (s : BusState) (d value : ℕ) (r : Rail) (bound : ℕ) → IsBoard b
-    → IsStart b s → IsTrue (enables value)
-    → Selects b s r.target d r → r.needs ≢ []
+abbrev pub EnablingAtOnceIsUnsafe : ℕ → Type 0
+EnablingAtOnceIsUnsafe value = (b : Board) (s : BusState) (d : ℕ) (r : Rail) (bound : ℕ) → IsBoard b
+    → IsStart b s → Selects b s r.target d r → r.needs ≢ []
     → RunsAreSafe b (enabling_program r.target value) bound → ⊥
 
 -- asks whether a need is good, turns it off, and turns on what needs it; where it got no report, it
@@ -143,16 +142,24 @@ WithdrawnNeedIsUnsafe =
     → Selects b s need.target n need → Selects b s r.target d r → Contains r.needs n
     → RunsAreSafe b (withdrawing_program label need.target r.target value) bound → ⊥
 
--- Each law speaks of some program on some board, where nothing else is wrong with the program than
--- what its law names: an entry lists what it sends, the starts permit what it writes, and so on.
--- Those on voltages speak of one for each command that sets a voltage, those on turning on of one
--- for each value that enables.
-
+-- for each command that sets a voltage, and for each value that enables
 abbrev pub AtEachVoltage : (ℕ → Type 0) → Type 0
-AtEachVoltage Case = (code : ℕ) → IsTrue (carries_voltage code) → Case code
+AtEachVoltage IsSo = (code : ℕ) → IsTrue (carries_voltage code) → IsSo code
 
 abbrev pub AtEachEnabling : (ℕ → Type 0) → Type 0
-AtEachEnabling Case = (value : ℕ) → IsTrue (enables value) → Case value
+AtEachEnabling IsSo = (value : ℕ) → IsTrue (enables value) → IsSo value
+
+-- among these are VOUT_MARGIN_HIGH and VOUT_MARGIN_LOW (PMBus 1.3 Part II, 13.2 and what follows)
+abbrev pub margin_codes : List ℕ
+margin_codes = 0x25 ∷ 0x26 ∷ []
+
+-- and the values that turn on at the low and at the high margin, each ignoring faults and acting on
+-- them (12.1)
+abbrev pub margin_values : List ℕ
+margin_values = 0x94 ∷ 0x98 ∷ 0xA4 ∷ 0xA8 ∷ []
+
+-- Each law speaks of some program on some board, where nothing else is wrong with the program than
+-- what its law names: an entry lists what it sends, the starts permit what it writes, and so on.
 
 -- a board with its first target, and a start
 pub record StartedBoard : Type 0 where

@@ -1,3 +1,4 @@
+ghost use Rattle.std.specs.List.{AllByRecursion};
 ghost use Rattle.simulator.specs.Does.{EntriesDoAsAsked};
 ghost use Rattle.simulator.specs.EntryLaws.{EntriesReadBack, IdleReadsBack, JoinedReadBack};
 ghost use Rattle.simulator.specs.RunLaws.{RunsAreOne, RunsAreSeen, RunsGoOn};
@@ -14,6 +15,7 @@ ghost use Rattle.simulator.specs.SmallPrograms.{SomeFormIsUnlisted, SomeWriteIsP
 ghost use Rattle.simulator.specs.SmallPrograms.{SomeVoltageIsOver, SomeRailHasNeeds};
 ghost use Rattle.simulator.specs.SmallPrograms.{SomeNeedIsWithdrawn, SomeClearingIsListed};
 ghost use Rattle.simulator.specs.SmallPrograms.{AtEachVoltage, AtEachEnabling};
+ghost use Rattle.simulator.specs.SmallPrograms.{margin_codes, margin_values};
 ghost use Rattle.simulator.specs.StepLaws.{StepsAreSeen, StartsAreReady, SomeStepIsTaken};
 
 use bit_bus::{plans_keep_slots, reads_back};
@@ -105,11 +107,14 @@ pub fn small_programs_are_judged()
     ensures clears { ClearingIsSafe }
     ensures commands { VoltageWithinLimitIsSafe }
     ensures turns_on { EnablingWithoutNeedsIsSafe }
-    ensures enables { EnablingAtOnceIsUnsafe }
+    ensures enables { AtEachEnabling EnablingAtOnceIsUnsafe }
     ensures withdraws { WithdrawnNeedIsUnsafe }
     ensures lists { UnlistedFormIsUnsafe }
     ensures protects { ProtectedWriteIsUnsafe }
-    ensures limits { VoltageOverLimitIsUnsafe }
+    ensures limits { AtEachVoltage VoltageOverLimitIsUnsafe }
+    // So it is at margins.
+    ensures margins { AllByRecursion EnablingAtOnceIsUnsafe margin_values }
+    ensures margin_limits { AllByRecursion VoltageOverLimitIsUnsafe margin_codes }
     // Each of them speaks of some program, for which all else that the others ask for holds.
     ensures some_send { SomeSendIsListed }
     ensures some_clearing { SomeClearingIsListed }
