@@ -90,7 +90,7 @@ written_instr board target command place (written.Byte value) t fits few =
 written_instr board target command place (written.Word value) t fits few =
     write_word_back board target command value place t fits.0 fits.1 few
 written_instr board target command place (written.Register register) t fits few =
-    rw fits.0 (write_register_back board target register place t fits.1 few)
+    write_register_back board target command register place t fits.1 fits.2 few
 
 on_board : KnownOfTexts → (board : Board) (target : ℕ) → IsBoard board
     → target < length board.targets → IsTargetOf board target

@@ -4,8 +4,8 @@ use Rattle.std.specs.Prelude.{IfSome, IsTrue, All}
 use Rattle.std.specs.List.{AllByRecursion}
 use Rattle.smbus.specs.declared.message.Form.{Form}
 use Rattle.smbus.specs.declared.message.Form.TheVariants as form
-use Rattle.pmbus_table.specs.Codes.{vout_command_code}
 use Rattle.pmbus_table.specs.Commands.{takes_form}
+use Rattle.pmbus_table.specs.Voltage.{carries_voltage}
 use Rattle.seq_program.specs.declared.instr.Instr.{Instr}
 use Rattle.seq_program.specs.declared.instr.Instr.TheVariants as instr
 use Rattle.seq_program.specs.declared.instr.Width.{Width}
@@ -59,12 +59,13 @@ abbrev pub read_form : Width → Form
 read_form width.Byte = form.ReadByte
 read_form width.Word = form.ReadWord
 
--- a register is written to VOUT_COMMAND alone
+-- a register is written as a word, to a command that sets a voltage
 abbrev pub IsWritten : ℕ → Written → Type 0
 IsWritten command (written.Byte value) = IsTrue (takes_form command form.WriteByte) × (value ≤ 255)
 IsWritten command (written.Word value) =
     IsTrue (takes_form command form.WriteWord) × (value ≤ 65535)
-IsWritten command (written.Register register) = (command ≡ vout_command_code) × (register < 8)
+IsWritten command (written.Register register) =
+    IsTrue (takes_form command form.WriteWord) × IsTrue (carries_voltage command) × (register < 8)
 
 -- so many bytes
 abbrev pub IsBlock : ℕ → List ℕ → Type 0

@@ -1,11 +1,14 @@
 -- Each law on small programs speaks of some program, in which nothing else is wrong.
-use Rattle.std.proofs.Common.{◌≡◌, ◌<◌, ◌≤◌, ℕ, Bool, true, false, Some, List, [], ◌∷◌}
+use Rattle.std.proofs.Common.{◌≡◌, ◌<◌, ◌≤◌, ℕ, Bool, true, false, Some, List, [], ◌∷◌, IsTrue}
 use Rattle.std.proofs.Common.{refl, rules, arith}
 use Rattle.std.proofs.Common.{lit≤, lit<}
+use Rattle.std.proofs.lemmas.Bool.{eq-eqb}
 use Rattle.smbus.specs.declared.message.Form.TheVariants as form
-use Rattle.pmbus_table.specs.Codes.{clear_faults_code, operation_code, vout_command_code}
+use Rattle.pmbus_table.specs.Codes.{clear_faults_code, operation_code}
+use Rattle.pmbus_table.specs.Operation.{enables}
 use Rattle.pmbus_table.specs.Protect.{is_protection, permits}
 use Rattle.pmbus_table.specs.Table.{table}
+use Rattle.pmbus_table.specs.Voltage.{carries_voltage}
 use Rattle.board.specs.Boards.{Allow, Board}
 use Rattle.board.specs.Valid.{IsEntry}
 use Rattle.targets.specs.States.{IsTargetAt}
@@ -14,7 +17,9 @@ use Rattle.simulator.specs.SmallPrograms.{SomeSendIsListed, SomeClearingIsListed
 use Rattle.simulator.specs.SmallPrograms.{SomeFormIsUnlisted}
 use Rattle.simulator.specs.SmallPrograms.{SomeWriteIsProtected, SomeVoltageIsWithin}
 use Rattle.simulator.specs.SmallPrograms.{SomeVoltageIsOver, SomeRailHasNoNeeds}
-use Rattle.simulator.specs.SmallPrograms.{SomeRailHasNeeds, SomeNeedIsWithdrawn}
+use Rattle.simulator.specs.SmallPrograms.{SomeRailHasNeeds, SomeNeedIsWithdrawn, AtEachVoltage}
+use Rattle.simulator.specs.SmallPrograms.{AtEachEnabling}
+use Rattle.simulator.proofs.TakenForms.{voltage_takes_word, enabling_byte}
 use Rattle.simulator.proofs.JudgedBoards.{entry, is_entry, target, stored_so, small_rail, its_rail}
 use Rattle.simulator.proofs.JudgedBoards.{lone_target, lone, is_lone, lone_state, lone_start}
 use Rattle.simulator.proofs.JudgedBoards.{both, upper, lower, first_target, second_target}
@@ -55,9 +60,8 @@ written : IsEntry (entry form.WriteByte own_code)
 unfolding table
 written = is_entry form.WriteByte own_code (λ e. cc) refl refl
 
-volts : IsEntry (entry form.WriteWord vout_command_code)
-unfolding table
-volts = is_entry form.WriteWord vout_command_code (λ e. cc) refl refl
+volts : (code : ℕ) → IsTrue (carries_voltage code) → IsEntry (entry form.WriteWord code)
+volts code sets = is_entry form.WriteWord code (λ e. cc) refl (voltage_takes_word code sets)
 
 turned : IsEntry (entry form.WriteByte operation_code)
 unfolding table
@@ -110,43 +114,43 @@ some_write_is_protected = record {
 }
 
 -- a word for the one rail
-abbrev listed_voltage : (word : ℕ) → word < 65536 → ListedVoltage
-listed_voltage word small =
-    let a = entry form.WriteWord vout_command_code in
+abbrev listed_voltage : (code word : ℕ) → IsTrue (carries_voltage code) → word < 65536
+    → ListedVoltage code
+listed_voltage code word sets small =
+    let a = entry form.WriteWord code in
     record {
-      on = on_lone 0 a true refl volts;
-      code = vout_command_code;
-      sets = refl;
+      on = on_lone 0 a true refl (volts code sets);
       word = word;
       small = small;
-      listed = record { above = omega arith; below = omega (arith, small) };
-      permitted = permitted_at (lone 0 a true) 0 0x40 0 vout_command_code (a ∷ []) refl refl;
+      listed =
+          rw (eq-eqb code code refl) (record { above = omega arith; below = omega (arith, small) });
+      permitted = permitted_at (lone 0 a true) 0 0x40 0 code (a ∷ []) refl refl;
       rail = small_rail;
       on_first = refl;
       selected = record { rail = refl; on_target = refl; page = refl };
     }
 
-pub some_voltage_is_within : SomeVoltageIsWithin
-some_voltage_is_within = record {
-  case = listed_voltage 0 (lit< tt);
+pub some_voltage_is_within : AtEachVoltage SomeVoltageIsWithin
+some_voltage_is_within code sets = record {
+  case = listed_voltage code 0 sets (lit< tt);
   within = λ s d r starts selected.
       rw (its_rail d r selected.rail)
       (record { least = search rules; most = search rules; below = lit≤ tt });
 }
 
-pub some_voltage_is_over : SomeVoltageIsOver
-some_voltage_is_over = record {
-  case = listed_voltage 65535 (lit< tt);
+pub some_voltage_is_over : AtEachVoltage SomeVoltageIsOver
+some_voltage_is_over code sets = record {
+  case = listed_voltage code 65535 sets (lit< tt);
   over = λ w. let below = w.below in absurd (omega (arith, below));
 }
 
-pub some_rail_has_no_needs : SomeRailHasNoNeeds
-some_rail_has_no_needs =
+pub some_rail_has_no_needs : AtEachEnabling SomeRailHasNoNeeds
+some_rail_has_no_needs value turns_on =
     let a = entry form.WriteByte operation_code in
     record {
       case = record {
         on = on_lone 0 a true refl turned;
-        listed = record { above = lit≤ tt; below = lit≤ tt };
+        listed = record { above = omega arith; below = enabling_byte value turns_on };
         permitted = permitted_at (lone 0 a true) 0 0x40 0 operation_code (a ∷ []) refl refl;
         rail = small_rail;
         on_first = refl;
@@ -157,8 +161,8 @@ some_rail_has_no_needs =
 
 -- ---- on two targets
 
-abbrev on_needing : ListedEnabling
-on_needing = record {
+abbrev on_needing : (value : ℕ) → IsTrue (enables value) → ListedEnabling value
+on_needing value turns_on = record {
   on = record {
     board = needing;
     state = needing_state;
@@ -167,19 +171,19 @@ on_needing = record {
     is_start = needing_start;
     first = refl;
   };
-  listed = record { above = lit≤ tt; below = lit≤ tt };
+  listed = record { above = omega arith; below = enabling_byte value turns_on };
   permitted = permitted_at needing 0 0x40 0 operation_code both refl refl;
   rail = upper;
   on_first = refl;
   selected = record { rail = refl; on_target = refl; page = refl };
 }
 
-pub some_rail_has_needs : SomeRailHasNeeds
-some_rail_has_needs = record { case = on_needing; some = λ e. cc }
+pub some_rail_has_needs : AtEachEnabling SomeRailHasNeeds
+some_rail_has_needs value turns_on = record { case = on_needing value turns_on; some = λ e. cc }
 
-pub some_need_is_withdrawn : SomeNeedIsWithdrawn
-some_need_is_withdrawn = record {
-  case = on_needing;
+pub some_need_is_withdrawn : AtEachEnabling SomeNeedIsWithdrawn
+some_need_is_withdrawn value turns_on = record {
+  case = on_needing value turns_on;
   need = lower;
   other = second_target;
   at = refl;

@@ -2,7 +2,7 @@
 use Rattle.std.proofs.Common.{◌≡◌, ◌≢◌, ◌==◌, ◌||◌, inr, ℕ, Bool, true, false}
 use Rattle.std.proofs.Common.{find, cond, Option, Some, None, IsSome, IsSomeAnd, List, [], ◌∷◌}
 use Rattle.std.proofs.Common.{option_and_then, IsTrue, refl, sym, subst}
-use Rattle.std.proofs.Common.{arith, lit≤}
+use Rattle.std.proofs.Common.{arith}
 use Rattle.std.specs.List.{list_any}
 use Rattle.smbus.specs.declared.message.Form.{Form}
 use Rattle.smbus.specs.declared.message.Form.TheVariants.{SendByte, WriteByte, WriteWord}
@@ -27,7 +27,7 @@ use Rattle.simulator.specs.SmallPrograms.{ListedSendIsSafe, ClearingIsSafe}
 use Rattle.simulator.specs.SmallPrograms.{VoltageWithinLimitIsSafe, EnablingWithoutNeedsIsSafe}
 use Rattle.simulator.proofs.OneMessage.{KnownOfSteps, one_message_is_safe}
 use Rattle.simulator.proofs.UnsafePrograms.{sending, volts, volts_asked}
-use Rattle.simulator.proofs.TakenForms.{voltage_takes_word}
+use Rattle.simulator.proofs.TakenForms.{voltage_takes_word, enabling_byte, enabling_value}
 use Rattle.simulator.proofs.WithdrawnNeed.{turning, turn, takes_byte}
 
 -- no command is read by Send Byte or Write Word
@@ -155,20 +155,20 @@ voltage_within_limit_is_safe known b i t code word is at sets few lists permit w
     })
 
 pub enabling_without_needs_is_safe : KnownOfSteps → EnablingWithoutNeedsIsSafe
-enabling_without_needs_is_safe known b i t is at lists permit none =
-    let m = turn t 0x80 in
-    one_message_is_safe known b (turning i 0x80 1) i t m 28 (record {
+enabling_without_needs_is_safe known b i t value is at turns_on lists permit none =
+    let m = turn t value in
+    one_message_is_safe known b (turning i value 1) i t m 28 (record {
       is = is;
       at = at;
-      is_instr = (takes_byte, lit≤ tt);
+      is_instr = (takes_byte, enabling_byte value turns_on);
       goes_on = refl;
       asks = λ s. rw at refl;
       to = refl;
       counts = tt;
       long = λ read. refl;
       allowed = λ s a starts fits.
-          allowed b s i t m a at refl lists (λ f. λ c. cc) (λ f. λ c. cc) (λ f c. refl)
-          operation_unread;
+          allowed b s i t m a at refl lists (λ f. λ c. cc) (λ f. λ c. cc)
+          (λ f c. enabling_value value turns_on) operation_unread;
       permitted = permit;
       within = λ s d r starts form. cc;
       needless = λ s d r starts form code on selected. none s d r starts selected;

@@ -1,15 +1,18 @@
 -- The command of an instruction's message takes the message's form.
 use Rattle.std.proofs.Common.{◌≡◌, ℕ, true, false, Option, Some, None, List, [], IsTrue, option_map}
 use Rattle.std.proofs.Common.{slice_get, refl, sym, subst, ◌==◌, ◌∙◌, ◌∷◌, Bool, not, inl, inr}
+use Rattle.std.proofs.Common.{◌≤◌, nat_le}
 use Rattle.std.specs.List.{list_all, list_any}
 use Rattle.std.proofs.lemmas.Bool.{and_parts, or_cases, eqb-true, not-true, false≢true}
+use Rattle.std.proofs.lemmas.Bool.{leb-true}
 use Rattle.smbus.specs.declared.message.Form.{Form}
 use Rattle.smbus.specs.declared.message.Form.TheVariants as form
 use Rattle.smbus.specs.Asked.{Asked}
 use Rattle.smbus.specs.FormWords.{carries_code}
 use Rattle.smbus.specs.MessageFrame.{ReadsNoBlock}
-use Rattle.pmbus_table.specs.Codes.{operation_code, vout_command_code, status_word_code}
+use Rattle.pmbus_table.specs.Codes.{operation_code, status_word_code}
 use Rattle.pmbus_table.specs.Commands.{takes_form}
+use Rattle.pmbus_table.specs.Operation.{enabling, enables}
 use Rattle.pmbus_table.specs.Table.{table}
 use Rattle.pmbus_table.specs.Voltage.{voltage_codes, carries_voltage}
 use Rattle.board.specs.Boards.{Target, Board}
@@ -19,6 +22,7 @@ use Rattle.seq_program.specs.declared.instr.Written.{Written}
 use Rattle.seq_program.specs.declared.instr.Written.TheVariants as written
 use Rattle.seq_program.specs.Messages.{low_byte_first, form_of, data_of, message_to, message_of}
 use Rattle.seq_program.specs.Valid.{read_form, IsWritten, IsInstr}
+use Rattle.simulator.specs.Allowed.{is_operation_value}
 use Rattle.simulator.specs.StepDoes.{writes_data}
 use Rattle.simulator.proofs.WireMessages.{asked_at}
 
@@ -36,14 +40,10 @@ to_target : (b : Board) (n : ℕ) (f : Form) (code : ℕ) (out : List ℕ) (m : 
     → message_to b n f code out ≡ Some m → Takes m.code m.form
 to_target b n f code out m takes e = made_of f code out m (slice_get b.targets n) takes e
 
-voltage_word : (code : ℕ) → code ≡ vout_command_code → IsTrue (takes_form code form.WriteWord)
-unfolding table
-voltage_word code e = rw e refl
-
 written_takes : (code : ℕ) (v : Written) → IsWritten code v → Takes code (form_of v)
 written_takes code (written.Byte v) w = λ _. w.0
 written_takes code (written.Word v) w = λ _. w.0
-written_takes code (written.Register r) w = λ _. voltage_word code w.0
+written_takes code (written.Register r) w = λ _. w.0
 
 pub takes_own_form : (b : Board) (i : Instr) (regs : List ℕ) (m : Asked) → IsInstr i
     → message_of b i regs ≡ Some m → Takes m.code m.form
@@ -117,6 +117,15 @@ met_by_each p (c ∷ codes) code all has =
       | inl same ↦ subst (λ (x : ℕ). p x ≡ true) (eqb-true c code same) parts.0
       | inr later ↦ met_by_each p codes code parts.1 later
     ]
+
+-- a value that enables is a byte
+pub enabling_byte : (value : ℕ) → IsTrue (enables value) → value ≤ 255
+enabling_byte value on =
+    leb-true value 255 (met_by_each (λ v. nat_le v 255) enabling value refl on)
+
+-- and one of OPERATION's values
+pub enabling_value : (value : ℕ) → IsTrue (enables value) → IsTrue (is_operation_value value)
+enabling_value value on = met_by_each is_operation_value enabling value refl on
 
 -- what sets a voltage takes Write Word
 pub voltage_takes_word : (code : ℕ) → IsTrue (carries_voltage code)

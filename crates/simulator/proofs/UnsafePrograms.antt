@@ -4,6 +4,7 @@ use Rattle.std.proofs.Common.{[]}
 use Rattle.std.proofs.Common.{◌∷◌, length, slice_index, IfSome, refl, ap}
 use Rattle.std.proofs.Common.{subst}
 use Rattle.std.proofs.Common.{arith, lit≤, lit<}
+use Rattle.std.specs.List.{AllByRecursion}
 use Rattle.std.proofs.lemmas.List.Elements.{All-from_recursion}
 use Rattle.smbus.specs.declared.message.Form.TheVariants.{WriteWord}
 use Rattle.smbus.specs.Asked.{Asked}
@@ -26,6 +27,7 @@ use Rattle.simulator.specs.StepLaws.{StepsAreSeen, StartsAreReady}
 use Rattle.simulator.specs.Headline.{RunsAreSafe, IsSafeWithin}
 use Rattle.simulator.specs.SmallPrograms.{sending_program, ProtectedWriteIsUnsafe}
 use Rattle.simulator.specs.SmallPrograms.{voltage_program, VoltageOverLimitIsUnsafe}
+use Rattle.simulator.specs.SmallPrograms.{AtEachVoltage, margin_codes}
 use Rattle.simulator.proofs.PlainSteps.{plain, is_done, Sends, entry_by, next_by, plain_step}
 use Rattle.simulator.proofs.PlainSteps.{StepSeen, step_seen}
 use Rattle.simulator.proofs.WorkedDefinitions.{done_out}
@@ -128,8 +130,9 @@ both_out t code word =
     let all = ap length (done_out m (plain 0) (is_done m 0)) in
     omega (arith, all)
 
-pub voltage_over_limit_is_unsafe : StepsAreSeen → StartsAreReady → VoltageOverLimitIsUnsafe
-voltage_over_limit_is_unsafe steps ready b s d r t code word bound is starts selected at sets few
+pub voltage_over_limit_is_unsafe : StepsAreSeen → StartsAreReady
+    → AtEachVoltage VoltageOverLimitIsUnsafe
+voltage_over_limit_is_unsafe steps ready code sets b s d r t word bound is starts selected at few
     over runs =
     let i = r.target in
     let m = volts_asked t code word in
@@ -153,3 +156,9 @@ voltage_over_limit_is_unsafe steps ready b s d r t code word bound is starts sel
     first.safe.safe.0.limits i t code low high d r at sets begins selected in
     let same : low + 256 * high ≡ word = omega arith in
     over (subst (λ n. IsWithin n t.exponent r.limit_uv) same within)
+
+pub margins_over_limit_are_unsafe : StepsAreSeen → StartsAreReady
+    → AllByRecursion VoltageOverLimitIsUnsafe margin_codes
+margins_over_limit_are_unsafe steps ready =
+    let unsafe = voltage_over_limit_is_unsafe steps ready in
+    (unsafe 0x25 refl, (unsafe 0x26 refl, tt))

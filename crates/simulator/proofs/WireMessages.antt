@@ -7,7 +7,6 @@ use Rattle.std.proofs.lemmas.List.Elements.{All-from_recursion}
 use Rattle.smbus.specs.declared.message.Form.{Form}
 use Rattle.smbus.specs.declared.message.Form.TheVariants as form
 use Rattle.smbus.specs.Asked.{Asked, IsAddressed}
-use Rattle.pmbus_table.specs.Codes.{vout_command_code}
 use Rattle.board.specs.Boards.{Target, Board}
 use Rattle.board.specs.Valid.{IsBoard}
 use Rattle.seq_program.specs.declared.instr.Instr.{Instr}
@@ -74,9 +73,9 @@ written_bytes b n code (written.Word v) regs m is w words e =
     to_target b n form.WriteWord code (low_byte_first v) m is (λ a. cc)
     (taken_small code form.WriteWord w.0) (word_bytes v (omega arith)) e
 written_bytes b n code (written.Register r) regs m is w words e =
-    let vout : code ≡ vout_command_code = w.0 in
     to_target b n form.WriteWord code (low_byte_first (slice_index regs r)) m is (λ a. cc)
-    (omega (arith, vout)) (word_bytes (slice_index regs r) (reg_word regs r words)) e
+    (taken_small code form.WriteWord w.0)
+    (word_bytes (slice_index regs r) (reg_word regs r words)) e
 
 pub sent_bytes : (b : Board) (i : Instr) (regs : List ℕ) (m : Asked) → IsBoard b → IsInstr i
     → AllByRecursion (λ word. word < 65536) regs → message_of b i regs ≡ Some m → AreBytes m

@@ -1,5 +1,5 @@
 -- Turning off what was reported good, and then turning on what needs it, isn't safe.
-use Rattle.std.proofs.Common.{◌≡◌, ◌<◌, ◌+◌, inl, inr, ℕ, Some, None, List}
+use Rattle.std.proofs.Common.{◌≡◌, ◌≤◌, ◌<◌, ◌+◌, inl, inr, ℕ, Some, None, List}
 use Rattle.std.proofs.Common.{[]}
 use Rattle.std.proofs.Common.{◌∷◌, slice_get, IfSome, IsTrue, refl, sym, ap, subst, ◌∙◌}
 use Rattle.std.proofs.Common.{arith, lit≤, lit<}
@@ -35,6 +35,7 @@ use Rattle.simulator.specs.SmallPrograms.{withdrawing_program, WithdrawnNeedIsUn
 use Rattle.simulator.proofs.NextPlaces.{at_place}
 use Rattle.simulator.proofs.PlainSteps.{plain, none_cut, is_done, Sends, entry_by, next_by}
 use Rattle.simulator.proofs.PlainSteps.{plain_step, step_seen}
+use Rattle.simulator.proofs.TakenForms.{enabling_byte}
 use Rattle.simulator.proofs.WorkedDefinitions.{writes_operation}
 
 abbrev asking : ℕ → ℕ → Instr
@@ -55,16 +56,17 @@ takes_word : IsTrue (takes_form status_word_code ReadWord)
 unfolding table
 takes_word = refl
 
-is_program : (label i j : ℕ) → label < 4 → IsProgram (withdrawing_program label i j)
-is_program label i j lands = record {
+is_program : (label i j value : ℕ) → label < 4 → value ≤ 255
+    → IsProgram (withdrawing_program label i j value)
+is_program label i j value lands byte = record {
   some = lit≤ tt;
   few = lit≤ tt;
   each =
-      All-from_recursion (λ (x : Instr). IsInstr x) (withdrawing_program label i j)
-      ((takes_word, lit< tt), ((takes_byte, lit≤ tt), ((takes_byte, lit≤ tt), (tt, tt))));
+      All-from_recursion (λ (x : Instr). IsInstr x) (withdrawing_program label i j value)
+      ((takes_word, lit< tt), ((takes_byte, lit≤ tt), ((takes_byte, byte), (tt, tt))));
   jumps =
       All-from_recursion (λ (x : Instr). IfSome (jump_in x) (λ place. place < 4))
-      (withdrawing_program label i j) (lands, (lit< tt, (lit< tt, (tt, tt))));
+      (withdrawing_program label i j value) (lands, (lit< tt, (lit< tt, (tt, tt))));
   last = refl;
 }
 
@@ -146,12 +148,12 @@ not_good b e before n none off good = by good.last
 
 pub withdrawn_need_is_unsafe : StepsAreSeen → StartsAreReady → ValuesAreOfForm
     → WithdrawnNeedIsUnsafe
-withdrawn_need_is_unsafe steps ready values b s n d need r label bound is starts lands need_selected
-    selected needs runs =
+withdrawn_need_is_unsafe steps ready values b s n d value need r label bound is starts lands
+    turns_on need_selected selected needs runs =
     let i = need.target in
     let j = r.target in
-    let p = withdrawing_program label i j in
-    let program = is_program label i j lands in
+    let p = withdrawing_program label i j value in
+    let program = is_program label i j value lands (enabling_byte value turns_on) in
     let first_rail : IsRail b need =
     at_place (IsRail b) b.rails n need is.rails need_selected.rail in
     let rail : IsRail b r = at_place (IsRail b) b.rails d r is.rails selected.rail in
@@ -172,20 +174,20 @@ withdrawn_need_is_unsafe steps ready values b s n d need r label bound is starts
     let more = next_place (turning i 0x00 2) (turn t 0x00) 0 second in
     omega (arith, more, at_second)
     in
-    let ons = sends_turn b p third j 0x80 3 u uj
+    let ons = sends_turn b p third j value 3 u uj
     (next_ended (turning i 0x00 2) (turn t 0x00) 0 second
     ∙ next_ended (asking i label) ask word first)
     (rw at_third refl) in
-    let fourth = next_by (turning j 0x80 3) (turn u 0x80) 0 third in
+    let fourth = next_by (turning j value 3) (turn u value) 0 third in
     let e = entry_by (asking i label) ask word first in
     let f = entry_by (turning i 0x00 2) (turn t 0x00) 0 second in
-    let g = entry_by (turning j 0x80 3) (turn u 0x80) 0 third in
+    let g = entry_by (turning j value 3) (turn u value) 0 third in
     let seen = step_seen steps b p first (asking i label) ask word is program
     (ready b p s is program starts) asks in
     let seen_off =
     step_seen steps b p second (turning i 0x00 2) (turn t 0x00) 0 is program seen.ready
     offs in
-    let seen_on = step_seen steps b p third (turning j 0x80 3) (turn u 0x80) 0 is program
+    let seen_on = step_seen steps b p third (turning j value 3) (turn u value) 0 is program
     seen_off.ready ons in
     let run : IsRun b p first (plain word ∷ plain 0 ∷ plain 0 ∷ []) (e ∷ f ∷ g ∷ []) fourth = (
       second,
@@ -193,7 +195,7 @@ withdrawn_need_is_unsafe steps ready values b s n d need r label bound is starts
       (
         third,
         plain_step b p second (turning i 0x00 2) (turn t 0x00) 0 offs,
-        (fourth, plain_step b p third (turning j 0x80 3) (turn u 0x80) 0 ons, refl),
+        (fourth, plain_step b p third (turning j value 3) (turn u value) 0 ons, refl),
       ),
     ) in
     let safe = runs s (plain word ∷ plain 0 ∷ plain 0 ∷ []) (e ∷ f ∷ g ∷ []) fourth starts run in
@@ -201,11 +203,11 @@ withdrawn_need_is_unsafe steps ready values b s n d need r label bound is starts
     writes_operation b s (turn t 0x00) (plain 0) f i 0x00 t seen_off.does ti
     (record { to = refl; form = refl; command = refl; content = refl })
     (is_done (turn t 0x00) 0) in
-    let on_begins : BeginsWith g.samples (write_to u ∷ operation_code ∷ 0x80 ∷ []) =
-    writes_operation b s (turn u 0x80) (plain 0) g j 0x80 u seen_on.does uj
+    let on_begins : BeginsWith g.samples (write_to u ∷ operation_code ∷ value ∷ []) =
+    writes_operation b s (turn u value) (plain 0) g j value u seen_on.does uj
     (record { to = refl; form = refl; command = refl; content = refl })
-    (is_done (turn u 0x80) 0) in
-    let good = safe.safe.1.1.0.order j u 0x80 d r uj on_begins refl selected in
+    (is_done (turn u value) 0) in
+    let good = safe.safe.1.1.0.order j u value d r uj on_begins turns_on selected in
     let one : IsReportedGood b (f ∷ e ∷ []) n =
     subst (IsReportedGood b (f ∷ e ∷ [])) needs.2 (good needs.0 n needs.1) in
     not_good b f (e ∷ []) n

@@ -31,12 +31,19 @@ own_page = refl
 other_page : selects 2 3 ≡ false
 other_page = refl
 
--- off after the delays, and on at the low margin
+-- off after the delays, and on at the low margin, where faults are acted on; what is left of the
+-- fault bits is reserved
 off_after_delays : is_operation_value 0x40 ≡ true
 off_after_delays = refl
 
-on_at_margin : is_operation_value 0x98 ≡ false
+on_at_margin : is_operation_value 0x98 ≡ true
 on_at_margin = refl
+
+reserved_margin : is_operation_value 0x9C ≡ false
+reserved_margin = refl
+
+off_at_margin : is_operation_value 0x18 ≡ false
+off_at_margin = refl
 
 -- what WRITE_PROTECT doesn't speak of, and what it does
 query_is_free : is_guarded query_code ≡ false

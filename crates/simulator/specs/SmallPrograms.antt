@@ -8,6 +8,7 @@ use Rattle.smbus.specs.declared.message.Form.TheVariants.{SendByte, WriteByte, W
 use Rattle.smbus.specs.declared.message.Form.TheVariants.{ReadWord}
 use Rattle.pmbus_table.specs.Codes.{clear_faults_code, operation_code, status_word_code}
 use Rattle.pmbus_table.specs.Commands.{takes_form}
+use Rattle.pmbus_table.specs.Operation.{enables}
 use Rattle.pmbus_table.specs.Protect.{permits}
 use Rattle.pmbus_table.specs.Status.{reported_good}
 use Rattle.pmbus_table.specs.Voltage.{IsWithin, carries_voltage}
@@ -93,52 +94,69 @@ VoltageWithinLimitIsSafe = (b : Board) (i : ℕ) (t : Target) (code word : ℕ) 
     → RunsAreSafe b (voltage_program i code word) (3 + 37 * (3 + largest_stretch b.targets))
 
 -- a voltage over the limit of a rail isn't safe, where PAGE may select the rail at the start
-abbrev pub VoltageOverLimitIsUnsafe : Type 0
-VoltageOverLimitIsUnsafe =
-    (b : Board) (s : BusState) (d : ℕ) (r : Rail) (t : Target) (code word bound : ℕ)
+abbrev pub VoltageOverLimitIsUnsafe : ℕ → Type 0
+VoltageOverLimitIsUnsafe code =
+    (b : Board) (s : BusState) (d : ℕ) (r : Rail) (t : Target) (word bound : ℕ)
     → IsBoard b → IsStart b s → Selects b s r.target d r → IsTargetAt b r.target t
-    → IsTrue (carries_voltage code) → word < 65536
+    → word < 65536
     → (IsWithin word t.exponent r.limit_uv → ⊥)
     → RunsAreSafe b (voltage_program r.target code word) bound → ⊥
 
--- 80h turns on (PMBus 1.3 Part II, 12.1)
-abbrev pub enabling_program : ℕ → List Instr
-enabling_program target = Write target operation_code (written.Byte 0x80) 1 ∷ End ∷ []
+-- a value for OPERATION, to turn on (PMBus 1.3 Part II, 12.1)
+abbrev pub enabling_program : ℕ → ℕ → List Instr
+enabling_program target value = Write target operation_code (written.Byte value) 1 ∷ End ∷ []
 
 -- no rail that PAGE selects at a start has needs
 abbrev pub StartsHaveNoNeeds : Board → ℕ → Type 0
 StartsHaveNoNeeds b i = (s : BusState) (d : ℕ) (r : Rail) → IsStart b s → Selects b s i d r
     → r.needs ≡ []
 
--- turning on rails that have no needs is safe where the target has an entry for it and every start
--- permits it, within the ticks of its 28 slots and one for the end
+-- turning on rails that have no needs, at a margin or not, is safe where the target has an entry
+-- for it and every start permits it, within the ticks of its 28 slots and one for the end
 abbrev pub EnablingWithoutNeedsIsSafe : Type 0
-EnablingWithoutNeedsIsSafe = (b : Board) (i : ℕ) (t : Target) → IsBoard b → IsTargetAt b i t
-    → Lists t WriteByte operation_code 0x80 → StartsPermit b i operation_code
+EnablingWithoutNeedsIsSafe = (b : Board) (i : ℕ) (t : Target) (value : ℕ) → IsBoard b
+    → IsTargetAt b i t → IsTrue (enables value)
+    → Lists t WriteByte operation_code value → StartsPermit b i operation_code
     → StartsHaveNoNeeds b i
-    → RunsAreSafe b (enabling_program i) (3 + 28 * (3 + largest_stretch b.targets))
+    → RunsAreSafe b (enabling_program i value) (3 + 28 * (3 + largest_stretch b.targets))
 
--- a program that turns on a rail with needs, and asks for none of them, isn't safe within any
--- bound: not where PAGE may select the rail at the start
-abbrev pub EnablingAtOnceIsUnsafe : Type 0
-EnablingAtOnceIsUnsafe = (b : Board) (s : BusState) (d : ℕ) (r : Rail) (bound : ℕ) → IsBoard b
-    → IsStart b s
-    → Selects b s r.target d r → r.needs ≢ [] → RunsAreSafe b (enabling_program r.target) bound → ⊥
+-- a program that turns on a rail with needs, at a margin or not, and asks for none of them, isn't
+-- safe within any bound: not where PAGE may select the rail at the start
+abbrev pub EnablingAtOnceIsUnsafe : ℕ → Type 0
+EnablingAtOnceIsUnsafe value = (b : Board) (s : BusState) (d : ℕ) (r : Rail) (bound : ℕ) → IsBoard b
+    → IsStart b s → Selects b s r.target d r → r.needs ≢ []
+    → RunsAreSafe b (enabling_program r.target value) bound → ⊥
 
 -- asks whether a need is good, turns it off, and turns on what needs it; where it got no report, it
 -- goes on at the label
-abbrev pub withdrawing_program : ℕ → ℕ → ℕ → List Instr
-withdrawing_program label need target =
+abbrev pub withdrawing_program : ℕ → ℕ → ℕ → ℕ → List Instr
+withdrawing_program label need target value =
     Read need status_word_code width.Word 0 label ∷ Write need operation_code (written.Byte 0x00) 2
-    ∷ Write target operation_code (written.Byte 0x80) 3 ∷ End ∷ []
+    ∷ Write target operation_code (written.Byte value) 3 ∷ End ∷ []
 
 -- what was reported is withdrawn, whatever the word was
 abbrev pub WithdrawnNeedIsUnsafe : Type 0
 WithdrawnNeedIsUnsafe =
-    (b : Board) (s : BusState) (n d : ℕ) (need r : Rail) (label bound : ℕ) → IsBoard b
-    → IsStart b s → label < 4
+    (b : Board) (s : BusState) (n d value : ℕ) (need r : Rail) (label bound : ℕ) → IsBoard b
+    → IsStart b s → label < 4 → IsTrue (enables value)
     → Selects b s need.target n need → Selects b s r.target d r → Contains r.needs n
-    → RunsAreSafe b (withdrawing_program label need.target r.target) bound → ⊥
+    → RunsAreSafe b (withdrawing_program label need.target r.target value) bound → ⊥
+
+-- for each command that sets a voltage, and for each value that enables
+abbrev pub AtEachVoltage : (ℕ → Type 0) → Type 0
+AtEachVoltage IsSo = (code : ℕ) → IsTrue (carries_voltage code) → IsSo code
+
+abbrev pub AtEachEnabling : (ℕ → Type 0) → Type 0
+AtEachEnabling IsSo = (value : ℕ) → IsTrue (enables value) → IsSo value
+
+-- among these are VOUT_MARGIN_HIGH and VOUT_MARGIN_LOW (PMBus 1.3 Part II, 13.2 and what follows)
+abbrev pub margin_codes : List ℕ
+margin_codes = 0x25 ∷ 0x26 ∷ []
+
+-- and the values that turn on at the low and at the high margin, each ignoring faults and acting on
+-- them (12.1)
+abbrev pub margin_values : List ℕ
+margin_values = 0x94 ∷ 0x98 ∷ 0xA4 ∷ 0xA8 ∷ []
 
 -- Each law speaks of some program on some board, where nothing else is wrong with the program than
 -- what its law names: an entry lists what it sends, the starts permit what it writes, and so on.
@@ -187,10 +205,8 @@ pub record SomeWriteIsProtected : Type 0 where
   pub forbids : permits protect code ≡ Some false
 
 -- a voltage that is listed and permitted, for a rail that PAGE selects
-pub record ListedVoltage : Type 0 where
+pub record ListedVoltage (code : ℕ) : Type 0 where
   pub on : StartedBoard
-  pub code : ℕ
-  pub sets : IsTrue (carries_voltage code)
   pub word : ℕ
   pub small : word < 65536
   pub listed : Lists on.target WriteWord code word
@@ -200,38 +216,38 @@ pub record ListedVoltage : Type 0 where
   pub selected : Selects on.board on.state rail.target 0 rail
 
 -- and within the limits
-pub record SomeVoltageIsWithin : Type 0 where
-  pub case : ListedVoltage
+pub record SomeVoltageIsWithin (code : ℕ) : Type 0 where
+  pub case : ListedVoltage code
   pub within : StartsAreWithin case.on.board 0 case.on.target case.word
 
 -- or over the rail's
-pub record SomeVoltageIsOver : Type 0 where
-  pub case : ListedVoltage
+pub record SomeVoltageIsOver (code : ℕ) : Type 0 where
+  pub case : ListedVoltage code
   pub over : IsWithin case.word case.on.target.exponent case.rail.limit_uv → ⊥
 
 -- turning on a rail that PAGE selects is listed and permitted
-pub record ListedEnabling : Type 0 where
+pub record ListedEnabling (value : ℕ) : Type 0 where
   pub on : StartedBoard
-  pub listed : Lists on.target WriteByte operation_code 0x80
+  pub listed : Lists on.target WriteByte operation_code value
   pub permitted : StartsPermit on.board 0 operation_code
   pub rail : Rail
   pub on_first : rail.target ≡ 0
   pub selected : Selects on.board on.state rail.target 0 rail
 
 -- and no rail has needs
-pub record SomeRailHasNoNeeds : Type 0 where
-  pub case : ListedEnabling
+pub record SomeRailHasNoNeeds (value : ℕ) : Type 0 where
+  pub case : ListedEnabling value
   pub none : StartsHaveNoNeeds case.on.board 0
 
 -- or this one has some
-pub record SomeRailHasNeeds : Type 0 where
-  pub case : ListedEnabling
+pub record SomeRailHasNeeds (value : ℕ) : Type 0 where
+  pub case : ListedEnabling value
   pub some : case.rail.needs ≢ []
 
 -- the one rail that it needs is on a target whose PAGE is the rail's; asking it is listed, and
 -- tells only what is good; turning it off is listed and permitted
-pub record SomeNeedIsWithdrawn : Type 0 where
-  pub case : ListedEnabling
+pub record SomeNeedIsWithdrawn (value : ℕ) : Type 0 where
+  pub case : ListedEnabling value
   pub need : Rail
   pub other : Target
   pub at : IsTargetAt case.on.board need.target other
@@ -241,7 +257,8 @@ pub record SomeNeedIsWithdrawn : Type 0 where
   pub no_other : length case.rail.needs ≡ 1
   pub label : ℕ
   pub lands : label < 4
-  pub ends : slice_get (withdrawing_program label need.target case.rail.target) label ≡ Some End
+  pub ends : slice_get (withdrawing_program label need.target case.rail.target value) label
+      ≡ Some End
   pub good : IsSomeAnd (entry_of ReadWord status_word_code other.allow)
       (λ e. (word : ℕ) → IsIn e.values word → IsTrue (reported_good word))
   pub turns_off : Lists other WriteByte operation_code 0x00

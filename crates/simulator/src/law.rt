@@ -1,3 +1,4 @@
+ghost use Rattle.std.specs.List.{AllByRecursion};
 ghost use Rattle.simulator.specs.Does.{EntriesDoAsAsked};
 ghost use Rattle.simulator.specs.EntryLaws.{EntriesReadBack, IdleReadsBack, JoinedReadBack};
 ghost use Rattle.simulator.specs.GoingOn.{FittingAnswersHaveSteps, GoingOnHasSteps};
@@ -14,6 +15,8 @@ ghost use Rattle.simulator.specs.SmallPrograms.{SomeVoltageIsWithin, SomeRailHas
 ghost use Rattle.simulator.specs.SmallPrograms.{SomeFormIsUnlisted, SomeWriteIsProtected};
 ghost use Rattle.simulator.specs.SmallPrograms.{SomeVoltageIsOver, SomeRailHasNeeds};
 ghost use Rattle.simulator.specs.SmallPrograms.{SomeNeedIsWithdrawn, SomeClearingIsListed};
+ghost use Rattle.simulator.specs.SmallPrograms.{AtEachVoltage, AtEachEnabling};
+ghost use Rattle.simulator.specs.SmallPrograms.{margin_codes, margin_values};
 ghost use Rattle.simulator.specs.StepLaws.{StepsAreSeen, StartsAreReady, SomeStepIsTaken};
 
 use bit_bus::{plans_keep_slots, reads_back};
@@ -106,28 +109,32 @@ pub fn safe_steps_are_safe_runs()
 /// has an entry for it, the stored protection permits it, and the limits and needs of the rails
 /// allow it. It doesn't hold, whatever else the board says, of programs that send a form for which
 /// the target has no entry, write what is protected, exceed a voltage's limit, or turn on a rail
-/// before its needs reported good or after such a report was withdrawn.
+/// before its needs reported good or after such a report was withdrawn. A voltage is any of the
+/// three, also one at a margin, and a rail is turned on by any value that enables.
 pub fn small_programs_are_judged()
     ensures ends { EndingIsSafe }
     ensures sends { ListedSendIsSafe }
     ensures clears { ClearingIsSafe }
     ensures commands { VoltageWithinLimitIsSafe }
     ensures turns_on { EnablingWithoutNeedsIsSafe }
-    ensures enables { EnablingAtOnceIsUnsafe }
+    ensures enables { AtEachEnabling EnablingAtOnceIsUnsafe }
     ensures withdraws { WithdrawnNeedIsUnsafe }
     ensures lists { UnlistedFormIsUnsafe }
     ensures protects { ProtectedWriteIsUnsafe }
-    ensures limits { VoltageOverLimitIsUnsafe }
+    ensures limits { AtEachVoltage VoltageOverLimitIsUnsafe }
+    // So it is at margins.
+    ensures margins { AllByRecursion EnablingAtOnceIsUnsafe margin_values }
+    ensures margin_limits { AllByRecursion VoltageOverLimitIsUnsafe margin_codes }
     // Each of them speaks of some program, for which all else that the others ask for holds.
     ensures some_send { SomeSendIsListed }
     ensures some_clearing { SomeClearingIsListed }
-    ensures some_voltage { SomeVoltageIsWithin }
-    ensures some_rail { SomeRailHasNoNeeds }
+    ensures some_voltage { AtEachVoltage SomeVoltageIsWithin }
+    ensures some_rail { AtEachEnabling SomeRailHasNoNeeds }
     ensures unlisted { SomeFormIsUnlisted }
     ensures protected { SomeWriteIsProtected }
-    ensures over { SomeVoltageIsOver }
-    ensures needed { SomeRailHasNeeds }
-    ensures withdrawn { SomeNeedIsWithdrawn }
+    ensures over { AtEachVoltage SomeVoltageIsOver }
+    ensures needed { AtEachEnabling SomeRailHasNeeds }
+    ensures withdrawn { AtEachEnabling SomeNeedIsWithdrawn }
 {
     messages_have_one_frame();
     entries_read_back();

@@ -10,9 +10,7 @@ use Rattle.std.proofs.lemmas.List.Elements.{recursion_from_All}
 use Rattle.smbus.specs.declared.message.Form.TheVariants as form
 use Rattle.smbus.specs.Answered.{Answered}
 use Rattle.pmbus_table.specs.Codes.{page_code, operation_code, write_protect_code}
-use Rattle.pmbus_table.specs.Codes.{vout_command_code}
 use Rattle.pmbus_table.specs.Commands.{takes_form}
-use Rattle.pmbus_table.specs.Table.{table}
 use Rattle.pmbus_table.specs.Operation.{enables}
 use Rattle.pmbus_table.specs.Protect.{permits, is_protection}
 use Rattle.pmbus_table.specs.Voltage.{IsWithin, carries_voltage}
@@ -109,7 +107,7 @@ in_range b row h m next i t (Write code (written.Register q)) a e k x =
     let v = slice_index m.regs q in
     in_values x.entry v (word_of (low_byte_first v)) (sym (word_back v))
     (is_in x.entry.values (span_at row.regs q) v x.in_entry.0 x.in_entry.1
-    (written_inside b row m h q k.shaped k.admits k.request.1))
+    (written_inside b row m h q k.shaped k.admits k.request.2))
 in_range b row h m next i t (Read code width.Byte register) a e k x = λ np nw.
     subst (λ (z : Range). IsIn z a.value)
     (values_same b i t m.regs (Read code width.Byte register) x.entry
@@ -158,16 +156,12 @@ byte_value t m (PutBlock c bytes) code is_value q k by f e = cc
 byte_value t m (GetBlock c n) code is_value q k by f e = cc
 byte_value t m (CallBlock c bytes n) code is_value q k by f e = cc
 
-voltage_word : (code : ℕ) → code ≡ vout_command_code → IsTrue (takes_form code form.WriteWord)
-unfolding table
-voltage_word code e = rw e refl
-
 -- a command that is written takes the form
 takes_written : (r : Request) → IsRequest r → MayWrite (form_in r)
     → IsTrue (takes_form (code_in r) (form_in r))
 takes_written (Write c (written.Byte v)) q w = q.0
 takes_written (Write c (written.Word v)) q w = q.0
-takes_written (Write c (written.Register n)) q w = voltage_word c q.0
+takes_written (Write c (written.Register n)) q w = q.0
 takes_written (Send c) q w = q
 takes_written (Read c n g) q w = q.0
 takes_written (Call c v n) q w = q.0
@@ -228,7 +222,7 @@ voltage_of b row h m next i t
     let v = slice_index m.regs n in
     let same : low + 256 * high ≡ v = two v low high out in
     let inside : InSpan (span_at row.regs n) v =
-    written_inside b row m h n k.shaped k.admits k.request.1 in
+    written_inside b row m h n k.shaped k.admits k.request.2 in
     rw same (lower_within v (Span.hi (span_at row.regs n)) t rail inside.1
     ((k.duty K4) sets t d rail k.at at' hit))
   where

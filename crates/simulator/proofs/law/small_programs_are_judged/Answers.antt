@@ -1,6 +1,8 @@
 use Rattle.simulator.proofs.EndingProgram.{ending_is_safe}
 use Rattle.simulator.proofs.EnablingProgram.{enabling_at_once_is_unsafe}
+use Rattle.simulator.proofs.EnablingProgram.{margins_at_once_are_unsafe}
 use Rattle.simulator.proofs.UnsafePrograms.{protected_write_is_unsafe, voltage_over_limit_is_unsafe}
+use Rattle.simulator.proofs.UnsafePrograms.{margins_over_limit_are_unsafe}
 use Rattle.simulator.proofs.UnlistedForm.{unlisted_form_is_unsafe}
 use Rattle.simulator.proofs.WithdrawnNeed.{withdrawn_need_is_unsafe}
 use Rattle.targets.specs.PlaceLaws.{TargetsAreFound}
@@ -33,6 +35,14 @@ returns-clause-protects c =
 pub returns-clause-limits : goal.returns-clause-limits
 returns-clause-limits c =
     voltage_over_limit_is_unsafe c.steps_are_seen.ensures.steps c.steps_are_seen.ensures.starts
+
+pub returns-clause-margins : goal.returns-clause-margins
+returns-clause-margins c =
+    margins_at_once_are_unsafe c.steps_are_seen.ensures.steps c.steps_are_seen.ensures.starts
+
+pub returns-clause-margin_limits : goal.returns-clause-margin_limits
+returns-clause-margin_limits c =
+    margins_over_limit_are_unsafe c.steps_are_seen.ensures.steps c.steps_are_seen.ensures.starts
 
 pub returns-clause-lists : goal.returns-clause-lists
 returns-clause-lists c =
