@@ -18,14 +18,15 @@ length-planned [] holds = refl
 length-planned (s ∷ slots) [] = ap suc (length-planned slots [])
 length-planned (s ∷ slots) (h ∷ holds) = ap suc (length-planned slots holds)
 
-pub slice_get-planned : (slots : List Slot) (holds : List ℕ) (i : ℕ) (s : Slot) → i < length slots
-    → s ≡ get_or slots i s → slice_get (planned slots holds) i ≡ Some (s, get_or holds i 0)
-slice_get-planned [] holds i s lt e = absurd (omega arith)
-slice_get-planned (t ∷ slots) [] zero s lt e = rw (← e) refl
-slice_get-planned (t ∷ slots) [] (suc i) s lt e = slice_get-planned slots [] i s (omega arith) e
-slice_get-planned (t ∷ slots) (h ∷ holds) zero s lt e = rw (← e) refl
-slice_get-planned (t ∷ slots) (h ∷ holds) (suc i) s lt e =
-    slice_get-planned slots holds i s (omega arith) e
+pub planned_at : (slots : List Slot) (holds : List ℕ) (i : ℕ) (d : Slot) (hold : ℕ)
+    → i < length slots → hold ≡ get_or holds i 0
+    → slice_get (planned slots holds) i ≡ Some (get_or slots i d, hold)
+planned_at [] holds i d hold lt e = absurd (omega arith)
+planned_at (s ∷ slots) [] zero d hold lt e = rw e refl
+planned_at (s ∷ slots) [] (suc i) d hold lt e = planned_at slots [] i d hold (omega arith) e
+planned_at (s ∷ slots) (h ∷ holds) zero d hold lt e = rw e refl
+planned_at (s ∷ slots) (h ∷ holds) (suc i) d hold lt e =
+    planned_at slots holds i d hold (omega arith) e
 
 pub drop_from_get : {X : Type 0} → (xs : List X) (i : ℕ) (x : X) → slice_get xs i ≡ Some x
     → drop i xs ≡ x ∷ drop (i + 1) xs

@@ -85,14 +85,15 @@ driven_few alert plan valid =
 
 -- so are those up to a slot, behind others
 pub begun_few : (alert : Bool) (plan : List (Slot × ℕ)) (before samples later : List Sample)
-    → IsPlan plan → samples ++ later ≡ before ++ levels alert plan
-    → length samples ≤ length before + most_driven
+    → IsPlan plan → samples ++ later ≡ before ++ slot_levels alert plan
+    → length samples < length before + most_driven
 begun_few alert plan before samples later valid parts =
     let all = ap length parts in
+    let few : suc (length (slot_levels alert plan)) ≤ most_driven = driven_few alert plan valid in
     omega (
       arith,
       all,
       length-append samples later,
-      length-append before (levels alert plan),
-      driven_few alert plan valid,
+      length-append before (slot_levels alert plan),
+      few,
     )

@@ -1,17 +1,18 @@
-ghost use Rattle.std.specs.Prelude.{◌≡◌, ◌≤◌, ◌<◌, ◌+◌, ◌^◌, ◌∷◌, ◌++◌, [], Bool, true, IfOk, OnOk};
+ghost use Rattle.std.specs.Prelude.{◌≡◌, ◌≤◌, ◌<◌, ◌+◌, ◌*◌, ◌^◌, ◌∷◌, ◌++◌, [], Bool, true};
+ghost use Rattle.std.specs.Prelude.{IfOk, OnOk};
 ghost use Rattle.std.specs.Prelude.{length};
 ghost use Rattle.wires.specs.Events.{events_of};
 ghost use Rattle.wires.specs.Runs.{most_samples};
-ghost use Rattle.bit_bus.specs.Planned.{IsPlan};
-ghost use Rattle.bit_bus.specs.Levels.{idle, low_run, whole_levels, cut_levels};
-ghost use Rattle.bit_bus.specs.Levels.{levels, first_cut, is_cut};
+ghost use Rattle.bit_bus.specs.Planned.{IsPlan, planned};
+ghost use Rattle.bit_bus.specs.Levels.{level, idle, low_run, whole_levels, cut_levels};
+ghost use Rattle.bit_bus.specs.Levels.{slot_levels, levels, first_cut, is_cut};
 ghost use Rattle.bit_bus.specs.Levels.{EndsHigh};
 ghost use Rattle.bit_bus.specs.SampleCounts.{most_driven};
 ghost use Rattle.bit_bus.specs.Word.{event_word};
 
-use crate::plan::{Plan, Slot};
+use crate::plan::{Plan, Slot, hold_at};
 use std::alloc::{AllocError, Global};
-use wires::{Runs, Sample};
+use wires::{Appending, Runs, Sample};
 
 /// The samples of a frame, one a tick of 5 µs, and the slot in which it was cut, if any.
 #[derive(Debug, Drop)]
@@ -36,72 +37,111 @@ pub fn is_cut(hold: u16) -> bool
     hold >= LONGEST_LOW
 }
 
-fn push_low(samples: &mut Runs, sda: bool, alert: bool, ticks: u16) -> Result<(), AllocError>
-    requires { length samples.old + ticks ≤ most_samples }
-    ensures low { OnOk result (samples.new ≡ samples.old ++ low_run alert sda ticks) }
-    ensures count { OnOk result (length samples.new ≡ length samples.old + ticks) }
-{
-    let low = Sample {
-        scl: false,
-        sda,
-        alert,
-    };
-    samples.push(low, u64::from(ticks))
-}
-
-fn push_high(samples: &mut Runs, sda: bool, alert: bool) -> Result<(), AllocError>
-    requires { length samples.old < most_samples }
-    ensures high { OnOk result (samples.new
-        ≡ samples.old ++ record { scl = true; sda = sda; alert = alert } ∷ []) }
-    ensures count { OnOk result (length samples.new ≡ length samples.old + 1) }
+/// One sample with SCL high.
+#[inline(always)]
+fn push_high(levels: &mut Appending, sda: bool, alert: bool)
+    requires few { length levels.old.samples < most_samples }
+    requires room { 0 < levels.old.room }
+    ensures high { levels.new.samples ≡ levels.old.samples ++ level alert true sda ∷ [] }
+    ensures room { levels.old.room ≤ levels.new.room + 1 }
 {
     let high = Sample {
         scl: true,
         sda,
         alert,
     };
-    samples.push(high, 1)
+    levels.push(high, 1);
 }
 
-fn push_whole(samples: &mut Runs, slot: Slot, hold: u16, alert: bool) -> Result<(), AllocError>
-    requires whole { hold < 5000 }
-    requires room { length samples.old + 3 + hold ≤ most_samples }
-    ensures { OnOk result (samples.new ≡ samples.old ++ whole_levels alert slot hold) }
+/// So many samples with SCL low.
+fn push_low(levels: &mut Appending, sda: bool, alert: bool, ticks: u16)
+    requires some { 0 < ticks }
+    requires few { length levels.old.samples + ticks ≤ most_samples }
+    requires room { 0 < levels.old.room }
+    ensures low { levels.new.samples ≡ levels.old.samples ++ low_run alert sda ticks }
+    ensures count { length levels.new.samples ≡ length levels.old.samples + ticks }
+    ensures room { levels.old.room ≤ levels.new.room + 1 }
+{
+    let low = Sample {
+        scl: false,
+        sda,
+        alert,
+    };
+    levels.push(low, u64::from(ticks));
+}
+
+/// The low period of a slot that isn't cut, and the sample with SCL high behind it.
+#[inline(always)]
+fn push_clock(levels: &mut Appending, sda: bool, alert: bool, hold: u16)
+    requires few { length levels.old.samples + 2 + hold ≤ most_samples }
+    requires room { 1 < levels.old.room }
+    ensures clock { levels.new.samples ≡ levels.old.samples
+        ++ (low_run alert sda (hold + 1) ++ level alert true sda ∷ []) }
+    ensures count { length levels.new.samples ≡ length levels.old.samples + 2 + hold }
+    ensures room { levels.old.room ≤ levels.new.room + 2 }
+{
+    levels.push_clock(sda, alert, u64::from(hold) + 1);
+}
+
+#[inline(always)]
+fn push_whole(levels: &mut Appending, slot: Slot, hold: u16, alert: bool)
+    requires few { length levels.old.samples + 3 + hold ≤ most_samples }
+    requires room { 3 < levels.old.room }
+    ensures samples { levels.new.samples ≡ levels.old.samples ++ whole_levels alert slot hold }
+    ensures room { levels.old.room ≤ levels.new.room + 4 }
 {
     match slot {
-        Slot::Bit(sda) => {
-            push_low(samples, sda, alert, hold + 1)?;
-            push_high(samples, sda, alert)?;
-        }
+        Slot::Bit(sda) => push_clock(levels, sda, alert, hold),
         Slot::Again => {
-            push_low(samples, HIGH, alert, hold + 1)?;
-            push_high(samples, HIGH, alert)?;
-            push_high(samples, LOW, alert)?;
+            push_clock(levels, HIGH, alert, hold);
+            push_high(levels, LOW, alert);
         }
         Slot::End => {
-            push_low(samples, LOW, alert, hold + 1)?;
-            push_high(samples, LOW, alert)?;
-            push_high(samples, HIGH, alert)?;
+            push_clock(levels, LOW, alert, hold);
+            push_high(levels, HIGH, alert);
         }
     }
-    Ok(())
 }
 
-fn push_cut(samples: &mut Runs, slot: Slot, hold: u16, alert: bool) -> Result<(), AllocError>
+#[inline(always)]
+fn push_cut(levels: &mut Appending, slot: Slot, hold: u16, alert: bool)
     requires cut { 5000 ≤ hold }
-    requires room { length samples.old + 3 + hold ≤ most_samples }
-    ensures { OnOk result (samples.new ≡ samples.old ++ cut_levels alert slot hold) }
+    requires few { length levels.old.samples + 3 + hold ≤ most_samples }
+    requires room { 3 < levels.old.room }
+    ensures samples { levels.new.samples ≡ levels.old.samples ++ cut_levels alert slot hold }
+    ensures room { levels.old.room ≤ levels.new.room + 4 }
 {
     let sda = match slot {
         Slot::Bit(sda) => sda,
         Slot::Again => HIGH,
         Slot::End => LOW,
     };
-    push_low(samples, sda, alert, LONGEST_LOW)?;
-    push_low(samples, LOW, alert, hold - (LONGEST_LOW - 1))?;
-    push_high(samples, LOW, alert)?;
-    push_high(samples, HIGH, alert)?;
-    Ok(())
+    push_low(levels, sda, alert, LONGEST_LOW);
+    push_low(levels, LOW, alert, hold - (LONGEST_LOW - 1));
+    push_high(levels, LOW, alert);
+    push_high(levels, HIGH, alert);
+}
+
+/// Appends the levels of slots with these holds, each of which takes at most four runs, and tells
+/// the slot in which they are cut, if any.
+#[inline(always)]
+fn push_slots(levels: &mut Appending, slots: &[Slot], holds: &[u16], alert: bool) -> Option<usize>
+    requires valid { IsPlan (planned slots.now holds.now) }
+    requires few { length levels.old.samples ≤ 2 ^ 39 }
+    requires room { 4 * length slots.now ≤ levels.old.room }
+    ensures samples { levels.new.samples
+        ≡ levels.old.samples ++ slot_levels alert (planned slots.now holds.now) }
+    ensures cut { result ≡ first_cut (planned slots.now holds.now) }
+{
+    for (place, slot) in slots.iter().enumerate() {
+        let hold = hold_at(holds, place);
+        if is_cut(hold) {
+            push_cut(levels, *slot, hold, alert);
+            return Some(place);
+        }
+        push_whole(levels, *slot, hold, alert);
+    }
+    None
 }
 
 /// Drives SCL and SDA through a plan behind samples that are there, as `drive` does, and tells the
@@ -113,17 +153,13 @@ pub fn drive_onto(samples: &mut Runs, plan: &Plan, alert: bool) -> Result<Option
     ensures cut { IfOk result (λ cut. cut ≡ first_cut plan.now) }
     ensures valid { IsPlan plan.now }
 {
-    let count = plan.count();
-    push_high(samples, LOW, alert)?;
-    for place in 0..count {
-        let (slot, hold) = plan.slot(place);
-        if is_cut(hold) {
-            push_cut(samples, slot, hold, alert)?;
-            return Ok(Some(place));
-        }
-        push_whole(samples, slot, hold, alert)?;
-    }
-    Ok(None)
+    let (slots, holds) = plan.parts();
+    // Room for all runs is made first, so that nothing fails behind this.
+    let mut levels = samples.take_with_room(4 * slots.len() + 1)?;
+    push_high(&mut levels, LOW, alert);
+    let cut = push_slots(&mut levels, slots, holds, alert);
+    *samples = levels.into_runs();
+    Ok(cut)
 }
 
 /// Drives SCL and SDA through a plan, with this level of the alert line throughout: a START, and

@@ -54,7 +54,12 @@ fn is_end(slot: Slot) -> bool
 fn are_inside(slots: &[Slot]) -> bool
     ensures { result ≡ are_inside slots.now }
 {
-    slots.iter().all(|slot| !is_end(*slot))
+    let mut are_inside = true;
+    // All slots are looked at, which goes many at a time.
+    for slot in slots {
+        are_inside &= !is_end(*slot);
+    }
+    are_inside
 }
 
 fn are_short(holds: &[u16]) -> bool
@@ -82,7 +87,8 @@ fn is_plan(slots: &[Slot], holds: &[u16]) -> bool
     ends_once(slots) && are_short(counted)
 }
 
-fn hold_at(holds: &[u16], place: usize) -> u16
+#[inline(always)]
+pub(crate) fn hold_at(holds: &[u16], place: usize) -> u16
     ensures { result ≡ slice_index holds.now place }
 {
     holds.get(place).copied().unwrap_or(0)
@@ -102,17 +108,11 @@ impl Plan {
         }
     }
 
-    pub(crate) fn count(&self) -> usize
-        ensures count { result ≡ length self.now }
+    /// The slots, and the holds of the first of them.
+    pub(crate) fn parts(&self) -> (&[Slot], &[u16])
+        ensures parts { planned result.0.now result.1.now ≡ self.now }
         ensures valid { IsPlan self.now }
     {
-        self.slots.len()
-    }
-
-    pub(crate) fn slot(&self, place: usize) -> (Slot, u16)
-        requires { place < length self.now }
-        ensures { slice_get self.now place ≡ Some result }
-    {
-        (self.slots[place], hold_at(&self.holds, place))
+        (&self.slots, &self.holds)
     }
 }

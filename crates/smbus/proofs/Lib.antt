@@ -22,3 +22,4 @@ pub mod FrameWords
 pub mod Observed
 pub mod CountedSlots
 pub mod Examples
+pub mod WholeBytes

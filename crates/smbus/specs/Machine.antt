@@ -1,5 +1,5 @@
 -- Reading event by event. Nothing public cites this: `Frames` says what is read.
-use Rattle.std.specs.Prelude.{ℕ, ◌==◌, Bool, true, false, not, if◌then◌else◌, Option, Some, None}
+use Rattle.std.specs.Prelude.{◌≡◌, ℕ, ◌==◌, Bool, true, false, not, if◌then◌else◌, Option, Some, None}
 use Rattle.std.specs.Prelude.{is_some, option_map, unwrap_or, List, [], ◌∷◌, ◌++◌, take, length}
 use Rattle.std.specs.Prelude.{slice_index_or}
 use Rattle.wires.specs.declared.event.Event.{Event}
@@ -117,3 +117,14 @@ run (e ∷ es) s = then_run (run es) (step s e)
 
 abbrev pub start : State
 start = record { frames = []; is_open = false; segments = []; bytes = []; bits = [] }
+
+-- From a state, events lead to another with some of them left: those before lead to one that can't
+-- be told from it by what is left. It may have made a byte of nine bits already, where a rise comes
+-- next.
+pub record Leads (s : State) (events : List Event) (t : State) (rest : List Event) : Type 0 where
+  pub front : List Event
+  pub parts : events ≡ front ++ rest
+  pub behind : State
+  pub ran : run front s ≡ Some behind
+  pub next : (e : Event) (later : List Event) → rest ≡ e ∷ later → step behind e ≡ step t e
+  pub ended : rest ≡ [] → behind ≡ t

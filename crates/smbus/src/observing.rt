@@ -1,9 +1,10 @@
-ghost use Rattle.std.specs.Prelude.{◌≡◌, ◌≢◌, ◌++◌, ◌∷◌, [], List, length};
-ghost use Rattle.std.specs.Prelude.{IfOk, IfErr, OnOk, MatchBool, MatchOption};
+ghost use Rattle.std.specs.Prelude.{◌≡◌, ◌≢◌, ◌≤◌, ◌++◌, ◌∷◌, [], Bool, List, length, IsTrue};
+ghost use Rattle.std.specs.Prelude.{IfOk, IfErr, OnOk, IfSome, MatchBool, MatchOption};
+ghost use Rattle.wires.specs.declared.event.Event.TheVariants.{Rise};
 ghost use Rattle.smbus.specs.Shown.{Shown};
-ghost use Rattle.smbus.specs.Frames.{AreFrames, FaultIs};
+ghost use Rattle.smbus.specs.Frames.{AreFrames, FaultIs, rises};
 ghost use Rattle.smbus.specs.Machine.{byte_of, state_of, reading_of, opened, risen};
-ghost use Rattle.smbus.specs.Machine.{run, start, step};
+ghost use Rattle.smbus.specs.Machine.{run, start, step, Leads};
 ghost use Rattle.smbus.specs.Control.{control_after};
 ghost use Rattle.smbus.specs.declared.control.Control.TheVariants.{Free};
 ghost use Rattle.smbus.specs.declared.fault.ObserveFault.TheVariants.{Memory};
@@ -42,6 +43,29 @@ fn byte_from(bits: &[bool]) -> (u8, bool)
     (byte, !bits[8])
 }
 
+/// The byte of nine rises, and its acknowledge; None where one of these events is no rise.
+#[inline(always)]
+fn byte_of_rises(nine: &[Event]) -> Option<(u8, bool)>
+    requires { length nine.now ≡ 9 }
+    ensures { IfSome result
+        (λ byte. (bits : List Bool) × (nine.now ≡ rises bits) × (byte ≡ byte_of bits)) }
+{
+    let mut number: u16 = 0;
+    for event in nine {
+        let Event::Rise(bit) = event else {
+            return None;
+        };
+        number = 2 * number + u16::from(*bit);
+    }
+    Some(((number / 2) as u8, number % 2 == 0))
+}
+
+fn is_rise(event: Event) -> bool
+    ensures { IsTrue result → (bit : Bool) × (event ≡ Rise bit) }
+{
+    matches!(event, Event::Rise(_))
+}
+
 impl OpenFrame {
     fn new(alloc: Global) -> OpenFrame
         ensures { (frames : List Shown) → state_of frames (Some result) ≡ opened frames }
@@ -64,6 +88,30 @@ impl OpenFrame {
         }
         self.bits.push(bit)?;
         Ok(())
+    }
+
+    /// Takes the whole bytes that the events begin with, behind no bits, and gives what is left. A
+    /// rise has to follow each of them, since a ninth may be the STOP's.
+    fn take_bytes<'a>(&mut self, events: &'a [Event]) -> Result<&'a [Event], AllocError>
+        requires { self.old.bits.items ≡ [] }
+        ensures leads { IfOk result (λ rest. (frames : List Shown)
+            → Leads (state_of frames (Some self.old)) events.now
+            (state_of frames (Some self.new)) rest.now) }
+        ensures fewer { IfOk result (λ rest. length rest.now ≤ length events.now) }
+    {
+        let mut rest = events;
+        while rest.len() > 9 {
+            let (nine, later) = rest.split_at(9);
+            if !is_rise(later[0]) {
+                break;
+            }
+            let Some(byte) = byte_of_rises(nine) else {
+                break;
+            };
+            self.bytes.push(byte)?;
+            rest = later;
+        }
+        Ok(rest)
     }
 
     /// Takes a repeated START, and answers whether one may stand here.
@@ -155,6 +203,20 @@ impl Reading {
         }
     }
 
+    /// Takes the whole bytes that the events begin with, where no bits stand before them, and
+    /// gives what is left.
+    #[inline(always)]
+    fn take_bytes<'a>(&mut self, events: &'a [Event]) -> Result<&'a [Event], AllocError>
+        ensures leads { IfOk result
+            (λ rest. Leads (reading_of self.old) events.now (reading_of self.new) rest.now) }
+        ensures fewer { IfOk result (λ rest. length rest.now ≤ length events.now) }
+    {
+        match &mut self.open_frame {
+            Some(frame) if frame.bits.is_empty() => frame.take_bytes(events),
+            _ => Ok(events),
+        }
+    }
+
     /// Takes events in order, and answers whether all of them go on.
     fn read(&mut self, alloc: Global, events: &[Event]) -> Result<bool, AllocError>
         ensures { IfOk result (λ all. MatchBool all (run events.now (reading_of self.old)
@@ -199,10 +261,12 @@ pub fn observe(alloc: Global, events: &[Event]) -> Result<Vec<Frame>, ObserveFau
     ensures fault { IfErr result (FaultIs events.now) }
 {
     let mut reading = Reading::new(alloc);
-    for (place, event) in events.iter().enumerate() {
+    let mut rest = events;
+    while let [event, later @ ..] = rest {
         if !reading.accept(alloc, *event)? {
-            return Err(ObserveFault::NotFrames(place));
+            return Err(ObserveFault::NotFrames(events.len() - rest.len()));
         }
+        rest = reading.take_bytes(later)?;
     }
     if reading.open_frame.is_some() {
         return Err(ObserveFault::NotFrames(events.len()));

@@ -66,10 +66,11 @@ fn returned_bytes(
 fn push_byte(slots: &mut Vec<Slot>, byte: u8, acknowledged: bool) -> Result<(), AllocError>
     ensures { OnOk result (slots.new.items ≡ slots.old.items ++ byte_marks byte acknowledged) }
 {
+    slots.reserve(9)?;
     for place in (0..8u8).rev() {
-        slots.push(Slot::Bit(byte >> place & 1 == 1))?;
+        slots.push_reserved(Slot::Bit(byte >> place & 1 == 1));
     }
-    slots.push(Slot::Bit(!acknowledged))?;
+    slots.push_reserved(Slot::Bit(!acknowledged));
     Ok(())
 }
 

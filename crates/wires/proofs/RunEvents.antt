@@ -1,10 +1,10 @@
 -- No event comes within a run, so the events of runs are those of one sample each.
 use Rattle.std.proofs.Common.{◌≡◌, ℕ, zero, suc, ◌-◌, ◌<◌, Bool, true, false, List, [], ◌∷◌, ◌++◌}
-use Rattle.std.proofs.Common.{map, replicate, refl, ap, ◌∙◌, arith, drop, length, get_or, ◌≤◌}
+use Rattle.std.proofs.Common.{map, replicate, refl, sym, ap, ◌∙◌, arith}
 use Rattle.wires.specs.declared.lines.Sample.{Sample}
 use Rattle.wires.specs.declared.runs.Run.{Run}
 use Rattle.wires.specs.Events.{change, events_between, events_after, events_of}
-use Rattle.wires.specs.Runs.{samples_after, samples_of, EndAfter}
+use Rattle.wires.specs.Runs.{levels_in, samples_after, samples_of, EndAfter}
 
 no_change : (scl sda : Bool) → change scl scl sda sda ≡ []
 no_change true true = refl
@@ -26,7 +26,7 @@ events_after-run before s zero later some = absurd (omega arith)
 events_after-run before s (suc count) later some =
     ap (λ l. events_between before s ++ l) (events_after-replicate s count later)
 
-pub events_after-runs : (before : Sample) (start : ℕ) (runs : List Run) → EndAfter start runs
+events_after-runs : (before : Sample) (start : ℕ) (runs : List Run) → EndAfter start runs
     → events_after before (samples_after start runs)
     ≡ events_after before (map (λ (r : Run). r.sample) runs)
 events_after-runs before start [] rising = refl
@@ -41,7 +41,7 @@ events_of-run : (s : Sample) (count : ℕ) (later : List Sample) → 0 < count
 events_of-run s zero later some = absurd (omega arith)
 events_of-run s (suc count) later some = events_after-replicate s count later
 
-pub events_of-runs : (r : Run) (later : List Run) → EndAfter 0 (r ∷ later)
+events_of-runs : (r : Run) (later : List Run) → EndAfter 0 (r ∷ later)
     → events_of (samples_of (r ∷ later))
     ≡ events_after r.sample (map (λ (r : Run). r.sample) later)
 events_of-runs r later rising =
@@ -49,9 +49,7 @@ events_of-runs r later rising =
     events_of-run r.sample (r.end - 0) (samples_after r.end later) (omega arith)
     ∙ events_after-runs r.sample r.end later rising.1
 
--- runs as a first one and the rest
-pub events_of-split : (runs : List Run) (d : Run) → EndAfter 0 runs → 1 ≤ length runs
-    → events_of (samples_of runs)
-    ≡ events_after (get_or runs 0 d).sample (map (λ (r : Run). r.sample) (drop 1 runs))
-events_of-split [] d rising some = absurd (omega arith)
-events_of-split (r ∷ later) d rising some = events_of-runs r later rising
+pub events_of-levels : (runs : List Run) → EndAfter 0 runs
+    → events_of (levels_in runs) ≡ events_of (samples_of runs)
+events_of-levels [] rising = refl
+events_of-levels (r ∷ later) rising = sym (events_of-runs r later rising)

@@ -1,5 +1,6 @@
 -- A list of samples as runs of equal ones, each with the number of samples up to its end.
-use Rattle.std.specs.Prelude.{ℕ, ◌^◌, ◌-◌, ◌≢◌, ◌<◌, ◌≤◌, List, [], ◌∷◌, ◌++◌, length, replicate}
+use Rattle.std.specs.Prelude.{ℕ, ◌^◌, ◌-◌, ◌≢◌, ◌<◌, ◌≤◌, List, [], ◌∷◌, ◌++◌, length, map}
+use Rattle.std.specs.Prelude.{replicate}
 use Rattle.wires.specs.declared.lines.Sample.{Sample}
 use Rattle.wires.specs.declared.runs.Run.{Run}
 
@@ -14,6 +15,10 @@ samples_after start (r ∷ later) = replicate (r.end - start) r.sample ++ sample
 -- the samples of runs, one after another
 abbrev pub samples_of : List Run → List Sample
 samples_of runs = samples_after 0 runs
+
+-- the sample of each run, once
+abbrev pub levels_in : List Run → List Sample
+levels_in runs = map (λ (r : Run). r.sample) runs
 
 -- each run after so many samples has a sample
 abbrev pub EndAfter : ℕ → List Run → Type 0
@@ -31,3 +36,8 @@ pub record AreRuns (runs : List Run) : Type 0 where
   pub rising : EndAfter 0 runs
   pub differ : NeighboursDiffer runs
   pub few : length (samples_of runs) ≤ most_samples
+
+-- samples that are appended to, and for how many runs more there is room
+pub record Appended : Type 0 where
+  pub samples : List Sample
+  pub room : ℕ

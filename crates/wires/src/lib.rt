@@ -13,5 +13,5 @@ pub use arbitration::arbitrate;
 pub use event::{Event, events};
 pub use law::least_byte_wins;
 pub use lines::{Sample, wired};
-pub use runs::{Run, Runs, events_of};
+pub use runs::{Appending, Run, Runs, events_of};
 pub use wave::Wave;

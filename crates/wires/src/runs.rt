@@ -1,10 +1,15 @@
+//! Lists of samples, kept as runs of equal ones.
+
+mod appending;
+
 ghost use Rattle.std.specs.Prelude.{◌≡◌, ◌≤◌, ◌<◌, ◌+◌, [], ◌++◌, length, replicate, OnOk, OnErr};
 ghost use Rattle.std.specs.Prelude.{IsOk, IfOk, vec_len, vec_capacity, slice_get};
 ghost use Rattle.wires.specs.Events.{events_of};
-ghost use Rattle.wires.specs.Runs.{AreRuns, most_samples, samples_of};
+ghost use Rattle.wires.specs.Runs.{AreRuns, levels_in, most_samples, samples_of};
 
 use crate::event::{Event, event_between};
 use crate::lines::Sample;
+pub use appending::Appending;
 use std::alloc::{AllocError, Global};
 use std::marker::Model;
 
@@ -162,21 +167,49 @@ impl Runs {
     }
 }
 
+/// Appends the events of clocks, in each of which SCL falls and then rises, up to the first run
+/// that is followed by none; what is left begins with that run.
+#[inline(always)]
+fn push_rises<'a>(events: &mut Vec<Event>, runs: &'a [Run]) -> &'a [Run]
+    requires room { vec_len events.old + length runs.now ≤ vec_capacity events.old }
+    ensures events { events.new.items ++ events_of (levels_in result.now)
+        ≡ events.old.items ++ events_of (levels_in runs.now) }
+    ensures room { vec_len events.new + length result.now ≤ vec_capacity events.new }
+    ensures fewer { length result.now ≤ length runs.now }
+{
+    let mut rest = runs;
+    while let [before, low, high, ..] = rest {
+        if !before.sample.scl || low.sample.scl || !high.sample.scl {
+            break;
+        }
+        events.push_reserved(Event::Rise(high.sample.sda));
+        rest = &rest[2..];
+    }
+    rest
+}
+
+/// Appends the events between runs.
+#[inline(always)]
+fn push_events(events: &mut Vec<Event>, runs: &[Run])
+    requires room { vec_len events.old + length runs.now ≤ vec_capacity events.old }
+    ensures { events.new.items ≡ events.old.items ++ events_of (levels_in runs.now) }
+{
+    let mut rest = runs;
+    while let [before, after, ..] = rest {
+        if let Some(event) = event_between(before.sample, after.sample) {
+            events.push_reserved(event);
+        }
+        rest = push_rises(events, &rest[1..]);
+    }
+}
+
 /// The events of a list of samples, one sample a tick, in order. It takes steps for the runs, and
 /// none for the ticks within. Fails only for want of memory.
 pub fn events_of(alloc: Global, runs: &Runs) -> Result<Vec<Event>, AllocError>
     ensures { IfOk result (λ events. events.items ≡ events_of runs.now) }
 {
-    let [first, rest @ ..] = runs.runs() else {
-        return Ok(Vec::new(alloc));
-    };
-    let mut events = Vec::with_capacity(alloc, rest.len())?;
-    let mut before = first.sample;
-    for run in rest {
-        if let Some(event) = event_between(before, run.sample) {
-            events.push(event)?;
-        }
-        before = run.sample;
-    }
+    let runs = runs.runs();
+    let mut events = Vec::with_capacity(alloc, runs.len())?;
+    push_events(&mut events, runs);
     Ok(events)
 }

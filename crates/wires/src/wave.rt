@@ -12,7 +12,8 @@ ghost use Rattle.wires.specs.Waves.{Step, IsWave};
 use crate::lines::Sample;
 use crate::runs::Runs;
 use crate::wave::drawing::header;
-use crate::wave::steps::{levels_behind, step_text};
+pub(crate) use crate::wave::steps::levels_behind;
+use crate::wave::steps::step_text;
 use std::alloc::{AllocError, Global};
 use std::marker::Model;
 
