@@ -42,7 +42,8 @@ dots_if goes_on = if goes_on then codes ".." else []
 pub record IsEscaped (line text : List ℕ) : Type 0 where
   pub size : ℕ
   pub beginning : IsBeginning line size
-  pub is : text ≡ flat_map shown_char (chars (take size line)) ++ dots_if (nat_lt size (length line))
+  pub is : text
+      ≡ flat_map shown_char (chars (take size line)) ++ dots_if (nat_lt size (length line))
 
 abbrev pub IsShownAs : List ℕ → List ℕ → Type 0
 IsShownAs line text = MatchBool (is_plain line) (text ≡ line) (IsEscaped line text)

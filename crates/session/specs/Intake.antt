@@ -17,7 +17,8 @@ pub record IsReadWhole (first rest : Option (List ℕ)) (all : List ℕ) : Type 
   pub ended : IsAtEnd rest
 
 -- and this is what is kept of them
-pub record IsKeptOfAll (first rest : Option (List ℕ)) (kept : List ℕ) (too_large : Bool) : Type 0 where
+pub record IsKeptOfAll (first rest : Option (List ℕ)) (kept : List ℕ)
+    (too_large : Bool) : Type 0 where
   pub all : List ℕ
   pub read : IsReadWhole first rest all
   pub front : IsFrontOf kept too_large all

@@ -18,7 +18,8 @@ pub record IsNextStep (b : Board) (p : List Instr) (m : Machine) (a : Answered) 
   pub within : ticks + e.ticks ≤ most_ticks
 
 -- the next step of a run, or none for a reason
-abbrev pub IsNextOrFault : Board → List Instr → Machine → Answered → ℕ → ℕ → Option (Machine × Entry)
+abbrev pub IsNextOrFault : Board → List Instr → Machine → Answered → ℕ → ℕ
+    → Option (Machine × Entry)
     → Type 0
 IsNextOrFault b p m a ticks index None = (fault : RunFault) × IsStepFault b p m a ticks index fault
 IsNextOrFault b p m a ticks index (Some r) = IsNextStep b p m a ticks r.1 r.0

@@ -91,7 +91,8 @@ fn gather<R: Read>(alloc: Global, reader: &mut R, buffer: &mut [u8]) -> Result<I
         (IsFrontOf input.bytes.items input.too_large)) }
     ensures ended { OnOk result (IsAtEnd (R.remaining reader.new)) }
     // It is the front of what the reader gave, be that known before or not.
-    ensures all { IfOk result (λ input. IsKeptOfAll (R.remaining reader.old) (R.remaining reader.new)
+    ensures all { IfOk result
+        (λ input. IsKeptOfAll (R.remaining reader.old) (R.remaining reader.new)
         input.bytes.items input.too_large) }
 {
     let mut input = Input {
@@ -121,7 +122,8 @@ pub fn read_input<R: Read>(alloc: Global, reader: &mut R) -> Result<Input, ReadF
         (IsFrontOf input.bytes.items input.too_large)) }
     ensures ended { OnOk result (IsAtEnd (R.remaining reader.new)) }
     // It is the front of what the reader gave, be that known before or not.
-    ensures all { IfOk result (λ input. IsKeptOfAll (R.remaining reader.old) (R.remaining reader.new)
+    ensures all { IfOk result
+        (λ input. IsKeptOfAll (R.remaining reader.old) (R.remaining reader.new)
         input.bytes.items input.too_large) }
 {
     let mut buffer = empty_buffer(alloc)?;

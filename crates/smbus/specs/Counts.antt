@@ -1,5 +1,5 @@
--- How many bytes and slots a frame has, as the code counts them. The public `sent_count` names one of
--- them, `controller_count`, and beside it what that counts: the bytes sent by `Protocol`.
+-- How many bytes and slots a frame has, as the code counts them. The public `sent_count` names one
+-- of them, `controller_count`, and beside it what that counts: the bytes sent by `Protocol`.
 use Rattle.std.specs.Prelude.{ℕ, ◌+◌, ◌*◌, nat_lt, if◌then◌else◌, Option, Some, None, length}
 use Rattle.smbus.specs.declared.message.Form.{Form}
 use Rattle.smbus.specs.Asked.{Asked}

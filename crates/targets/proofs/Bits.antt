@@ -1,5 +1,6 @@
 -- A word of 16 bits has none from bit 16 on.
-use Rattle.std.proofs.Common.{◌≡◌, ◌<◌, ◌==◌, ◌⊎◌, ◌↔◌, ◌∙◌, inl, inr, ℕ, IsTrue, true, false, bit_or}
+use Rattle.std.proofs.Common.{◌≡◌, ◌<◌, ◌==◌, ◌⊎◌, ◌↔◌, ◌∙◌, inl, inr, ℕ, IsTrue, true, false}
+use Rattle.std.proofs.Common.{bit_or}
 use Rattle.std.proofs.Common.{bit_and, w16, max, ◌*◌, ◌^◌, ◌%◌, ◌≢◌, ap, sym, Some, arith}
 use Rattle.std.specs.Int.{bit_at, bit_not}
 use Rattle.std.proofs.lemmas.Bool.{cases_lt}
@@ -81,7 +82,8 @@ bit_without_left n k lt low i = elim (cases_lt i 16) [
   | inr many ↦ (
     (λ t.
         let le = and_le_r n (bit_not w16 (1 * 2 ^ k % 2 ^ 16)) in
-        absurd (not_one _ (bit_at_above _ 16 i (omega (arith, below_word (1 * 2 ^ k % 2 ^ 16))) many)
+        absurd
+        (not_one _ (bit_at_above _ 16 i (omega (arith, below_word (1 * 2 ^ k % 2 ^ 16))) many)
         t)),
     (λ both. absurd (let few = low i both.0 in omega arith)),
   )
