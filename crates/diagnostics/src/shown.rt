@@ -1,6 +1,6 @@
 //! Lines of a file as notes show them.
 
-ghost use Rattle.std.specs.Prelude.{◌≡◌, ◌++◌, flat_map, length, take, option_copied, option_map};
+ghost use Rattle.std.specs.Prelude.{◌≡◌, ◌++◌, flat_map, option_copied, option_map};
 ghost use Rattle.std.specs.Prelude.{IfOk, OnOk, string_bytes};
 ghost use Rattle.std.specs.Str.{chars};
 ghost use Rattle.diagnostics.specs.ShownLines.{is_harmless, are_harmless, is_plain, shown_char};
@@ -55,22 +55,21 @@ fn push_chars(text: &mut String, added: &str) -> Result<(), AllocError>
     Ok(())
 }
 
-/// As many whole characters of the beginning of a line as are shown.
-fn beginning(line: &str) -> &str
-    ensures whole { IsBeginning line.now (length result.now) }
-    ensures is { result.now ≡ take (length result.now) line.now }
+/// How many bytes of the beginning of a line are shown: whole characters.
+fn shown_size(line: &str) -> usize
+    ensures { IsBeginning line.now result }
 {
-    &line[..line.floor_char_boundary(MOST_SHOWN)]
+    line.floor_char_boundary(MOST_SHOWN)
 }
 
 /// The beginning of a line, with its control characters escaped.
 fn escaped(alloc: Global, line: &str) -> Result<String, AllocError>
     ensures { IfOk result (λ text. IsEscaped line.now (string_bytes text)) }
 {
-    let beginning = beginning(line);
+    let size = shown_size(line);
     let mut text = String::new(alloc);
-    push_chars(&mut text, beginning)?;
-    if beginning.len() < line.len() {
+    push_chars(&mut text, &line[..size])?;
+    if size < line.len() {
         text.push_str("..")?;
     }
     Ok(text)
