@@ -26,6 +26,11 @@ const FEWER: &str =
 
 const ONE_OF_THESE: &str = "write one of these";
 
+const OPERATION_VALUES: &str =
+    "OPERATION takes 0 (off), 0x40 (soft off), 0x80 (on), 0x94 (margin low, ignoring faults), 0x98 \
+     (margin low, acting on faults), 0xA4 (margin high, ignoring faults) and 0xA8 (margin high, \
+     acting on faults) in a program";
+
 /// What is to blame, and what may mend it.
 fn blamed<'a>(message: Sentence<'a>, help: &'static str) -> Option<Advice<'a>> {
     Some(Advice {
@@ -86,7 +91,7 @@ fn known_values(device: &Target, code: u8) -> Option<Advice<'static>> {
     let text = match code {
         PAGE => return known_pages(device),
         WRITE_PROTECT => "WRITE_PROTECT takes 0, 0x20, 0x40 and 0x80",
-        OPERATION => "OPERATION takes 0, 0x40 and 0x80 in a program",
+        OPERATION => OPERATION_VALUES,
         _ => return None,
     };
     blamed(Sentence::plain(text), ONE_OF_THESE)

@@ -66,7 +66,8 @@ fn whole_line<'a>(word: &'a str, words: &[&'a str]) -> Sentence<'a> {
     match words {
         [_, command, value, ..] if word == "write" && register_of(value).is_some() => {
             Sentence::one(
-                "a register is written to \"VOUT_COMMAND\" alone, not to {}",
+                "a register is written to \"VOUT_COMMAND\", \"VOUT_MARGIN_HIGH\" or \
+                 \"VOUT_MARGIN_LOW\" alone, not to {}",
                 Word::Name(command),
             )
         }

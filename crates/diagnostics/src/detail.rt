@@ -88,7 +88,13 @@ fn greatest_within(exponent: i8, limit_uv: u32) -> Option<u64> {
 }
 
 /// K4: what may be written, and a limit that it is over.
-fn limit_detail<'a>(board: &'a Board, row: &Row, target: usize, most: u16) -> Option<Sentence<'a>> {
+fn limit_detail<'a>(
+    board: &'a Board,
+    row: &Row,
+    target: usize,
+    code: u8,
+    most: u16,
+) -> Option<Sentence<'a>> {
     let exponent = match board.target(target) {
         Some(target) => target.exponent(),
         None => 0,
@@ -97,9 +103,10 @@ fn limit_detail<'a>(board: &'a Board, row: &Row, target: usize, most: u16) -> Op
         let limit = rail.limit_uv();
         match greatest_within(exponent, limit) {
             Some(within) if within < u64::from(most) && may_touch(row, target, rail) => {
-                return Some(Sentence::four(
-                    "up to {} may be written, and {} takes up to {}, {} uV",
+                return Some(Sentence::five(
+                    "up to {} may be written to {}, and {} takes up to {}, {} uV",
                     Word::Number(u64::from(most)),
+                    Word::Command(code),
                     rail_word(board, index),
                     Word::Number(within),
                     Word::Number(u64::from(limit)),
@@ -122,7 +129,7 @@ fn sentence_on<'a>(
     match rule {
         Rule::K2 => page_detail(board, target, most.code),
         Rule::K3 => protection_detail(board, row, target, most.code),
-        Rule::K4 => limit_detail(board, row, target, number_of(&most.out)),
+        Rule::K4 => limit_detail(board, row, target, most.code, number_of(&most.out)),
         Rule::K5 => need_detail(board, row, target),
         _ => None,
     }

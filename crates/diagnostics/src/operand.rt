@@ -18,7 +18,7 @@ pub(crate) enum Operand {
     Number(u32, u32),
     /// The bits of a register that are looked at.
     Mask,
-    /// The byte or the word that a command writes, or for VOUT_COMMAND a register.
+    /// The byte or the word that a command writes, or, where it sets a voltage, a register.
     Written,
     /// So many bytes at most.
     Bytes(u8),

@@ -17,11 +17,12 @@ const SELECT: &str = "the program has to write PAGE before, or the target doesn'
 const NONE_GOOD: &str = "none of them can ever be turned on, since each waits for another";
 
 const NO_ENTRY: &str =
-    "to turn it on, `allow` needs {form = \"writebyte\", command = \"OPERATION\"} with 0x80 within \
-     its `values`";
+    "to turn it on, `allow` needs {form = \"writebyte\", command = \"OPERATION\"} with 0x80, or \
+     one of 0x94, 0x98, 0xA4 and 0xA8 for a margin, within its `values`";
 
 const NO_VALUE: &str =
-    "to turn it on, the `values` of its target's entry for OPERATION need 0x80 within them";
+    "to turn it on, the `values` of its target's entry for OPERATION need 0x80, or one of 0x94, \
+     0x98, 0xA4 and 0xA8 for a margin, within them";
 
 const NO_PAGE: &str =
     "neither `start_pages` nor an entry {form = \"writebyte\", command = \"PAGE\"} has its page, \
