@@ -147,6 +147,7 @@ fn push_slots(levels: &mut Appending, slots: &[Slot], holds: &[u16], alert: bool
 /// Drives SCL and SDA through a plan behind samples that are there, as `drive` does, and tells the
 /// slot in which it was cut, if any. Fewer than 2^39 samples may be there. Fails only for want of
 /// memory, and then the samples are of no more use.
+#[inline(never)]
 pub fn drive_onto(samples: &mut Runs, plan: &Plan, alert: bool) -> Result<Option<usize>, AllocError>
     requires { length samples.old < 2 ^ 39 }
     ensures samples { OnOk result (samples.new ≡ samples.old ++ levels alert plan.now) }
@@ -157,7 +158,12 @@ pub fn drive_onto(samples: &mut Runs, plan: &Plan, alert: bool) -> Result<Option
     // Room for all runs is made first, so that nothing fails behind this.
     let mut levels = samples.take_with_room(4 * slots.len() + 1)?;
     push_high(&mut levels, LOW, alert);
-    let cut = push_slots(&mut levels, slots, holds, alert);
+    // Most frames aren't held: the compiler makes a loop for them that looks at no holds.
+    let cut = if holds.is_empty() {
+        push_slots(&mut levels, slots, &[], alert)
+    } else {
+        push_slots(&mut levels, slots, holds, alert)
+    };
     *samples = levels.into_runs();
     Ok(cut)
 }

@@ -54,12 +54,7 @@ fn is_end(slot: Slot) -> bool
 fn are_inside(slots: &[Slot]) -> bool
     ensures { result ≡ are_inside slots.now }
 {
-    let mut are_inside = true;
-    // All slots are looked at, which goes many at a time.
-    for slot in slots {
-        are_inside &= !is_end(*slot);
-    }
-    are_inside
+    slots.iter().all(|slot| !is_end(*slot))
 }
 
 fn are_short(holds: &[u16]) -> bool

@@ -194,3 +194,16 @@ number_from-fits n i bits nine lt e =
     let l : length (take 8 bits) ≡ 8 = simp length-take (omega arith) in
     let h : number_of (take 8 bits) < 2 ^ 8 = rw l at (number_of-lt (take 8 bits)) in
     omega arith
+
+-- the upper four bits, and the lower four
+pub bits_of-nibbles : (b : ℕ) → bits_of 8 b ≡ bits_of 4 (b / 16) ++ bits_of 4 (b % 16)
+bits_of-nibbles b =
+    let e7 : bit_at b 7 ≡ bit_at (b / 16) 3 = omega arith in
+    let e6 : bit_at b 6 ≡ bit_at (b / 16) 2 = omega arith in
+    let e5 : bit_at b 5 ≡ bit_at (b / 16) 1 = omega arith in
+    let e4 : bit_at b 4 ≡ bit_at (b / 16) 0 = omega arith in
+    let e3 : bit_at b 3 ≡ bit_at (b % 16) 3 = omega arith in
+    let e2 : bit_at b 2 ≡ bit_at (b % 16) 2 = omega arith in
+    let e1 : bit_at b 1 ≡ bit_at (b % 16) 1 = omega arith in
+    let e0 : bit_at b 0 ≡ bit_at (b % 16) 0 = omega arith in
+    rw (e7, e6, e5, e4, e3, e2, e1, e0) refl

@@ -12,6 +12,7 @@ use wires::Event;
 
 /// The frame of which these are the events, if they are those of exactly one. Fails only for want
 /// of memory.
+#[inline(never)]
 pub fn only_frame(alloc: Global, events: &[Event]) -> Result<Option<Frame>, AllocError>
     ensures some { IfOk result (λ found. IfSome found (IsOnlyFrame events.now)) }
     ensures none { IfOk result

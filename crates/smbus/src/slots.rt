@@ -1,6 +1,9 @@
-ghost use Rattle.std.specs.Prelude.{◌≡◌, ◌<◌, ◌++◌, ◌↔◌, false, is_none, length, take};
+ghost use Rattle.std.specs.Prelude.{◌≡◌, ◌≤◌, ◌<◌, ◌+◌, ◌++◌, ◌↔◌, false, is_none, length, take};
+ghost use Rattle.std.specs.Prelude.{vec_len, vec_capacity};
 ghost use Rattle.std.specs.Prelude.{slice_index, IfOk, OnOk, IfSome, IfNone, IsTrue, IsErrOf};
-ghost use Rattle.smbus.specs.Protocol.{sent, got, byte_marks, marks_of, HasLength, AreGoodCounts};
+ghost use Rattle.wires.specs.Bits.{bits_of};
+ghost use Rattle.smbus.specs.Protocol.{sent, got, bit_marks, byte_marks, marks_of};
+ghost use Rattle.smbus.specs.Protocol.{HasLength, AreGoodCounts};
 ghost use Rattle.smbus.specs.Protocol.{low, high, sent_count, whole, IsNumbered};
 ghost use Rattle.smbus.specs.Parts.{first_bytes, has_repeat, returned_bytes};
 ghost use Rattle.smbus.specs.Parts.{rest_of, IsAfter};
@@ -61,15 +64,54 @@ fn returned_bytes(
     Ok(bytes)
 }
 
+const LOW: Slot = Slot::Bit(false);
+
+const HIGH: Slot = Slot::Bit(true);
+
+/// The bits of each number below 16, most significant first.
+static NIBBLES: [[Slot; 4]; 16] = [
+    [LOW, LOW, LOW, LOW],
+    [LOW, LOW, LOW, HIGH],
+    [LOW, LOW, HIGH, LOW],
+    [LOW, LOW, HIGH, HIGH],
+    [LOW, HIGH, LOW, LOW],
+    [LOW, HIGH, LOW, HIGH],
+    [LOW, HIGH, HIGH, LOW],
+    [LOW, HIGH, HIGH, HIGH],
+    [HIGH, LOW, LOW, LOW],
+    [HIGH, LOW, LOW, HIGH],
+    [HIGH, LOW, HIGH, LOW],
+    [HIGH, LOW, HIGH, HIGH],
+    [HIGH, HIGH, LOW, LOW],
+    [HIGH, HIGH, LOW, HIGH],
+    [HIGH, HIGH, HIGH, LOW],
+    [HIGH, HIGH, HIGH, HIGH],
+];
+
+/// The bits of a number below 16, for which there is room.
+#[inline(always)]
+fn push_nibble(slots: &mut Vec<Slot>, nibble: u8)
+    requires nibble { nibble < 16 }
+    requires room { vec_len slots.old + 4 ≤ vec_capacity slots.old }
+    ensures bits { slots.new.items ≡ slots.old.items ++ bit_marks (bits_of 4 nibble) }
+    ensures len { vec_len slots.new ≡ vec_len slots.old + 4 }
+    ensures capacity { vec_capacity slots.new ≡ vec_capacity slots.old }
+{
+    let [first, second, third, last] = NIBBLES[usize::from(nibble)];
+    slots.push_reserved(first);
+    slots.push_reserved(second);
+    slots.push_reserved(third);
+    slots.push_reserved(last);
+}
+
 /// The bits of a byte, most significant first, and its acknowledge.
-#[tactic(auto, unfolding(crate::specs::Frames::byte_bits))]
+#[inline(always)]
 fn push_byte(slots: &mut Vec<Slot>, byte: u8, acknowledged: bool) -> Result<(), AllocError>
     ensures { OnOk result (slots.new.items ≡ slots.old.items ++ byte_marks byte acknowledged) }
 {
     slots.reserve(9)?;
-    for place in (0..8u8).rev() {
-        slots.push_reserved(Slot::Bit(byte >> place & 1 == 1));
-    }
+    push_nibble(slots, byte / 16);
+    push_nibble(slots, byte % 16);
     slots.push_reserved(Slot::Bit(!acknowledged));
     Ok(())
 }

@@ -205,6 +205,7 @@ fn push_events(events: &mut Vec<Event>, runs: &[Run])
 
 /// The events of a list of samples, one sample a tick, in order. It takes steps for the runs, and
 /// none for the ticks within. Fails only for want of memory.
+#[inline(never)]
 pub fn events_of(alloc: Global, runs: &Runs) -> Result<Vec<Event>, AllocError>
     ensures { IfOk result (λ events. events.items ≡ events_of runs.now) }
 {

@@ -127,6 +127,22 @@ fn new_runs_have_no_samples(rt: HostRuntime) {
     same(&rt, (runs.total(), runs.sample_at(0)), (0, None));
 }
 
+/// A START and a bit behind idle samples, appended where there is room for them.
+fn appended(rt: &impl Abort, alloc: Global) -> Result<Runs, AllocError> {
+    let mut idle = runs_of(rt, alloc, &[(IDLE, 3)])?;
+    assert!(rt; idle.total() < 1000);
+    let mut levels = idle.take_with_room(3)?;
+    levels.push(lines(true, false), 1);
+    levels.push_clock(true, true, 2);
+    Ok(levels.into_runs())
+}
+
+#[test]
+fn a_clock_is_appended(rt: HostRuntime) {
+    let samples = appended(&rt, rt.alloc());
+    compare(&rt, rt.alloc(), samples, (7, 4), &[Event::Start, Event::Rise(true)]);
+}
+
 fn joined(rt: &impl Abort, alloc: Global) -> Result<Runs, AllocError> {
     let first = runs_of(rt, alloc, &[(lines(true, false), 1), (IDLE, 1)])?;
     let later = runs_of(rt, alloc, &[(IDLE, 4)])?;
