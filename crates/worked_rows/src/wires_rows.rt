@@ -140,7 +140,13 @@ fn appended(rt: &impl Abort, alloc: Global) -> Result<Runs, AllocError> {
 #[test]
 fn a_clock_is_appended(rt: HostRuntime) {
     let samples = appended(&rt, rt.alloc());
-    compare(&rt, rt.alloc(), samples, (7, 4), &[Event::Start, Event::Rise(true)]);
+    compare(
+        &rt,
+        rt.alloc(),
+        samples,
+        (7, 4),
+        &[Event::Start, Event::Rise(true)],
+    );
 }
 
 fn joined(rt: &impl Abort, alloc: Global) -> Result<Runs, AllocError> {

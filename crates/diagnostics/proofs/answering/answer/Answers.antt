@@ -11,12 +11,12 @@ use Rattle.diagnostics.proofs.answering.answer.Goals as goal
 pub returns-in_err-status-clause-begun : goal.returns-in_err-status-clause-begun
 returns-in_err-status-clause-begun g c =
     any_error c.from_residual-in_err-status.result _ (λ fault is.
-        let all = c.in_ok-received.ensures.all in
-        record {
-          input = all.input;
-          read = all.read;
-          begun = c.in_err-status.ensures.begun all.input all.replies;
-        })
+    let all = c.in_ok-received.ensures.all in
+    record {
+      input = all.input;
+      read = all.read;
+      begun = c.in_err-status.ensures.begun all.input all.replies;
+    })
 
 pub returns-clause-answered : goal.returns-clause-answered
 returns-clause-answered g c =
