@@ -43,7 +43,7 @@ fn owes(rt: &impl Abort, alloc: Global, line: &str, before: Before, want: Option
 type Message = (&'static str, (u16, u16), Option<Rule>);
 
 /// What a target allows, with the values that are written. Its rail's limit is 4505.
-static ALLOWED: [Message; 42] = [
+static ALLOWED: [Message; 48] = [
     ("quick a r", (0, 0), None),
     ("quick a w", (0, 0), Some(K1)),
     ("quick b r", (0, 0), Some(K1)),
@@ -65,7 +65,13 @@ static ALLOWED: [Message; 42] = [
     ("write a OPERATION 0x40", (0, 0), None),
     ("write a OPERATION 0x80", (0, 0), None),
     ("write a OPERATION 0x81", (0, 0), Some(K1)),
-    ("write a OPERATION 0x94", (0, 0), Some(K1)),
+    ("write a OPERATION 0x94", (0, 0), None),
+    ("write a OPERATION 0x98", (0, 0), None),
+    ("write a OPERATION 0xA4", (0, 0), None),
+    ("write a OPERATION 0xA8", (0, 0), None),
+    ("write a OPERATION 0x84", (0, 0), Some(K1)),
+    ("write a OPERATION 0xA0", (0, 0), Some(K1)),
+    ("write a VOUT_MARGIN_LOW 10", (0, 0), Some(K1)),
     ("write a VOUT_COMMAND 10", (0, 0), None),
     ("write a VOUT_COMMAND 4505", (0, 0), None),
     ("write a VOUT_COMMAND 4506", (0, 0), Some(K4)),
@@ -223,6 +229,13 @@ fn needs_owe(rt: &impl Abort, alloc: Global, rows: &[Need]) {
             rt,
             alloc,
             "write a OPERATION 0x80",
+            before,
+            unless(*holds, K5),
+        );
+        owes(
+            rt,
+            alloc,
+            "write a OPERATION 0x98",
             before,
             unless(*holds, K5),
         );

@@ -222,10 +222,11 @@ static LOADS: [Load; 6] = [
 ];
 
 /// Messages after which nothing else is known.
-static UNCHANGING: [&str; 5] = [
+static UNCHANGING: [&str; 6] = [
     "quick a r",
     "send a CLEAR_FAULTS",
     "write a OPERATION 0x80",
+    "write a OPERATION 0xA8",
     "write a VOUT_COMMAND 10",
     "blockwrite a D1 1020",
 ];

@@ -10,7 +10,7 @@ use std::test::*;
 /// The protection, the code of a command, and whether it may be written, if both are known.
 type Protected = (u8, u8, Option<bool>);
 
-static PROTECTIONS: [Protected; 13] = [
+static PROTECTIONS: [Protected; 15] = [
     (0x80, code::WRITE_PROTECT, Some(true)),
     (0x80, code::PAGE, Some(false)),
     (0x40, code::OPERATION, Some(true)),
@@ -19,6 +19,8 @@ static PROTECTIONS: [Protected; 13] = [
     (0x20, code::VOUT_COMMAND, Some(true)),
     (0x20, code::ON_OFF_CONFIG, Some(true)),
     (0x20, 0x24, Some(false)),
+    (0x20, code::VOUT_MARGIN_HIGH, Some(false)),
+    (0x20, code::VOUT_MARGIN_LOW, Some(false)),
     (0x20, 0xD0, Some(false)),
     (0x00, 0x24, Some(true)),
     (0x00, 0xFF, Some(true)),
@@ -47,8 +49,17 @@ fn protection_values(rt: HostRuntime) {
 }
 
 /// Values of OPERATION, and whether they enable.
-static OPERATIONS: [(u8, bool); 5] = [
+static OPERATIONS: [(u8, bool); 14] = [
     (0x80, true),
+    (0x94, true),
+    (0x98, true),
+    (0xA4, true),
+    (0xA8, true),
+    (0x84, false),
+    (0x9C, false),
+    (0xA0, false),
+    (0xAC, false),
+    (0x18, false),
     (0x00, false),
     (0x40, false),
     (0x81, false),
@@ -67,8 +78,11 @@ fn operations(rt: HostRuntime) {
 }
 
 /// Codes of commands, and whether they carry a voltage.
-static CARRIERS: [(u8, bool); 7] = [
+static CARRIERS: [(u8, bool); 10] = [
     (code::VOUT_COMMAND, true),
+    (code::VOUT_MARGIN_HIGH, true),
+    (code::VOUT_MARGIN_LOW, true),
+    (0x24, false),
     (0x00, false),
     (0x01, false),
     (0x20, false),
