@@ -86,9 +86,9 @@ fn push_clock(levels: &mut Appending, sda: bool, alert: bool, hold: u16)
 #[inline(always)]
 fn push_whole(levels: &mut Appending, slot: Slot, hold: u16, alert: bool)
     requires few { length levels.old.samples + 3 + hold ≤ most_samples }
-    requires room { 3 < levels.old.room }
+    requires room { 2 < levels.old.room }
     ensures samples { levels.new.samples ≡ levels.old.samples ++ whole_levels alert slot hold }
-    ensures room { levels.old.room ≤ levels.new.room + 4 }
+    ensures room { levels.old.room ≤ levels.new.room + 3 }
 {
     match slot {
         Slot::Bit(sda) => push_clock(levels, sda, alert, hold),
@@ -122,13 +122,13 @@ fn push_cut(levels: &mut Appending, slot: Slot, hold: u16, alert: bool)
     push_high(levels, HIGH, alert);
 }
 
-/// Appends the levels of slots with these holds, each of which takes at most four runs, and tells
-/// the slot in which they are cut, if any.
+/// Appends the levels of slots with these holds, and tells the slot in which they are cut, if any.
+/// Each takes at most three runs, and one that is cut four.
 #[inline(always)]
 fn push_slots(levels: &mut Appending, slots: &[Slot], holds: &[u16], alert: bool) -> Option<usize>
     requires valid { IsPlan (planned slots.now holds.now) }
     requires few { length levels.old.samples ≤ 2 ^ 39 }
-    requires room { 4 * length slots.now ≤ levels.old.room }
+    requires room { 3 * length slots.now < levels.old.room }
     ensures samples { levels.new.samples
         ≡ levels.old.samples ++ slot_levels alert (planned slots.now holds.now) }
     ensures cut { result ≡ first_cut (planned slots.now holds.now) }
@@ -156,7 +156,7 @@ pub fn drive_onto(samples: &mut Runs, plan: &Plan, alert: bool) -> Result<Option
 {
     let (slots, holds) = plan.parts();
     // Room for all runs is made first, so that nothing fails behind this.
-    let mut levels = samples.take_with_room(4 * slots.len() + 1)?;
+    let mut levels = samples.take_with_room(3 * slots.len() + 2)?;
     push_high(&mut levels, LOW, alert);
     // Most frames aren't held: the compiler makes a loop for them that looks at no holds.
     let cut = if holds.is_empty() {

@@ -1,7 +1,7 @@
 -- A byte and its bits.
 use Rattle.std.proofs.Common.{◌≡◌, ℕ, zero, suc, ◌+◌, ◌-◌, ◌*◌, ◌/◌, ◌%◌, ◌^◌, ◌<◌, ◌≤◌, ◌==◌, inl}
 use Rattle.std.proofs.Common.{inr, Bool, true, false, not, if◌then◌else◌, List, [], ◌∷◌, ◌++◌}
-use Rattle.std.proofs.Common.{length, take, drop, get_or, refl, sym, ap, ◌∙◌, append_assoc, arith}
+use Rattle.std.proofs.Common.{length, take, drop, get_or, refl, sym, ap, ◌∙◌, arith}
 use Rattle.std.proofs.lemmas.Bool.{cases_Bool, eqb-true}
 use Rattle.std.proofs.lemmas.Bool.Decides.{nat_tests}
 use Rattle.std.proofs.lemmas.List.{length-take, take_more, take_all, at_drop_more, at_drop_all}
@@ -11,28 +11,12 @@ use native.Mathlib.Numerals.{unary_clauses}
 use mir.Val.{bool_byte}
 use Rattle.std.specs.Int.{bit_at}
 use Rattle.wires.specs.Bits.{bit, bits_of, number_of}
-use Rattle.bit_bus.specs.declared.plan.Slot.{Slot}
-use Rattle.bit_bus.specs.declared.plan.Slot.TheVariants.{Bit}
 use Rattle.smbus.specs.Frames.{byte_bits}
-use Rattle.smbus.specs.Protocol.{bit_marks}
 use Rattle.smbus.specs.Machine.{byte_of}
 
 pub length-bits_of : (k n : ℕ) → length (bits_of k n) ≡ k
 length-bits_of zero n = refl
 length-bits_of (suc k) n = ap suc (length-bits_of k n)
-
--- the bits of a byte are pushed from the most significant on
-pub next_bit : (places n : ℕ) (b : Bool) (old now all : List Slot) → 0 < places
-    → b ≡ bit n (places - 1) → now ≡ old ++ Bit b ∷ []
-    → old ++ bit_marks (bits_of places n) ≡ all
-    → now ++ bit_marks (bits_of (places - 1) n) ≡ all
-next_bit zero n b old now all lt is pushed same = absurd (omega arith)
-next_bit (suc k) n b old now all lt is pushed same =
-    let e : suc k - 1 ≡ k = omega arith in
-    let is' : b ≡ bit n k = rw e at is in
-    let marks : List Slot = bit_marks (bits_of k n) in
-    rw e (ap (λ (l : List Slot). l ++ marks) pushed ∙ append_assoc old (Bit b ∷ []) marks
-    ∙ ap (λ (x : Bool). old ++ Bit x ∷ marks) is' ∙ same)
 
 top : (n k : ℕ) → n % 2 ^ suc k ≡ (n / 2 ^ k % 2) * 2 ^ k + n % 2 ^ k
 top n k = let e : suc k ≡ 1 + k = omega arith in rw e (mod-pow-add n 1 k)

@@ -4,7 +4,7 @@ use Rattle.std.proofs.Common.{List, [], ◌∷◌, ◌++◌, length, take, drop,
 use Rattle.std.proofs.Common.{◌∙◌, append_assoc, arith}
 use Rattle.std.specs.List.{flat_map}
 use Rattle.std.proofs.lemmas.Bool.{cases_Bool, eqb-true, eqb-false}
-use Rattle.std.proofs.lemmas.List.{append-nil, take_all, take_more, take-append-drop, take-take}
+use Rattle.std.proofs.lemmas.List.{append-nil, take_more, take-append-drop, take-take}
 use Rattle.std.proofs.lemmas.List.Elements.{All-nil}
 use Rattle.wires.specs.declared.event.Event.{Event}
 use Rattle.wires.specs.declared.event.Event.TheVariants.{Stop, Rise}
@@ -108,12 +108,6 @@ read_more es place s d lt so_far =
     ∙ run-append (take place es) (get_or es place d ∷ []) start
     ∙ ap (then_run (run (get_or es place d ∷ []))) so_far
 
-pub read_on : (es : List Event) (place : ℕ) (s t : State) (d : Event) → place < length es
-    → run (take place es) start ≡ Some s → step s (get_or es place d) ≡ Some t
-    → run (take (place + 1) es) start ≡ Some t
-read_on es place s t d lt so_far goes =
-    read_more es place s d lt so_far ∙ ap (then_run (run [])) goes
-
 -- frames that begin with events begin with the first of these
 begins_front : (n : ℕ) (es : List Event) → Begins es → Begins (take n es)
 begins_front n es (fs, more, are) = (
@@ -137,11 +131,6 @@ fails_here es place s d lt so_far stops = record {
       (read_more es place s d lt so_far ∙ ap (then_run (run [])) stops);
   unfinished = λ (at : place ≡ length es). absurd (omega arith);
 }
-
-pub read_all : (es : List Event) (place : ℕ) (s : State) → length es ≤ place
-    → run (take place es) start ≡ Some s → run es start ≡ Some s
-read_all es place s le so_far =
-    ap (λ (l : List Event). run l start) (sym (take_all place es le)) ∙ so_far
 
 pub fails_open : (es : List Event) (s : State) → run es start ≡ Some s → s.is_open ≡ true
     → FailsAt es (length es)

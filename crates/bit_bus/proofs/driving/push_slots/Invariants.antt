@@ -1,4 +1,4 @@
-use Rattle.std.proofs.Common.{◌≡◌, ◌≤◌, ◌*◌, ◌-◌, ◌++◌, ℕ, drop, length}
+use Rattle.std.proofs.Common.{◌≡◌, ◌<◌, ◌*◌, ◌-◌, ◌++◌, ℕ, drop, length}
 use Rattle.std.specs.List.{position_from}
 use Rattle.bit_bus.specs.declared.plan.Slot.{Slot}
 use Rattle.bit_bus.specs.Levels.{is_cut, slot_levels, first_cut}
@@ -13,5 +13,5 @@ invariant-loop-place l = record {
   cut :
       position_from (λ (s : Slot × ℕ). is_cut s.1) l.place (drop l.place (planned l.slots l.holds))
       ≡ first_cut (planned l.slots l.holds);
-  room : 4 * (length l.slots - l.place) ≤ l.levels.room;
+  room : 3 * (length l.slots - l.place) < l.levels.room;
 }
