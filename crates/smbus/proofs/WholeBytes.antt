@@ -1,7 +1,7 @@
 -- Whole bytes read at once, where a rise follows them, are those of reading event by event.
 use Rattle.std.proofs.Common.{◌≡◌, ℕ, ◌+◌, ◌-◌, ◌*◌, ◌/◌, ◌%◌, ◌^◌, ◌<◌, ◌≤◌, ◌==◌, Bool}
-use Rattle.std.proofs.Common.{true, false, not, if◌then◌else◌, Some, None, List, [], ◌∷◌, ◌++◌}
-use Rattle.std.proofs.Common.{length}
+use Rattle.std.proofs.Common.{true, false, not, if◌then◌else◌, Some, None, List, [], ◌∷◌}
+use Rattle.std.proofs.Common.{◌++◌, length}
 use Rattle.std.proofs.Common.{take, drop, get_or, refl, sym, ap, subst, ◌∙◌, append_assoc, arith}
 use Rattle.std.proofs.lemmas.List.{append-nil, map-append, length_push, length-append, take_more}
 use Rattle.std.proofs.lemmas.List.{take_all, length-map, length-take}

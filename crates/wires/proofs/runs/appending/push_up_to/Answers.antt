@@ -34,9 +34,8 @@ returns-then-eq-clause-samples c =
     let count : ℕ = c.args.end - length (samples_of runs) in
     let more : last.end + count ≡ c.args.end = omega (arith, end, c.requires.more) in
     let is : last.sample ≡ c.args.sample = same_sample _ _ (sym c.if-eq.ensures) in
-    ap (λ n.
-    samples_of (set runs (vec_len c.args.runs.now - 1) (record { sample = last.sample; end = n })))
-    (sym more)
+    ap (λ n. samples_of (set runs (vec_len c.args.runs.now - 1)
+    (record { sample = last.sample; end = n }))) (sym more)
     ∙ samples_of-joined runs _ last count c.requires.runs.rising len same
     ∙ ap (λ s. samples_of runs ++ replicate count s) is
 
