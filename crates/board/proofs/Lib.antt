@@ -21,3 +21,4 @@ pub mod ValidRails
 pub mod ValidNeeds
 pub mod ValidBoards
 pub mod FoundEntries
+pub mod BytesRead
