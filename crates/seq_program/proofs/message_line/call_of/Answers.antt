@@ -1,0 +1,46 @@
+use Rattle.seq_program.specs.MessageLines.{call_of}
+use Rattle.seq_program.proofs.LineWords.{four_words, passed_on}
+use Rattle.seq_program.proofs.message_line.call_of.Goals as goal
+
+pub returns-clause-value : goal.returns-clause-value
+unfolding call_of
+returns-clause-value c =
+    rw (
+      four_words c.args.words.now c.in-len4.len_at_least c.in-len4.len_below,
+      c.in_ok-register.ensures.value,
+      c.in_ok-target.ensures.value,
+      c.in_ok-value.ensures.value,
+    )
+
+pub returns-in_err-register-clause-value : goal.returns-in_err-register-clause-value
+unfolding call_of
+returns-in_err-register-clause-value c =
+    passed_on (λ i. i) c.from_residual.result c.in_err-register.field-0.0 _
+    c.from_residual.ensures.1
+    (λ real. rw (
+      four_words c.args.words.now c.in-len4.len_at_least c.in-len4.len_below,
+      c.in_err-register.ensures.value real,
+    ))
+
+pub returns-in_err-target-clause-value : goal.returns-in_err-target-clause-value
+unfolding call_of
+returns-in_err-target-clause-value c =
+    passed_on (λ i. i) c.from_residual-in_err-target.result c.in_err-target.field-0.0 _
+    c.from_residual-in_err-target.ensures.1
+    (λ real. rw (
+      four_words c.args.words.now c.in-len4.len_at_least c.in-len4.len_below,
+      c.in_ok-register.ensures.value,
+      c.in_err-target.ensures.value real,
+    ))
+
+pub returns-in_err-value-clause-value : goal.returns-in_err-value-clause-value
+unfolding call_of
+returns-in_err-value-clause-value c =
+    passed_on (λ i. i) c.from_residual-in_err-value.result c.in_err-value.field-0.0 _
+    c.from_residual-in_err-value.ensures.1
+    (λ real. rw (
+      four_words c.args.words.now c.in-len4.len_at_least c.in-len4.len_below,
+      c.in_ok-register.ensures.value,
+      c.in_ok-target.ensures.value,
+      c.in_err-value.ensures.value real,
+    ))
