@@ -18,3 +18,4 @@ pub mod TableReads
 pub mod TableFaults
 pub mod ReadClauses
 pub mod TextLaws
+pub mod RowText
