@@ -21,3 +21,5 @@ pub mod MessagesSent
 pub mod Circles
 pub mod Rounds
 pub mod ToldDoubts
+pub mod Served
+pub mod ShownFrames
