@@ -23,3 +23,4 @@ pub mod Rounds
 pub mod ToldDoubts
 pub mod Served
 pub mod ShownFrames
+pub mod AskedBy
