@@ -64,15 +64,16 @@ pub(crate) fn first_known(
         (rows_view known.rows.items) known.changed.items (leads_view known.leads.items)) }
 {
     premises(board, program);
-    let mut rows = Vec::new(alloc);
-    let mut changed = Vec::new(alloc);
+    let places = program.places();
+    let mut rows = Vec::with_capacity(alloc, places)?;
+    let mut changed = Vec::with_capacity(alloc, places)?;
     rows.push(Some(start_row(alloc, board)?))?;
     changed.push(true)?;
-    for _place in 1..program.places() {
+    for _place in 1..places {
         rows.push(None)?;
         changed.push(false)?;
     }
-    let leads = no_leads(alloc, program.places())?;
+    let leads = no_leads(alloc, places)?;
     Ok(Known {
         rows,
         changed,

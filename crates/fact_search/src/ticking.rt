@@ -62,7 +62,7 @@ pub(crate) fn forward_ticks(
 pub(crate) fn without_coeffs(alloc: Global, ticks: &[u64]) -> Result<Vec<Ticks>, AllocError>
     ensures { IfOk result (λ lefts. lefts.items ≡ map plain ticks.now) }
 {
-    let mut lefts = Vec::new(alloc);
+    let mut lefts = Vec::with_capacity(alloc, ticks.len())?;
     for base in ticks {
         lefts.push(Ticks {
             base: *base,
@@ -109,7 +109,7 @@ pub(crate) fn with_ticks(
     ensures counts { IfOk result
         (λ out. All (λ row. IfSome row (λ r. length r.coeffs ≡ 4)) out.items) }
 {
-    let mut out = Vec::new(alloc);
+    let mut out = Vec::with_capacity(alloc, rows.len())?;
     for row in rows {
         let place = out.len();
         out.push(with_left(row, lefts, place))?;

@@ -13,10 +13,10 @@ pub loop-place-init : goal.loop-place-init
 loop-place-init c =
     first_one c.args.board.now c.push.new.self.items c.push-2.new.self.items
     c.in_ok-start_row.field-0
-    (c.in_ok-push.ensures.items ∙ one_item c.new-rows.result.items
-    (Some c.in_ok-start_row.field-0) c.new-rows.ensures.items)
-    (c.in_ok-push-2.ensures.items ∙ one_item c.new-changed.result.items true
-    c.new-changed.ensures.items)
+    (c.in_ok-push.ensures.items ∙ one_item c.in_ok-rows.rows.items
+    (Some c.in_ok-start_row.field-0) c.in_ok-rows.ensures.items)
+    (c.in_ok-push-2.ensures.items ∙ one_item c.in_ok-changed.changed.items true
+    c.in_ok-changed.ensures.items)
     c.in_ok-start_row.ensures
 
 pub loop-place-preserved : goal.loop-place-preserved
@@ -28,7 +28,7 @@ loop-place-preserved c =
 pub returns-clause-searched : goal.returns-clause-searched
 returns-clause-searched c =
     let some = c.premises.ensures.program.some in
-    let count = c.places-place-end.ensures.count in
+    let count = c.places-places.ensures.count in
     let stop = c.loop-place-test.false in
     let end = c.loop-place.auto._place-end in
     let P : ℕ → Type 0 = λ n. IsFirst c.args.board.now (rows_view c.loop-place.rows.items)
@@ -41,7 +41,7 @@ returns-clause-searched c =
 pub returns-clause-led : goal.returns-clause-led
 returns-clause-led c =
     let some = c.premises.ensures.program.some in
-    let count = c.places-place-end.ensures.count in
+    let count = c.places-places.ensures.count in
     let stop = c.loop-place-test.false in
     let end = c.loop-place.auto._place-end in
     let P : ℕ → Type 0 = λ n. IsFirst c.args.board.now (rows_view c.loop-place.rows.items)
@@ -51,4 +51,4 @@ returns-clause-led c =
     led_first c.args.board.now c.args.program.now (rows_view c.loop-place.rows.items)
     c.loop-place.changed.items (leads_view c.in_ok-leads.leads.items)
     (subst P e c.loop-place.invariant)
-    (c.in_ok-leads.ensures ∙ ap (λ n. replicate {A = List (ℕ × ℕ)} n []) c.places.ensures.count)
+    (c.in_ok-leads.ensures ∙ ap (λ n. replicate {A = List (ℕ × ℕ)} n []) c.places-places.ensures.count)
