@@ -4,3 +4,4 @@ pub mod First
 pub mod Ending
 pub mod Learning
 pub mod Visiting
+pub mod Leading

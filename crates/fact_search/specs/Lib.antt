@@ -3,4 +3,5 @@ pub mod Forward
 pub mod Finds
 pub mod Starting
 pub mod Searching
+pub mod Leading
 pub mod Ticking

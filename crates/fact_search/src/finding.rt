@@ -37,14 +37,14 @@ pub fn find(alloc: Global, board: &Board, program: &Program) -> Result<Table, Fi
     ensures gave_up { IsForward program.now → IfErr result (λ e. e ≡ Memory) }
 {
     premises(board, program);
-    let rows = search(alloc, board, program)?;
+    let known = search(alloc, board, program)?;
     let lefts = if is_forward(program) {
-        let ticks = forward_ticks(alloc, board, program, &rows)?;
+        let ticks = forward_ticks(alloc, board, program, &known)?;
         without_coeffs(alloc, &ticks)?
     } else {
-        ticks_with_loops(alloc, board, program, &rows)?
+        ticks_with_loops(alloc, board, program, &known.rows)?
     };
     Ok(Table {
-        rows: with_ticks(alloc, rows, &lefts)?,
+        rows: with_ticks(alloc, known.rows, &lefts)?,
     })
 }

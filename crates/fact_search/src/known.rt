@@ -1,11 +1,14 @@
 //! What a search knows.
 
 ghost use Rattle.std.specs.Prelude.{◌≡◌, ◌+◌, ◌<◌, ◌≤◌, ℕ, IfOk, MatchOption, false, length, Some};
+ghost use Rattle.std.specs.Prelude.{[], map, replicate};
 ghost use Rattle.facts.specs.Edges.{edge};
 ghost use Rattle.facts.specs.FactLaws.{IsShaped};
 ghost use Rattle.facts.specs.Rows.{IsRow, row_view};
+ghost use Rattle.facts.specs.Ways.{timed_view};
 ghost use Rattle.table_check.specs.Looking.{HasRowsOf, rows_view};
 ghost use Rattle.fact_search.specs.Forward.{IsForward};
+ghost use Rattle.fact_search.specs.Leading.{IsLed, leads_of, leads_view};
 ghost use Rattle.fact_search.specs.Searching.{IsGrown, IsLearnt, IsSearched, is_changed};
 
 use crate::joining::{joined, widened, without_ticks};
@@ -23,6 +26,30 @@ use std::alloc::{AllocError, Global};
 pub(crate) struct Known {
     pub rows: Vec<Option<Row>>,
     pub changed: Vec<bool>,
+    /// Where each place led when it was visited last, and the most ticks on the way.
+    pub leads: Vec<Vec<(usize, u64)>>,
+}
+
+/// Where edges lead, and the most ticks on the way.
+fn leads_of(alloc: Global, edges: &[(usize, Row, u64)]) -> Result<Vec<(usize, u64)>, AllocError>
+    ensures { IfOk result (λ leads. leads.items ≡ leads_of (map timed_view edges.now)) }
+{
+    let mut leads = Vec::with_capacity(alloc, edges.len())?;
+    for edge in edges {
+        leads.push((edge.0, edge.2))?;
+    }
+    Ok(leads)
+}
+
+/// No place leads anywhere.
+fn no_leads(alloc: Global, places: usize) -> Result<Vec<Vec<(usize, u64)>>, AllocError>
+    ensures { IfOk result (λ leads. leads_view leads.items ≡ replicate places []) }
+{
+    let mut leads = Vec::with_capacity(alloc, places)?;
+    for _place in 0..places {
+        leads.push(Vec::new(alloc))?;
+    }
+    Ok(leads)
 }
 
 /// What is known before any place is visited.
@@ -31,19 +58,27 @@ pub(crate) fn first_known(
     board: &Board,
     program: &Program,
 ) -> Result<Known, AllocError>
-    ensures { IfOk result (λ known. IsSearched board.now program.now
+    ensures searched { IfOk result (λ known. IsSearched board.now program.now
         (rows_view known.rows.items) known.changed.items) }
+    ensures led { IfOk result (λ known. IsLed board.now program.now
+        (rows_view known.rows.items) known.changed.items (leads_view known.leads.items)) }
 {
     premises(board, program);
-    let mut rows = Vec::new(alloc);
-    let mut changed = Vec::new(alloc);
+    let places = program.places();
+    let mut rows = Vec::with_capacity(alloc, places)?;
+    let mut changed = Vec::with_capacity(alloc, places)?;
     rows.push(Some(start_row(alloc, board)?))?;
     changed.push(true)?;
-    for _place in 1..program.places() {
+    for _place in 1..places {
         rows.push(None)?;
         changed.push(false)?;
     }
-    Ok(Known { rows, changed })
+    let leads = no_leads(alloc, places)?;
+    Ok(Known {
+        rows,
+        changed,
+        leads,
+    })
 }
 
 /// The first place from one on whose row changed since it was visited.
@@ -126,8 +161,13 @@ pub(crate) fn visit(
     requires before { (n : ℕ) → n < place → is_changed known.old.changed.items n ≡ false }
     requires searched { IsSearched board.now program.now (rows_view known.old.rows.items)
         known.old.changed.items }
+    requires led { IsLed board.now program.now (rows_view known.old.rows.items)
+        known.old.changed.items (leads_view known.old.leads.items) }
     ensures searched { IfOk result (λ next. IsSearched board.now program.now
         (rows_view known.new.rows.items) known.new.changed.items) }
+    ensures led { IfOk result (λ next. IsLed board.now program.now
+        (rows_view known.new.rows.items) known.new.changed.items
+        (leads_view known.new.leads.items)) }
     ensures before { IfOk result (λ next. (n : ℕ) → n < next
         → is_changed known.new.changed.items n ≡ false) }
     ensures near { IfOk result (λ next. next ≤ place + 1) }
@@ -135,8 +175,10 @@ pub(crate) fn visit(
 {
     premises(board, program);
     known.changed[place] = false;
+    let edges = edges_at(alloc, board, program, &known.rows, place)?;
+    known.leads[place] = leads_of(alloc, &edges)?;
     let mut next = place + 1;
-    for (to, row, _ticks) in edges_at(alloc, board, program, &known.rows, place)? {
+    for (to, row, _ticks) in edges {
         if learn(alloc, board, stops, &mut known.rows, place, to, row)? {
             known.changed[to] = true;
             next = next.min(to);

@@ -3,14 +3,14 @@
 ghost use Rattle.std.specs.Prelude.{◌≡◌, IfErr, IfOk};
 ghost use Rattle.table_check.specs.Looking.{rows_view};
 ghost use Rattle.fact_search.specs.Forward.{IsForward};
+ghost use Rattle.fact_search.specs.Leading.{IsLedTable, leads_view};
 ghost use Rattle.fact_search.specs.Searching.{IsFollowedTable};
 ghost use Rattle.fact_search.specs.declared.fault.FindFault.TheVariants.{Memory};
 
 use crate::fault::FindFault;
-use crate::known::{first_known, next_changed, visit};
+use crate::known::{Known, first_known, next_changed, visit};
 use crate::widening::Stops;
 use board::Board;
-use facts::Row;
 use seq_program::Program;
 use std::alloc::Global;
 
@@ -20,14 +20,12 @@ const MOST_VISITS: u16 = 4096;
 /// All visits of 1024 places.
 const ALL_VISITS: u32 = 4_194_304;
 
-/// What is known at each place, where all edges are followed.
-pub(crate) fn search(
-    alloc: Global,
-    board: &Board,
-    program: &Program,
-) -> Result<Vec<Option<Row>>, FindFault>
+/// What is known at each place, where all edges are followed, and where each place leads.
+pub(crate) fn search(alloc: Global, board: &Board, program: &Program) -> Result<Known, FindFault>
     ensures done { IfOk result
-        (λ rows. IsFollowedTable board.now program.now (rows_view rows.items)) }
+        (λ known. IsFollowedTable board.now program.now (rows_view known.rows.items)) }
+    ensures led { IfOk result (λ known. IsLedTable board.now program.now
+        (rows_view known.rows.items) (leads_view known.leads.items)) }
     ensures gave_up { IsForward program.now → IfErr result (λ e. e ≡ Memory) }
 {
     let stops = Stops::new(alloc, program)?;
@@ -36,7 +34,7 @@ pub(crate) fn search(
     let mut cursor = 0;
     for _visit in 0..ALL_VISITS {
         let Some(place) = next_changed(&known.changed, cursor) else {
-            return Ok(known.rows);
+            return Ok(known);
         };
         if visits[place] == MOST_VISITS {
             return Err(FindFault::GaveUp(place));

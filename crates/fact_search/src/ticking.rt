@@ -4,57 +4,35 @@ ghost use Rattle.std.specs.Prelude.{◌≡◌, ◌≤◌, ◌<◌, ◌+◌, ◌^
 ghost use Rattle.std.specs.Prelude.{option_map};
 ghost use Rattle.std.specs.Prelude.{slice_get, slice_index};
 ghost use Rattle.facts.specs.Rows.{row_view};
-ghost use Rattle.table_check.specs.Looking.{HasRowsOf, rows_view};
+ghost use Rattle.table_check.specs.Looking.{rows_view};
 ghost use Rattle.fact_search.specs.Forward.{IsForward};
-ghost use Rattle.fact_search.specs.Ticking.{DoFit, PaysAt, most_worst, plain, ticked};
+ghost use Rattle.fact_search.specs.Leading.{IsLedTable, leads_view};
+ghost use Rattle.fact_search.specs.Ticking.{DoFit, most_worst, plain, ticked};
 ghost use Rattle.fact_search.specs.Ticking.{ticked_row, with_left};
 
+use crate::known::Known;
 use crate::laws::premises;
-use crate::leading::edges_at;
 use crate::loops::Ticks;
 use board::Board;
 use facts::Row;
 use seq_program::Program;
 use std::alloc::{AllocError, Global};
 
-/// The ticks that pay for each of some edges, and at least one.
-fn longest(edges: &[(usize, Row, u64)], ticks: &[u64]) -> u64
-    requires inside { All (λ e. e.0 < length ticks.now) edges.now }
-    requires worst { All (λ e. e.2 ≤ most_worst) edges.now }
+/// The ticks that pay for each of some leads, and at least one.
+fn longest(leads: &[(usize, u64)], ticks: &[u64]) -> u64
+    requires inside { All (λ l. l.0 < length ticks.now) leads.now }
+    requires worst { All (λ l. l.1 ≤ most_worst) leads.now }
     requires most { All (λ n. n ≤ 2 ^ 40) ticks.now }
     ensures some { 1 ≤ result }
-    ensures pays { All (λ e. e.2 + slice_index ticks.now e.0 ≤ result) edges.now }
+    ensures pays { All (λ l. l.1 + slice_index ticks.now l.0 ≤ result) leads.now }
     ensures most { (bound : ℕ) → 1 ≤ bound → All (λ n. n ≤ bound) ticks.now
         → result ≤ bound + most_worst }
 {
     let mut most = 1;
-    for edge in edges {
-        most = most.max(edge.2 + ticks[edge.0]);
+    for lead in leads {
+        most = most.max(lead.1 + ticks[lead.0]);
     }
     most
-}
-
-/// The ticks at a place, where those of the places after it are known.
-fn ticks_at(
-    alloc: Global,
-    board: &Board,
-    program: &Program,
-    rows: &[Option<Row>],
-    ticks: &[u64],
-    place: usize,
-) -> Result<u64, AllocError>
-    requires rows { HasRowsOf board.now (rows_view rows.now) }
-    requires count { length ticks.now ≡ length program.now }
-    requires most { All (λ n. n ≤ 2 ^ 40) ticks.now }
-    ensures some { IfOk result (λ n. 1 ≤ n) }
-    ensures pays { IfOk result (λ n. PaysAt board.now program.now (rows_view rows.now) ticks.now
-        place n) }
-    ensures most { IfOk result (λ n. (bound : ℕ) → 1 ≤ bound → All (λ m. m ≤ bound) ticks.now
-        → n ≤ bound + most_worst) }
-{
-    premises(board, program);
-    let edges = edges_at(alloc, board, program, rows, place)?;
-    Ok(longest(&edges, ticks))
 }
 
 /// The ticks at each place of a program that only leads on, from its last place down.
@@ -62,19 +40,20 @@ pub(crate) fn forward_ticks(
     alloc: Global,
     board: &Board,
     program: &Program,
-    rows: &[Option<Row>],
+    known: &Known,
 ) -> Result<Vec<u64>, AllocError>
-    requires rows { HasRowsOf board.now (rows_view rows.now) }
+    requires led { IsLedTable board.now program.now (rows_view known.now.rows.items)
+        (leads_view known.now.leads.items) }
     requires forward { IsForward program.now }
-    ensures { IfOk result
-        (λ ticks. DoFit board.now program.now (rows_view rows.now) ticks.items) }
+    ensures { IfOk result (λ ticks. DoFit board.now program.now (rows_view known.now.rows.items)
+        ticks.items) }
 {
     premises(board, program);
     let places = program.places();
     let mut ticks = vec![in alloc; 1u64; places]?;
     for done in 0..places {
         let place = places - 1 - done;
-        ticks[place] = ticks_at(alloc, board, program, rows, &ticks, place)?;
+        ticks[place] = longest(&known.leads[place], &ticks);
     }
     Ok(ticks)
 }
@@ -83,7 +62,7 @@ pub(crate) fn forward_ticks(
 pub(crate) fn without_coeffs(alloc: Global, ticks: &[u64]) -> Result<Vec<Ticks>, AllocError>
     ensures { IfOk result (λ lefts. lefts.items ≡ map plain ticks.now) }
 {
-    let mut lefts = Vec::new(alloc);
+    let mut lefts = Vec::with_capacity(alloc, ticks.len())?;
     for base in ticks {
         lefts.push(Ticks {
             base: *base,
@@ -130,7 +109,7 @@ pub(crate) fn with_ticks(
     ensures counts { IfOk result
         (λ out. All (λ row. IfSome row (λ r. length r.coeffs ≡ 4)) out.items) }
 {
-    let mut out = Vec::new(alloc);
+    let mut out = Vec::with_capacity(alloc, rows.len())?;
     for row in rows {
         let place = out.len();
         out.push(with_left(row, lefts, place))?;

@@ -53,7 +53,7 @@ fn with_way(
 fn listed(alloc: Global, ways: Ways, ticks: u64) -> Result<Vec<(usize, Row, u64)>, AllocError>
     ensures { IfOk result (λ es. map timed_view es.items ≡ timed ticks (ways_list ways)) }
 {
-    let first = with_way(Vec::new(alloc), ways.first, ticks)?;
+    let first = with_way(Vec::with_capacity(alloc, 2)?, ways.first, ticks)?;
     with_way(first, ways.second, ticks)
 }
 

@@ -1,6 +1,6 @@
 //! Rows that are being read.
 
-ghost use Rattle.std.specs.Prelude.{◌≡◌, map, length, IsTrue};
+ghost use Rattle.std.specs.Prelude.{◌≡◌, map, length, IfOk, IsTrue};
 ghost use Rattle.texts.specs.Reading.{some_or};
 ghost use Rattle.facts.specs.Rows.{row_view};
 ghost use Rattle.table_check.specs.declared.fault.TableFault.TheVariants.{BadLine};
@@ -15,7 +15,7 @@ use crate::set_line::{good_said, page_said, protect_said};
 use crate::span_line::{counter_said, register_said};
 use board::Board;
 use facts::{GoodSet, PageSet, ProtectSet, Row, Source, Span};
-use std::alloc::Global;
+use std::alloc::{AllocError, Global};
 
 /// What is read of a row, in the order of its lines.
 #[derive(Drop)]
@@ -58,17 +58,17 @@ fn counters(known: &[Span]) -> [Span; 4]
 }
 
 impl Part {
-    /// Nothing of a row.
-    pub(crate) fn new(alloc: Global) -> Part
-        ensures { part_view result ≡ no_part }
+    /// Nothing of a row of so many targets.
+    pub(crate) fn new(alloc: Global, targets: usize) -> Result<Part, AllocError>
+        ensures { IfOk result (λ part. part_view part ≡ no_part) }
     {
-        Part {
-            pages: Vec::new(alloc),
-            protects: Vec::new(alloc),
+        Ok(Part {
+            pages: Vec::with_capacity(alloc, targets)?,
+            protects: Vec::with_capacity(alloc, targets)?,
             good: None,
-            regs: Vec::new(alloc),
-            counters: Vec::new(alloc),
-        }
+            regs: Vec::with_capacity(alloc, 8)?,
+            counters: Vec::with_capacity(alloc, 4)?,
+        })
     }
 
     #[tactic(auto, unfolding(crate::specs::Passes::with_page))]

@@ -37,13 +37,19 @@ impl RowsSoFar {
     }
 
     /// The first line of a place.
-    fn add_head(&mut self, alloc: Global, line: usize, words: &[&str]) -> Result<(), TableFault>
+    fn add_head(
+        &mut self,
+        alloc: Global,
+        board: &Board,
+        line: usize,
+        words: &[&str],
+    ) -> Result<(), TableFault>
         requires { self.old.part ≡ None }
         ensures { Gives (λ _. pass_view self.new) result (some_or (BadLine line)
             (with_first (pass_view self.old) (map (λ w. w.now) words.now))) }
     {
         match head_said(self.rows.len(), words) {
-            Some(true) => self.part = Some(Part::new(alloc)),
+            Some(true) => self.part = Some(Part::new(alloc, board.targets().len())?),
             Some(false) => self.rows.push(None)?,
             None => return Err(TableFault::BadLine(line)),
         }
@@ -63,7 +69,13 @@ impl RowsSoFar {
     }
 
     /// The first or the last line of a row.
-    fn add_end(&mut self, alloc: Global, line: usize, words: &[&str]) -> Result<(), TableFault>
+    fn add_end(
+        &mut self,
+        alloc: Global,
+        board: &Board,
+        line: usize,
+        words: &[&str],
+    ) -> Result<(), TableFault>
         requires { IfSome (pass_view self.old).part (λ part. IsTrue (is_full part)) }
         ensures { Gives (λ _. pass_view self.new) result (some_or (BadLine line)
             (with_end (pass_view self.old) (pass_view self.old).part
@@ -71,7 +83,7 @@ impl RowsSoFar {
     {
         match self.part.take() {
             Some(part) => self.add_last(line, part, words),
-            None => self.add_head(alloc, line, words),
+            None => self.add_head(alloc, board, line, words),
         }
     }
 
@@ -89,7 +101,7 @@ impl RowsSoFar {
     {
         match &mut self.part {
             Some(part) if !part.is_full() => part.add_line(alloc, board, line, words),
-            _ => self.add_end(alloc, line, words),
+            _ => self.add_end(alloc, board, line, words),
         }
     }
 

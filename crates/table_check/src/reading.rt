@@ -14,16 +14,19 @@ use crate::shape::is_board;
 use crate::table::Table;
 use board::Board;
 use std::alloc::{AllocError, Global};
-use texts::{first_by_feed, numbers_are_spelled, numbers_read_back};
+use texts::{cut_at_space, first_by_feed, numbers_are_spelled, numbers_read_back};
 
 /// Takes the words of a line, between single spaces, in place of those before.
 fn take_words<'a>(words: &mut Vec<&'a str>, line: &'a str) -> Result<(), AllocError>
     ensures { IfOk result (λ _. map (λ w. w.now) words.new.items ≡ parted line.now) }
 {
     words.clear();
-    for word in line.split(' ') {
+    let mut rest = line;
+    while let Some((word, behind)) = cut_at_space(rest) {
         words.push(word)?;
+        rest = behind;
     }
+    words.push(rest)?;
     Ok(())
 }
 

@@ -41,7 +41,7 @@ fn ascending_bytes(alloc: Global, words: &[&str]) -> Result<Option<Vec<u8>>, All
     ensures { IfOk result (λ r. option_map (λ v. v.items) r
         ≡ ascending pair_of [] 0 (map (λ w. w.now) words.now)) }
 {
-    let mut bytes = Vec::new(alloc);
+    let mut bytes = Vec::with_capacity(alloc, words.len())?;
     let mut least = 0;
     for word in words {
         let Some(byte) = pair_of(word) else {
@@ -75,7 +75,7 @@ fn ascending_rails(
     ensures { IfOk result (λ r. option_map (λ v. v.items) r
         ≡ ascending (rail_named board.now) [] 0 (map (λ w. w.now) names.now)) }
 {
-    let mut rails = Vec::new(alloc);
+    let mut rails = Vec::with_capacity(alloc, names.len())?;
     let mut least = 0;
     for name in names {
         let Some(rail) = rail_named(board, name) else {

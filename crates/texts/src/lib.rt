@@ -18,4 +18,4 @@ pub use lines::{first_by_feed, first_line, line_count};
 pub use name::is_name;
 pub use reading::ReadError;
 pub use sending::{CutShort, send};
-pub use words::words_of;
+pub use words::{cut_at_space, words_of};

@@ -3,8 +3,8 @@ use crate::expected::{holds, same, says};
 use std::alloc::{AllocError, Global};
 use std::process::Abort;
 use texts::{
-    CutShort, ReadError, decimal_within, first_by_feed, first_line, hex_number, is_name,
-    line_count, pair_of, pairs_of, push_pair, push_word, send, words_of,
+    CutShort, ReadError, cut_at_space, decimal_within, first_by_feed, first_line, hex_number,
+    is_name, line_count, pair_of, pairs_of, push_pair, push_word, send, words_of,
 };
 
 /// A text, its first line, and what is behind that.
@@ -44,6 +44,12 @@ fn counted_lines(rt: HostRuntime) {
     same(&rt, line_count("end"), 1);
     same(&rt, line_count("end\r\n\nx:\n"), 3);
     same(&rt, line_count("a\n\nb"), 3);
+}
+
+#[test]
+fn lines_cut_at_a_space(rt: HostRuntime) {
+    same(&rt, cut_at_space("page  t0"), Some(("page", " t0")));
+    same(&rt, cut_at_space("\tend"), None);
 }
 
 #[test]

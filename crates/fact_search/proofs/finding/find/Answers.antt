@@ -17,60 +17,55 @@ use Rattle.fact_search.proofs.finding.find.Goals as goal
 use Rattle.fact_search.proofs.finding.find.Goals.{then-is_forward+in_ok-ticks+in_ok-lefts}
 use Rattle.fact_search.proofs.finding.find.Goals.{else-is_forward+in_ok-lefts-2}
 
-pub forward_ticks-requires-clause-rows : goal.forward_ticks-requires-clause-rows
-forward_ticks-requires-clause-rows c =
-    let P : List (Option CodeRow) → Type 0 = λ items. HasRowsOf c.args.board.now
-    (rows_view items) in
-    subst P (sym c.deref.ensures.value) c.in_ok-rows.ensures.done.rows
+pub forward_ticks-requires-clause-led : goal.forward_ticks-requires-clause-led
+forward_ticks-requires-clause-led c = c.in_ok-known.ensures.led
 
 pub ticks_with_loops-requires : goal.ticks_with_loops-requires
 ticks_with_loops-requires c =
     let P : List (Option CodeRow) → Type 0 = λ items. HasRowsOf c.args.board.now
     (rows_view items) in
     record {
-      rows = subst P (sym c.deref-else-is_forward.ensures.value) c.in_ok-rows.ensures.done.rows;
+      rows = subst P (sym c.deref-else-is_forward.ensures.value) c.in_ok-known.ensures.done.rows;
     }
 
 pub returns-clause-shaped : goal.returns-clause-shaped
 returns-clause-shaped c =
-    shaped c.args.board.now c.deref-2.result.now (rows_view c.in_ok-rows.rows.items)
+    shaped c.args.board.now c.deref-2.result.now (rows_view c.in_ok-known.known.rows.items)
     c.in_ok-with_ticks.field-0.items c.in_ok-with_ticks.ensures.rows
-    c.in_ok-rows.ensures.done.rows c.in_ok-with_ticks.ensures.counts
+    c.in_ok-known.ensures.done.rows c.in_ok-with_ticks.ensures.counts
 
 pub returns-clause-places : goal.returns-clause-places
 returns-clause-places c =
     ap (λ (t : Table). length t) c.in_ok-with_ticks.ensures.rows
-    ∙ (length_ticked c.deref-2.result.now (rows_view c.in_ok-rows.rows.items)
-    ∙ c.in_ok-rows.ensures.done.places)
+    ∙ (length_ticked c.deref-2.result.now (rows_view c.in_ok-known.known.rows.items)
+    ∙ c.in_ok-known.ensures.done.places)
 
 true_false : true ≡ false → ⊥
 true_false e = cc
 
 -- of a forward program
-told : (b : Board) (p : List Instr) (t new seen : Table) (ticks now : List ℕ)
+told : (b : Board) (p : List Instr) (t new : Table) (ticks now : List ℕ)
     (lefts plains : List Ticks) → new ≡ ticked lefts t → lefts ≡ plains → plains ≡ map plain now
-    → now ≡ ticks → seen ≡ t → Premises b p → IsFollowedTable b p t → DoFit b p seen ticks
-    → IsForward p → IsFound b p new × TellsCause b p new
-told b p t new seen ticks now lefts plains e f g h s given k fit forward =
-    let Q : Table → Type 0 = λ z. DoFit b p z ticks in
+    → now ≡ ticks → Premises b p → IsFollowedTable b p t → DoFit b p t ticks → IsForward p
+    → IsFound b p new × TellsCause b p new
+told b p t new ticks now lefts plains e f g h given k fit forward =
     let R : Table → Type 0 = λ z. IsFound b p z × TellsCause b p z in
     let same : ticked (map plain ticks) t ≡ new =
     sym (e
     ∙ ap (λ (xs : List Ticks). ticked xs t) (f ∙ (g ∙ ap (λ (xs : List ℕ). map plain xs) h))) in
-    let fits = subst Q s fit in
-    subst R same (is_found b p t ticks given k fits forward, tells_cause b p t ticks given k fits)
+    subst R same (is_found b p t ticks given k fit forward, tells_cause b p t ticks given k fit)
 
 pub returns-clause-found : goal.returns-clause-found
 returns-clause-found c = λ forward.
     elim c.if-is_forward.branch [
       | then-is_forward+in_ok-ticks+in_ok-lefts w ↦
-          (told c.args.board.now c.args.program.now (rows_view c.in_ok-rows.rows.items)
-          (rows_view c.in_ok-with_ticks.field-0.items) (rows_view w.deref.result.now)
-          w.in_ok-ticks.ticks.items w.deref-then-is_forward.result.now c.deref-2.result.now
+          (told c.args.board.now c.args.program.now (rows_view c.in_ok-known.known.rows.items)
+          (rows_view c.in_ok-with_ticks.field-0.items)
+          w.in_ok-ticks.ticks.items w.deref.result.now c.deref-2.result.now
           w.in_ok-lefts.lefts.items c.in_ok-with_ticks.ensures.rows
           (c.deref-2.ensures.value ∙ ap (λ v. v.items) w.lefts-is) w.in_ok-lefts.ensures
-          w.deref-then-is_forward.ensures.value (ap rows_view w.deref.ensures.value)
-          c.premises.ensures c.in_ok-rows.ensures.done w.in_ok-ticks.ensures forward).0
+          w.deref.ensures.value
+          c.premises.ensures c.in_ok-known.ensures.done w.in_ok-ticks.ensures forward).0
       | else-is_forward+in_ok-lefts-2 w ↦
           absurd (true_false (sym (c.is_forward.ensures.1 forward) ∙ w.if-is_forward.false))
     ]
@@ -79,13 +74,13 @@ pub returns-clause-cause : goal.returns-clause-cause
 returns-clause-cause c = λ forward.
     elim c.if-is_forward.branch [
       | then-is_forward+in_ok-ticks+in_ok-lefts w ↦
-          (told c.args.board.now c.args.program.now (rows_view c.in_ok-rows.rows.items)
-          (rows_view c.in_ok-with_ticks.field-0.items) (rows_view w.deref.result.now)
-          w.in_ok-ticks.ticks.items w.deref-then-is_forward.result.now c.deref-2.result.now
+          (told c.args.board.now c.args.program.now (rows_view c.in_ok-known.known.rows.items)
+          (rows_view c.in_ok-with_ticks.field-0.items)
+          w.in_ok-ticks.ticks.items w.deref.result.now c.deref-2.result.now
           w.in_ok-lefts.lefts.items c.in_ok-with_ticks.ensures.rows
           (c.deref-2.ensures.value ∙ ap (λ v. v.items) w.lefts-is) w.in_ok-lefts.ensures
-          w.deref-then-is_forward.ensures.value (ap rows_view w.deref.ensures.value)
-          c.premises.ensures c.in_ok-rows.ensures.done w.in_ok-ticks.ensures forward).1
+          w.deref.ensures.value
+          c.premises.ensures c.in_ok-known.ensures.done w.in_ok-ticks.ensures forward).1
       | else-is_forward+in_ok-lefts-2 w ↦
           absurd (true_false (sym (c.is_forward.ensures.1 forward) ∙ w.if-is_forward.false))
     ]

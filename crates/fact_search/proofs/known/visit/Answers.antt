@@ -1,6 +1,9 @@
-use Rattle.std.proofs.Common.{◌≡◌, ℕ, subst, sym, List, [], ◌∷◌, length, map, refl, arith}
+use Rattle.std.proofs.Common.{◌≡◌, ◌∙◌, ap, false, ℕ, subst, sym, List, [], ◌∷◌, length, map, refl}
+use Rattle.std.proofs.Common.{arith, slice_set}
 use Rattle.std.specs.Prelude.{Option}
 use Rattle.facts.specs.declared.row.Row.{Row as CodeRow}
+use Rattle.facts.specs.Edges.{edge}
+use Rattle.facts.specs.Rows.{row_view}
 use Rattle.facts.specs.Ways.{timed_view}
 use Rattle.table_check.specs.Looking.{HasRowsOf, rows_view}
 use Rattle.fact_search.specs.Searching.{AreEdgesAt}
@@ -8,6 +11,8 @@ use Rattle.fact_search.proofs.Shared.Tables.{view_length}
 use Rattle.fact_search.proofs.Steps.Visiting.{IsVisiting, edges_view}
 use Rattle.fact_search.proofs.Steps.Visiting.{code_changed, code_same, coming_edge, visit_first}
 use Rattle.fact_search.proofs.Steps.Visiting.{visit_last}
+use Rattle.fact_search.specs.Leading.{IsLed, leads_of, leads_view}
+use Rattle.fact_search.proofs.Steps.Leading.{led_changed, led_same, led_visited, set_view}
 use Rattle.fact_search.proofs.known.visit.Goals as goal
 
 pub edges_at-requires : goal.edges_at-requires
@@ -23,15 +28,25 @@ loop-to-init c =
     let rows = c.args.known.now.rows.items in
     let items = c.into_iter-to-iterator.result.rest.items in
     let P : List (Option CodeRow) → Type 0 = λ xs. AreEdgesAt b p (rows_view xs) c.args.place
-    (map timed_view c.in_ok-items.items.items) in
+    (map timed_view c.in_ok-edges.edges.items) in
     let Q : List (ℕ × CodeRow × ℕ) → Type 0 = λ xs. AreEdgesAt b p (rows_view rows) c.args.place
     (map timed_view xs) in
+    let now = c.in_ok-known.field-0 in
+    let Led : List (List (ℕ × ℕ)) → Type 0 = λ ls. IsLed b p (rows_view rows)
+    (slice_set c.args.known.now.changed.items c.args.place false) ls in
     let led = subst Q (sym c.into_iter-to-iterator.ensures.into_iter_gives.0)
-    (subst P c.deref.ensures.value c.in_ok-items.ensures) in
+    (subst P c.deref.ensures.value c.in_ok-edges.ensures) in
     record {
       led = led;
       visiting = visit_first b p (rows_view rows) c.args.known.now.changed.items c.args.place
           items c.premises.ensures c.requires.searched c.requires.inside c.requires.before led;
+      leads = subst Led (sym (set_view c.args.known.now.leads.items c.args.place now))
+          (led_visited b p (rows_view rows) c.args.known.now.changed.items
+          (leads_view c.args.known.now.leads.items) c.args.place
+          (map timed_view c.in_ok-edges.edges.items) now.items c.requires.led c.requires.inside
+          (subst P c.deref.ensures.value c.in_ok-edges.ensures)
+          (c.in_ok-known.ensures
+          ∙ ap (λ xs. leads_of (map timed_view xs)) c.deref-2.ensures.value));
     }
 
 pub learn-requires-clause-rows : goal.learn-requires-clause-rows
@@ -84,6 +99,19 @@ loop-to-preserved-then-branch c = record {
       (c.in-Some.to, c.in-Some.row, c.in-Some._ticks) c.loop-to.next c.min-next.result
       c.in_ok-learn.field-0 c.in-Some.ensures.steps.0 c.loop-to.invariant.visiting
       c.in_ok-learn.ensures c.if-branch.true c.min-next.ensures;
+  leads = led_changed c.args.board.now c.args.program.now c.args.place
+      (rows_view c.loop-to.known.rows.items) (rows_view c.learn.new.rows.items)
+      c.loop-to.known.changed.items (leads_view c.loop-to.known.leads.items)
+      (edge c.in-Some.to (row_view c.in-Some.row)) c.in_ok-learn.field-0
+      c.loop-to.invariant.leads c.in_ok-learn.ensures
+      (let one = coming_edge c.args.board.now c.args.program.now c.args.place
+      (edges_view c.into_iter-to-iterator.result.rest.items)
+      (rows_view c.args.known.now.rows.items) (rows_view c.loop-to.known.rows.items)
+      c.loop-to.known.changed.items c.loop-to.to-iterator.rest.items
+      c.next.new.self.rest.items (c.in-Some.to, c.in-Some.row, c.in-Some._ticks)
+      c.loop-to.next c.in-Some.ensures.steps.0 c.loop-to.invariant.visiting in
+      let inside = one.inside in
+      let flags = c.loop-to.invariant.visiting.flags in omega (arith, inside, flags));
 }
 
 pub loop-to-preserved : goal.loop-to-preserved
@@ -97,6 +125,11 @@ loop-to-preserved c = record {
       (c.in-Some.to, c.in-Some.row, c.in-Some._ticks) c.loop-to.next
       c.in_ok-learn.field-0 c.in-Some.ensures.steps.0 c.loop-to.invariant.visiting
       c.in_ok-learn.ensures c.if-branch.false;
+  leads = led_same c.args.board.now c.args.program.now c.args.place
+      (rows_view c.loop-to.known.rows.items) (rows_view c.learn.new.rows.items)
+      c.loop-to.known.changed.items (leads_view c.loop-to.known.leads.items)
+      (edge c.in-Some.to (row_view c.in-Some.row)) c.in_ok-learn.field-0
+      c.loop-to.invariant.leads c.in_ok-learn.ensures c.if-branch.false;
 }
 
 no_items : {X : Type 0} (xs : List X) (n : ℕ) → n ≡ length xs → n ≡ 0 → xs ≡ []
@@ -116,6 +149,9 @@ returns-clause-searched c =
     visit_last b p c.args.place items first t c.loop-to.known.changed.items c.loop-to.next
     (subst P (no_items rest.items rest.len rest.ok.0 c.in-None.ensures.steps.0)
     c.loop-to.invariant.visiting) c.loop-to.invariant.led
+
+pub returns-clause-led : goal.returns-clause-led
+returns-clause-led c = c.loop-to.invariant.leads
 
 pub returns-clause-before : goal.returns-clause-before
 returns-clause-before c = c.loop-to.invariant.visiting.settled

@@ -1,10 +1,12 @@
 use Rattle.std.proofs.Common.{◌≡◌, ◌<◌, ◌≤◌, ◌+◌, ◌∙◌, ℕ, List, Bool, false, length, arith, subst}
 use Rattle.std.proofs.Common.{sym}
 use Rattle.table_check.specs.Looking.{rows_view}
+use Rattle.fact_search.specs.Leading.{leads_view}
 use Rattle.fact_search.specs.Searching.{is_changed}
 use Rattle.fact_search.proofs.Shared.Tables.{length_set}
 use Rattle.fact_search.proofs.Steps.Ending.{all_followed, few_visits, no_visits, one_visit}
 use Rattle.fact_search.proofs.Steps.Ending.{place_inside, same_or, unchanged_on, up_to_more}
+use Rattle.fact_search.proofs.Steps.Leading.{all_led}
 use Rattle.fact_search.proofs.searching.search.Goals as goal
 
 pub loop-visit-init : goal.loop-visit-init
@@ -15,7 +17,8 @@ loop-visit-init c =
     let ok = c.in_ok-visits.visits.ok.0 in
     let count = c.places.ensures.count in
     record {
-      searched = c.in_ok-known.ensures;
+      searched = c.in_ok-known.ensures.searched;
+      led = c.in_ok-known.ensures.led;
       before = λ n lt. absurd (omega (arith, lt));
       inside = omega arith;
       onward = λ forward. omega arith;
@@ -30,6 +33,15 @@ returns-in_default-clause-done c =
     → is_changed xs n ≡ false in
     all_followed c.args.board.now c.args.program.now (rows_view c.loop-visit.known.rows.items)
     c.loop-visit.known.changed.items c.loop-visit.cursor c.loop-visit.invariant.searched
+    c.loop-visit.invariant.before (subst Rest c.deref.ensures.value c.in_default.ensures)
+
+pub returns-in_default-clause-led : goal.returns-in_default-clause-led
+returns-in_default-clause-led c =
+    let Rest : List Bool → Type 0 = λ xs. (n : ℕ) → c.loop-visit.cursor ≤ n
+    → is_changed xs n ≡ false in
+    all_led c.args.board.now c.args.program.now (rows_view c.loop-visit.known.rows.items)
+    c.loop-visit.known.changed.items c.loop-visit.cursor
+    (leads_view c.loop-visit.known.leads.items) c.loop-visit.invariant.led
     c.loop-visit.invariant.before (subst Rest c.deref.ensures.value c.in_default.ensures)
 
 pub index-requires : goal.index-requires
@@ -89,6 +101,9 @@ visit-requires-clause-before c =
 pub visit-requires-clause-searched : goal.visit-requires-clause-searched
 visit-requires-clause-searched c = c.loop-visit.invariant.searched
 
+pub visit-requires-clause-led : goal.visit-requires-clause-led
+visit-requires-clause-led c = c.loop-visit.invariant.led
+
 pub loop-visit-preserved : goal.loop-visit-preserved
 loop-visit-preserved c =
     let visits = c.loop-visit.visits.items in
@@ -106,6 +121,7 @@ loop-visit-preserved c =
     (c.index.ensures ∙ (same_or visits place c.index.result.now v lt ∙ (sym h ∙ e))) in
     record {
       searched = c.in_ok-cursor.ensures.searched;
+      led = c.in_ok-cursor.ensures.led;
       before = c.in_ok-cursor.ensures.before;
       inside = omega (arith, near, inside);
       onward = λ forward.

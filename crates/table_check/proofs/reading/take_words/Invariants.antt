@@ -1,5 +1,14 @@
-use Rattle.std.proofs.Common.{◌≡◌}
+use Rattle.std.proofs.Common.{◌≡◌, ◌++◌, Bor, List, ℕ, length, map}
+use denote.Shadow.{shadow}
+use denote.Text.{Utf8}
+use Rattle.table_check.specs.Passes.{parted}
 use Rattle.table_check.proofs.reading.take_words.Given as goal
 
 abbrev pub invariant-loop-word : goal.invariant-loop-word
-invariant-loop-word l = l.words.items ≡ l.yielded
+invariant-loop-word l = record {
+  text : shadow (Utf8 l.rest);
+  value : map (λ (w : Bor (List ℕ)). w.now) l.words.items ++ parted l.rest ≡ parted l.line;
+}
+
+abbrev pub decreases-loop-word : goal.decreases-loop-word
+decreases-loop-word l = length l.rest
