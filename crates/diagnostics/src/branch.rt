@@ -34,23 +34,14 @@ struct Taken {
 
 /// What an instruction came to, of whose edges the way took one.
 fn branch_of(instr: &Instr, place: usize, to: usize, edge: usize, edges: usize) -> Option<Branch> {
+    if instr.otherwise().is_some() {
+        return if edge == 1 {
+            Some(Branch::NotDone)
+        } else {
+            None
+        };
+    }
     match instr {
-        Instr::Quick { .. }
-        | Instr::Send { .. }
-        | Instr::Receive { .. }
-        | Instr::Write { .. }
-        | Instr::Read { .. }
-        | Instr::Call { .. }
-        | Instr::BlockWrite { .. }
-        | Instr::BlockRead { .. }
-        | Instr::BlockCall { .. }
-        | Instr::Alert { .. } => {
-            if edge == 1 {
-                Some(Branch::NotDone)
-            } else {
-                None
-            }
-        }
         Instr::Again { counter, jump } => {
             if to == *jump {
                 None

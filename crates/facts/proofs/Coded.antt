@@ -8,7 +8,6 @@ pub mod Protections
 pub mod Headed
 pub mod Limits
 pub mod FirstFailing
-pub mod SentTicks
 pub mod Mapping
 pub mod Withdrawn
 pub mod RowCovering

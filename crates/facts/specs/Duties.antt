@@ -13,14 +13,16 @@ use Rattle.targets.specs.States.{IsTargetAt}
 use Rattle.seq_program.specs.declared.instr.Instr.{Instr}
 use Rattle.seq_program.specs.declared.instr.Written.{Written}
 use Rattle.seq_program.specs.declared.instr.Written.TheVariants as written
+use Rattle.seq_program.specs.Requests.{Content, Nothing, Value, Block, Transaction, Request}
+use Rattle.seq_program.specs.Requests.{request_in}
+use Rattle.seq_program.specs.Requests.{code_in}
 use Rattle.simulator.specs.Allowed.{IsBlockIn, is_operation_value}
 use Rattle.facts.specs.declared.rule.Rule.{Rule}
 use Rattle.facts.specs.declared.rule.Rule.TheVariants.{K1, K2, K3, K4, K5}
 use Rattle.facts.specs.declared.span.Span.{Span}
-use Rattle.facts.specs.Sets.{Set, all_pages}
+use Rattle.facts.specs.Sets.{Set}
+use Rattle.pmbus_table.specs.Codes.{all_pages}
 use Rattle.facts.specs.Rows.{Row, set_at, span_at}
-use Rattle.facts.specs.Requests.{Request, Write, PutBlock, CallBlock, Sent, sent_in, form_in}
-use Rattle.facts.specs.Requests.{code_in}
 
 -- some page of the set selects the page (PMBus 1.3 Part II, 11.10)
 abbrev pub may_select : Set → ℕ → Bool
@@ -49,43 +51,57 @@ written_span row (written.Register register) = span_at row.regs register
 abbrev pub IsWithinRange : Range → Span → Type 0
 IsWithinRange r s = (r.low ≤ s.lo) × (s.hi ≤ r.high)
 
--- what is written lies in the entry's ranges; of a Block Process Call both blocks have at most 255
--- bytes together (SMBus 3.2, 6.5.8)
-abbrev pub IsInEntry : Row → Allow → Request → Type 0
-IsInEntry row e (Write code value) = IsWithinRange e.values (written_span row value)
-IsInEntry row e (PutBlock code bytes) = IsBlockIn e bytes
-IsInEntry row e (CallBlock code bytes register) = length bytes + e.length.high ≤ 255
-IsInEntry row e _ = Unit {0}
+-- what is written lies in the entry's ranges
+abbrev pub IsContentIn : Row → Allow → Content → Type 0
+IsContentIn row e (Value value) = IsWithinRange e.values (written_span row value)
+IsContentIn row e (Block bytes) = IsBlockIn e bytes
+IsContentIn row e Nothing = Unit {0}
+
+-- both blocks of a Block Process Call have at most 255 bytes together (SMBus 3.2, 6.5.8)
+abbrev pub LeavesRoom : Allow → Content → Type 0
+LeavesRoom e (Block bytes) = length bytes + e.length.high ≤ 255
+LeavesRoom e _ = Unit {0}
+
+-- the ranges are those of what is read, where something is
+abbrev pub IsTaken : Row → Allow → Content → Option ℕ → Type 0
+IsTaken row e content None = IsContentIn row e content
+IsTaken row e content (Some register) = LeavesRoom e content
+
+abbrev pub IsInEntry : Row → Allow → Transaction → Type 0
+IsInEntry row e x = IsTaken row e x.content x.register
 
 -- a byte that is written to PAGE, WRITE_PROTECT or OPERATION is one of the command's values
-abbrev pub IsKnownValue : Target → Request → Type 0
-IsKnownValue t (Write code (written.Byte value)) =
+abbrev pub IsKnownContent : Target → ℕ → Content → Type 0
+IsKnownContent t code (Value (written.Byte value)) =
     (code ≡ page_code → IsTrue (is_page_value t.pages value))
     × (code ≡ write_protect_code → IsTrue (is_protection value))
     × (code ≡ operation_code → IsTrue (is_operation_value value))
-IsKnownValue t _ = Unit {0}
+IsKnownContent t code _ = Unit {0}
+
+abbrev pub IsKnownValue : Target → Transaction → Type 0
+IsKnownValue t x = IsKnownContent t (code_in x) x.content
 
 -- K1: the target allows the message, with every value that it may carry
-pub record MayBeSent (b : Board) (row : Row) (i : ℕ) (r : Request) : Type 0 where
+pub record MayBeSent (b : Board) (row : Row) (i : ℕ) (x : Transaction) : Type 0 where
   pub target : Target
   pub at : IsTargetAt b i target
   pub entry : Allow
-  pub listed : entry_of (form_in r) (code_in r) target.allow ≡ Some entry
-  pub in_entry : IsInEntry row entry r
-  pub known : IsKnownValue target r
+  pub listed : entry_of x.form (code_in x) target.allow ≡ Some entry
+  pub in_entry : IsInEntry row entry x
+  pub known : IsKnownValue target x
 
 -- K2: a paged command isn't read while PAGE may stand for all pages
-abbrev pub ReadsOnePage : Row → ℕ → Request → Type 0
-ReadsOnePage row i r =
-    IsTrue (is_paged (code_in r)) → form_read (code_in r) ≡ Some (form_in r)
+abbrev pub ReadsOnePage : Row → ℕ → Transaction → Type 0
+ReadsOnePage row i x =
+    IsTrue (is_paged (code_in x)) → form_read (code_in x) ≡ Some x.form
     → set_at row.pages i all_pages ≡ false
 
 -- K3: every protection that may be stored permits the write
-abbrev pub IsUnprotected : Row → ℕ → Request → Type 0
-IsUnprotected row i r =
-    IsTrue (counts_as_write (code_in r) (form_in r)) → (protect : ℕ)
+abbrev pub IsUnprotected : Row → ℕ → Transaction → Type 0
+IsUnprotected row i x =
+    IsTrue (counts_as_write (code_in x) x.form) → (protect : ℕ)
     → IsTrue (set_at row.protects i protect)
-    → permits protect (code_in r) ≡ Some true
+    → permits protect (code_in x) ≡ Some true
 
 -- K4: the greatest voltage that may be commanded is within the limit of each rail that is touched
 abbrev pub IsWithinLimits : Board → Row → ℕ → Span → Type 0
@@ -94,36 +110,50 @@ IsWithinLimits b row i values =
     → IsTrue (touches row i r)
     → IsWithin values.hi t.exponent r.limit_uv
 
-abbrev pub CommandsWithinLimits : Board → Row → ℕ → Request → Type 0
-CommandsWithinLimits b row i (Write code (written.Byte value)) = Unit {0}
-CommandsWithinLimits b row i (Write code value) = IsTrue (carries_voltage code)
+abbrev pub SetsWithinLimits : Board → Row → ℕ → ℕ → Content → Type 0
+SetsWithinLimits b row i code (Value (written.Byte value)) = Unit {0}
+SetsWithinLimits b row i code (Value value) = IsTrue (carries_voltage code)
     → IsWithinLimits b row i (written_span row value)
-CommandsWithinLimits b row i _ = Unit {0}
+SetsWithinLimits b row i code _ = Unit {0}
+
+-- a message that reads commands nothing
+abbrev pub LimitsOf : Board → Row → ℕ → ℕ → Content → Option ℕ → Type 0
+LimitsOf b row i code content None = SetsWithinLimits b row i code content
+LimitsOf b row i code content (Some register) = Unit {0}
+
+abbrev pub CommandsWithinLimits : Board → Row → ℕ → Transaction → Type 0
+CommandsWithinLimits b row i x = LimitsOf b row i (code_in x) x.content x.register
 
 -- K5: what a rail that is touched needs is good, where a value that enables is written
-abbrev pub HasNeeds : Board → Row → ℕ → Request → Type 0
-HasNeeds b row i (Write code (written.Byte value)) =
-    code ≡ operation_code → IsTrue (enables value) → (d : ℕ) (r : Rail)
-    → slice_get b.rails d ≡ Some r → IsTrue (touches row i r)
+abbrev pub AreNeedsGood : Board → Row → ℕ → Type 0
+AreNeedsGood b row i =
+    (d : ℕ) (r : Rail) → slice_get b.rails d ≡ Some r → IsTrue (touches row i r)
     → All (λ need. IsTrue (row.good need)) r.needs
-HasNeeds b row i _ = Unit {0}
 
--- a rule's duty of a request; the rules from K6 on speak of tables
-abbrev pub MeetsAt : Board → Row → ℕ → Request → Rule → Type 0
-MeetsAt b row i r K1 = MayBeSent b row i r
-MeetsAt b row i r K2 = ReadsOnePage row i r
-MeetsAt b row i r K3 = IsUnprotected row i r
-MeetsAt b row i r K4 = CommandsWithinLimits b row i r
-MeetsAt b row i r K5 = HasNeeds b row i r
-MeetsAt b row i r _ = Unit {0}
+abbrev pub EnablesInOrder : Board → Row → ℕ → ℕ → Content → Type 0
+EnablesInOrder b row i code (Value (written.Byte value)) =
+    code ≡ operation_code → IsTrue (enables value) → AreNeedsGood b row i
+EnablesInOrder b row i code _ = Unit {0}
 
-abbrev pub MeetsSent : Board → Row → Option Sent → Rule → Type 0
+abbrev pub HasNeeds : Board → Row → ℕ → Transaction → Type 0
+HasNeeds b row i x = EnablesInOrder b row i (code_in x) x.content
+
+-- a rule's duty of a transaction with a target; the rules from K6 on speak of tables
+abbrev pub MeetsAt : Board → Row → ℕ → Transaction → Rule → Type 0
+MeetsAt b row i x K1 = MayBeSent b row i x
+MeetsAt b row i x K2 = ReadsOnePage row i x
+MeetsAt b row i x K3 = IsUnprotected row i x
+MeetsAt b row i x K4 = CommandsWithinLimits b row i x
+MeetsAt b row i x K5 = HasNeeds b row i x
+MeetsAt b row i x _ = Unit {0}
+
+abbrev pub MeetsSent : Board → Row → Option Request → Rule → Type 0
 MeetsSent b row None rule = Unit {0}
-MeetsSent b row (Some s) rule = MeetsAt b row s.target s.request rule
+MeetsSent b row (Some r) rule = MeetsAt b row r.target r.transaction rule
 
 -- an instruction that sends nothing to a target has no duties
 abbrev pub Meets : Board → Row → Instr → Rule → Type 0
-Meets b row i rule = MeetsSent b row (sent_in i) rule
+Meets b row i rule = MeetsSent b row (request_in i) rule
 
 -- the rules of an instruction, in order
 abbrev pub duties : List Rule

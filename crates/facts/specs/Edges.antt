@@ -4,23 +4,24 @@ use Rattle.std.specs.Prelude.{if◌then◌else◌, nat_lt, nat_le, min, max, Lis
 use Rattle.std.specs.Prelude.{slice_index, slice_set, Option, Some, None, option_and_then, position}
 use Rattle.pmbus_table.specs.Codes.{page_code, operation_code, write_protect_code, status_word_code}
 use Rattle.pmbus_table.specs.Operation.{enables}
+use Rattle.smbus.specs.declared.message.Form.{Form}
+use Rattle.smbus.specs.declared.message.Form.TheVariants as form
 use Rattle.board.specs.declared.entry.Range.{Range}
 use Rattle.board.specs.Boards.{Rail, Board}
 use Rattle.seq_program.specs.declared.instr.Instr.{Instr}
 use Rattle.seq_program.specs.declared.instr.Instr.TheVariants as instr
-use Rattle.seq_program.specs.declared.instr.Width.TheVariants as width
 use Rattle.seq_program.specs.declared.instr.Written.TheVariants as written
+use Rattle.seq_program.specs.Requests.{Content, Value, Transaction, Request, request_in, code_in}
 use Rattle.simulator.specs.Moves.{passes}
 use Rattle.facts.specs.declared.source.Source.{Source}
 use Rattle.facts.specs.declared.source.Source.TheVariants as source
 use Rattle.facts.specs.declared.span.Span.{Span}
 use Rattle.facts.specs.Sets.{Set, only, gains, keeps}
 use Rattle.facts.specs.Rows.{Row, set_at, span_at, source_at}
-use Rattle.facts.specs.Requests.{Request, Receive, Write, Read, Call, GetBlock, CallBlock, Sent}
-use Rattle.facts.specs.Requests.{sent_in, values_at}
+use Rattle.facts.specs.Allowing.{values_at}
 use Rattle.facts.specs.Duties.{one, is_touched}
 
--- what a request does to what is known
+-- what a message does to what is known
 pub data Effect : Type 0 where
   SetsPage : (value : ℕ) → Effect
   SetsProtect : (value : ℕ) → Effect
@@ -50,16 +51,22 @@ abbrev pub word_effect : ℕ → ℕ → Effect
 word_effect code register =
     if code == status_word_code then ReadsStatus register else Loads register
 
-abbrev pub effect_of : Request → Effect
-effect_of (Write code (written.Byte value)) = written_effect code value
-effect_of (Write code _) = Nothing
-effect_of (Read code width.Byte register) = byte_effect code register
-effect_of (Read code width.Word register) = word_effect code register
-effect_of (Receive register) = Loads register
-effect_of (Call code value register) = Loads register
-effect_of (GetBlock code register) = Loads register
-effect_of (CallBlock code bytes register) = Loads register
-effect_of _ = Nothing
+abbrev pub read_effect : Form → ℕ → ℕ → Effect
+read_effect form.ReadByte code register = byte_effect code register
+read_effect form.ReadWord code register = word_effect code register
+read_effect _ code register = Loads register
+
+-- of a message that reads nothing, and of one that reads
+abbrev pub content_effect : ℕ → Content → Effect
+content_effect code (Value (written.Byte value)) = written_effect code value
+content_effect code _ = Nothing
+
+abbrev pub effect_by : Transaction → Option ℕ → Effect
+effect_by x None = content_effect (code_in x) x.content
+effect_by x (Some register) = read_effect x.form (code_in x) register
+
+abbrev pub effect_of : Transaction → Effect
+effect_of x = effect_by x x.register
 
 -- the sources that a test finds are forgotten
 abbrev pub forget : (Source → Bool) → Source → Source
@@ -120,8 +127,8 @@ abbrev pub span_of : Range → Span
 span_of r = record { lo = r.low; hi = r.high }
 
 -- the values of what is read
-unfoldable pub loaded : Board → ℕ → Request → Span
-loaded b i r = span_of (values_at b i r)
+unfoldable pub loaded : Board → ℕ → Transaction → Span
+loaded b i x = span_of (values_at b i x)
 
 -- the rail on a page of a target, if there is one
 abbrev pub rail_on : Board → ℕ → ℕ → Option ℕ
@@ -143,18 +150,18 @@ unfoldable pub status_source : Board → Row → ℕ → Source
 status_source b row i = status_of (option_and_then (rail_on b i) (single (set_at row.pages i)))
 
 -- the row after a message that is done
-abbrev pub done_row : Board → Row → ℕ → Request → Effect → Row
-done_row b row i r (SetsPage value) = with_page row i (only value)
-done_row b row i r (SetsProtect value) = with_protect row i (only value)
-done_row b row i r TurnsOff = without_touched b row i
-done_row b row i r (ReadsStatus register) =
-    with_reg (without_touched b row i) register (loaded b i r) (status_source b row i)
-done_row b row i r (ReadsPage register) =
+abbrev pub done_row : Board → Row → ℕ → Transaction → Effect → Row
+done_row b row i x (SetsPage value) = with_page row i (only value)
+done_row b row i x (SetsProtect value) = with_protect row i (only value)
+done_row b row i x TurnsOff = without_touched b row i
+done_row b row i x (ReadsStatus register) =
+    with_reg (without_touched b row i) register (loaded b i x) (status_source b row i)
+done_row b row i x (ReadsPage register) =
     with_reg row register (bounds (set_at row.pages i)) (source.Page i)
-done_row b row i r (ReadsProtect register) =
+done_row b row i x (ReadsProtect register) =
     with_reg row register (bounds (set_at row.protects i)) (source.Protect i)
-done_row b row i r (Loads register) = with_reg row register (loaded b i r) source.None
-done_row b row i r Nothing = row
+done_row b row i x (Loads register) = with_reg row register (loaded b i x) source.None
+done_row b row i x Nothing = row
 
 -- the row after one that isn't
 abbrev pub else_row : Board → Row → ℕ → Effect → Row
@@ -176,10 +183,10 @@ abbrev pub edge_if : Bool → ℕ → Row → List Edge
 edge_if condition to row = if condition then edge to row ∷ [] else []
 
 -- the done edge, and then the other one
-abbrev pub sent_edges : Board → ℕ → Sent → Row → List Edge
-sent_edges b place s row =
-    edge (place + 1) (done_row b row s.target s.request (effect_of s.request))
-    ∷ edge s.otherwise (else_row b row s.target (effect_of s.request))
+abbrev pub sent_edges : Board → ℕ → Request → Row → List Edge
+sent_edges b place r row =
+    edge (place + 1) (done_row b row r.target r.transaction (effect_of r.transaction))
+    ∷ edge r.otherwise (else_row b row r.target (effect_of r.transaction))
     ∷ []
 
 abbrev pub in_span : Span → ℕ → Bool
@@ -306,9 +313,9 @@ other_edges place (instr.Wait ticks) row = edge (place + 1) row ∷ []
 other_edges place (instr.Goto jump) row = edge jump row ∷ []
 other_edges place _ row = []
 
-abbrev pub edges_of : Board → ℕ → Instr → Row → Option Sent → List Edge
+abbrev pub edges_of : Board → ℕ → Instr → Row → Option Request → List Edge
 edges_of b place i row None = other_edges place i row
-edges_of b place i row (Some s) = sent_edges b place s row
+edges_of b place i row (Some r) = sent_edges b place r row
 
 abbrev pub edges : Board → ℕ → Instr → Row → List Edge
-edges b place i row = edges_of b place i row (sent_in i)
+edges b place i row = edges_of b place i row (request_in i)

@@ -2,10 +2,9 @@ pub mod Sets
 pub mod SetLaws
 pub mod Rows
 pub mod Known
-pub mod Requests
+pub mod Allowing
 pub mod Permitting
 pub mod Duties
-pub mod Headings
 pub mod Tests
 pub mod Touching
 pub mod KnownBytes
@@ -18,6 +17,7 @@ pub mod Effects
 pub mod Ways
 pub mod Mapped
 pub mod Ticks
+pub mod TimedEdges
 pub mod Steps
 pub mod FactLaws
 pub mod Witnesses

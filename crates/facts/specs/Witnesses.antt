@@ -10,7 +10,7 @@ use Rattle.facts.specs.declared.rule.Rule.{Rule}
 use Rattle.facts.specs.declared.source.Source.TheVariants as source
 use Rattle.facts.specs.Sets.{empty}
 use Rattle.facts.specs.Rows.{Row, RowCovers}
-use Rattle.facts.specs.Requests.{sent_in}
+use Rattle.seq_program.specs.Requests.{request_in}
 use Rattle.facts.specs.Duties.{one, Meets}
 use Rattle.facts.specs.Steps.{Stands}
 use Rattle.facts.specs.FactLaws.{Wider}
@@ -37,7 +37,7 @@ pub record SomeMachineStands : Type 0 where
   pub row : Row
   pub machine : Machine
   pub history : List Entry
-  pub sends : IsSome (sent_in instr)
+  pub sends : IsSome (request_in instr)
   pub later : history ≢ []
   pub stands : Stands board program instr row machine history
 
@@ -49,7 +49,7 @@ pub record SomeRowIsWider : Type 0 where
   pub row : Row
   pub is_board : IsBoard board
   pub said : IsInstrOn (length board.targets) instr
-  pub sends : IsSome (sent_in instr)
+  pub sends : IsSome (request_in instr)
   pub wider : Wider board wide row
   pub meets : (rule : Rule) → Meets board wide instr rule
   pub other : RowCovers board row wide → ⊥

@@ -1,19 +1,20 @@
-//! Whether a target allows what an instruction may send.
+//! Whether a target allows what may be sent to it.
 
-ghost use Rattle.std.specs.Prelude.{◌≡◌, ◌+◌, ◌↔◌, length, IsTrue, IfSome, All};
+ghost use Rattle.std.specs.Prelude.{◌≡◌, ◌+◌, ◌↔◌, length, IsTrue, All};
 ghost use Rattle.facts.specs.KnownBytes.{IsKnownByte};
 ghost use Rattle.simulator.specs.Allowed.{IsBlockIn};
 ghost use Rattle.targets.specs.Fitting.{IsIn};
 ghost use Rattle.facts.specs.Rows.{row_view};
-ghost use Rattle.facts.specs.Requests.{sent_in};
-ghost use Rattle.facts.specs.Duties.{written_span, one, IsWithinRange, IsInEntry, IsKnownValue};
+ghost use Rattle.seq_program.specs.RequestViews.{content_view, transaction_view};
+ghost use Rattle.facts.specs.Duties.{written_span, one, IsWithinRange, IsContentIn, LeavesRoom};
+ghost use Rattle.facts.specs.Duties.{IsInEntry, IsKnownValue};
 
 use crate::row::Row;
 use crate::span::Span;
 use board::{Allow, Range, Target, is_page_value};
 use pmbus_table::code::{OPERATION, PAGE, WRITE_PROTECT};
 use pmbus_table::{enables, is_protection};
-use seq_program::{Instr, Written};
+use seq_program::{Content, Transaction, Written};
 
 /// One value.
 pub(crate) fn one(value: u16) -> Span
@@ -60,18 +61,36 @@ fn is_block_in(entry: &Allow, bytes: &[u8]) -> bool
     is_in(entry.length(), bytes.len()) && are_in(entry.values(), bytes)
 }
 
-/// Whether what an instruction writes lies in an entry's ranges.
-pub(crate) fn is_in_entry(instr: &Instr, row: &Row, entry: &Allow) -> bool
+/// Whether what is written lies in an entry's ranges.
+fn is_content_in(row: &Row, entry: &Allow, content: &Content<'_>) -> bool
     ensures { IsTrue result
-        ↔ IfSome (sent_in instr.now) (λ s. IsInEntry (row_view row.now) entry.now s.request) }
+        ↔ IsContentIn (row_view row.now) entry.now (content_view content.now) }
 {
-    match instr {
-        Instr::Write { value, .. } => { is_within_range(entry.values(), written_span(row, *value)) }
-        Instr::BlockWrite { bytes, .. } => is_block_in(entry, bytes.bytes()),
-        Instr::BlockCall { bytes, .. } => {
-            bytes.bytes().len() + usize::from(entry.length().high) <= 255
-        }
+    match content {
+        Content::Value(value) => is_within_range(entry.values(), written_span(row, *value)),
+        Content::Block(bytes) => is_block_in(entry, bytes.bytes()),
+        Content::Nothing => true,
+    }
+}
+
+/// Whether a block that is written leaves room for the longest that is read.
+fn leaves_room(entry: &Allow, content: &Content<'_>) -> bool
+    ensures { IsTrue result ↔ LeavesRoom entry.now (content_view content.now) }
+{
+    match content {
+        Content::Block(bytes) => bytes.bytes().len() + usize::from(entry.length().high) <= 255,
         _ => true,
+    }
+}
+
+/// Whether an entry takes what is written.
+pub(crate) fn is_in_entry(row: &Row, entry: &Allow, transaction: &Transaction<'_>) -> bool
+    ensures { IsTrue result
+        ↔ IsInEntry (row_view row.now) entry.now (transaction_view transaction.now) }
+{
+    match transaction.register {
+        None => is_content_in(row, entry, &transaction.content),
+        Some(_) => leaves_room(entry, &transaction.content),
     }
 }
 
@@ -87,16 +106,12 @@ fn is_known_byte(device: &Target, code: u8, value: u8) -> bool
     }
 }
 
-/// Whether a byte that an instruction writes is one of its command's values.
-pub(crate) fn is_known_value(instr: &Instr, device: &Target) -> bool
-    ensures { IsTrue result ↔ IfSome (sent_in instr.now) (λ s. IsKnownValue device.now s.request) }
+/// Whether a byte that is written is one of its command's values.
+pub(crate) fn is_known_value(device: &Target, transaction: &Transaction<'_>) -> bool
+    ensures { IsTrue result ↔ IsKnownValue device.now (transaction_view transaction.now) }
 {
-    match instr {
-        Instr::Write {
-            command,
-            value: Written::Byte(value),
-            ..
-        } => { is_known_byte(device, command.code(), *value) }
+    match &transaction.content {
+        Content::Value(Written::Byte(value)) => is_known_byte(device, transaction.code(), *value),
         _ => true,
     }
 }

@@ -5,13 +5,11 @@ ghost use Rattle.board.specs.Valid.{IsBoard};
 ghost use Rattle.facts.specs.Rows.{row_view, IsRow};
 ghost use Rattle.facts.specs.Duties.{Meets};
 ghost use Rattle.facts.specs.Edges.{edges};
-ghost use Rattle.facts.specs.Ticks.{worst_ticks};
-ghost use Rattle.facts.specs.Ways.{way_list, ways_list, timed, timed_view};
+ghost use Rattle.facts.specs.TimedEdges.{timed, timed_edges};
+ghost use Rattle.facts.specs.Ways.{way_list, ways_list, timed_view};
 ghost use Rattle.facts.specs.declared.rule.Rule.TheVariants.{K1};
 
-use crate::effect::effect_of;
 use crate::going_on::other_ways;
-use crate::heading::heading_of;
 use crate::row::Row;
 use crate::sending::sent_ways;
 use crate::ticks::worst_ticks;
@@ -28,8 +26,8 @@ fn ways(board: &Board, place: usize, instr: &Instr, row: &Row) -> Result<Ways, A
     requires met { Meets board.now (row_view row.now) instr.now K1 }
     ensures { IfOk result (λ w. ways_list w ≡ edges board.now place instr.now (row_view row.now)) }
 {
-    match heading_of(instr) {
-        Some(heading) => sent_ways(board, row, &heading, &effect_of(instr), place + 1),
+    match instr.request() {
+        Some(request) => sent_ways(board, row, &request, place),
         None => other_ways(place, instr, row),
     }
 }
@@ -70,14 +68,13 @@ fn instr_edges(
     requires row { IsRow board.now (row_view row.now) }
     requires met { Meets board.now (row_view row.now) instr.now K1 }
     ensures { IfOk result (λ es. map timed_view es.items
-        ≡ timed (worst_ticks board.now instr.now)
-        (edges board.now place instr.now (row_view row.now))) }
+        ≡ timed_edges board.now place instr.now (row_view row.now)) }
 {
     let ways = ways(board, place, instr, row)?;
     listed(alloc, ways, worst_ticks(board, instr))
 }
 
-/// Where a place's instruction may lead, the row there, and the most ticks on the way. The
+/// Where a place's instruction may lead, the row there, and the most ticks on that way. The
 /// instruction meets its first duty at the row. A place that the program hasn't leads nowhere.
 /// Fails only for want of memory.
 pub fn edges(
@@ -92,7 +89,7 @@ pub fn edges(
         (λ i. Meets board.now (row_view row.now) i K1) }
     ensures leads { IfOk result (λ es. IfSome (slice_get program.now place)
         (λ i. map timed_view es.items
-        ≡ timed (worst_ticks board.now i) (edges board.now place i (row_view row.now)))) }
+        ≡ timed_edges board.now place i (row_view row.now))) }
     ensures nowhere { slice_get program.now place ≡ None → IfOk result (λ es. es.items ≡ []) }
 {
     board_is_valid(board);

@@ -1,14 +1,16 @@
 //! What a message does to what is known.
 
-ghost use Rattle.std.specs.Prelude.{◌≡◌, IfSome};
-ghost use Rattle.facts.specs.Requests.{sent_in};
-ghost use Rattle.facts.specs.Edges.{written_effect, byte_effect, word_effect};
-ghost use Rattle.facts.specs.Effects.{effect_view, IsEffectOf, IsKindOf, IsOfKind};
+ghost use Rattle.std.specs.Prelude.{◌≡◌};
+ghost use Rattle.seq_program.specs.RequestViews.{transaction_view};
+ghost use Rattle.facts.specs.Edges.{written_effect, byte_effect, word_effect, read_effect};
+ghost use Rattle.facts.specs.Edges.{effect_of};
+ghost use Rattle.facts.specs.Effects.{effect_view, IsKindOf, IsOfKind};
 ghost use Rattle.facts.specs.Effects.{IsOfKinds};
 
 use pmbus_table::code::{OPERATION, PAGE, STATUS_WORD, WRITE_PROTECT};
 use pmbus_table::enables;
-use seq_program::{Instr, Register, Width, Written};
+use seq_program::{Content, Register, Transaction, Written};
+use smbus::Form;
 
 /// What a message does to what is known.
 #[derive(Clone, Copy)]
@@ -65,33 +67,29 @@ fn word_effect(code: u8, register: Register) -> Effect
     }
 }
 
-/// Of what an instruction sends to a target.
-pub(crate) fn effect_of(instr: &Instr) -> Effect
-    ensures effect { IsEffectOf (sent_in instr.now) result }
-    ensures kind { IfSome (sent_in instr.now) (λ s. IsOfKinds s.request) → IsOfKind result }
+/// Of what is read in a form.
+fn read_effect(form: Form, code: u8, register: Register) -> Effect
+    ensures effect { effect_view result ≡ read_effect form code register }
+    ensures kind { IsOfKind result }
 {
-    match instr {
-        Instr::Write {
-            command,
-            value: Written::Byte(value),
-            ..
-        } => written_effect(command.code(), *value),
-        Instr::Read {
-            command,
-            width: Width::Byte,
-            register,
-            ..
-        } => byte_effect(command.code(), *register),
-        Instr::Read {
-            command,
-            width: Width::Word,
-            register,
-            ..
-        } => word_effect(command.code(), *register),
-        Instr::Receive { register, .. } => Effect::Loads(*register),
-        Instr::Call { register, .. } => Effect::Loads(*register),
-        Instr::BlockRead { register, .. } => Effect::Loads(*register),
-        Instr::BlockCall { register, .. } => Effect::Loads(*register),
+    match form {
+        Form::ReadByte => byte_effect(code, register),
+        Form::ReadWord => word_effect(code, register),
+        _ => Effect::Loads(register),
+    }
+}
+
+/// Of a message.
+pub(crate) fn effect_of(transaction: &Transaction<'_>) -> Effect
+    ensures effect { effect_view result ≡ effect_of (transaction_view transaction.now) }
+    ensures kind { IsOfKinds (transaction_view transaction.now) → IsOfKind result }
+{
+    let code = transaction.code();
+    if let Some(register) = transaction.register {
+        return read_effect(transaction.form, code, register);
+    }
+    match &transaction.content {
+        Content::Value(Written::Byte(value)) => written_effect(code, *value),
         _ => Effect::Nothing,
     }
 }

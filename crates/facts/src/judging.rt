@@ -6,19 +6,21 @@ ghost use Rattle.pmbus_table.specs.Commands.{form_read, is_paged, counts_as_writ
 ghost use Rattle.pmbus_table.specs.Protect.{permits};
 ghost use Rattle.facts.specs.Duties.{may_select, IsWithinLimits};
 ghost use Rattle.pmbus_table.specs.Voltage.{carries_voltage};
-ghost use Rattle.facts.specs.Duties.{CommandsWithinLimits, Meets, duties, IsFirstFailing};
-ghost use Rattle.facts.specs.Headings.{IsHeadingOf, IsTaken, ReadsOnePageAt, IsUnprotectedAt};
-ghost use Rattle.facts.specs.Headings.{AreNeedsGood};
-ghost use Rattle.facts.specs.Requests.{sent_in, Write};
+ghost use Rattle.facts.specs.Duties.{IsInEntry, IsKnownValue, MayBeSent, ReadsOnePage};
+ghost use Rattle.smbus.specs.FormWords.{carries_code};
+ghost use Rattle.facts.specs.Duties.{IsUnprotected, SetsWithinLimits, CommandsWithinLimits};
+ghost use Rattle.facts.specs.Duties.{AreNeedsGood, HasNeeds, duties, IsFirstFailing};
+ghost use Rattle.seq_program.specs.Requests.{Value};
+ghost use Rattle.seq_program.specs.RequestViews.{transaction_view};
 ghost use Rattle.facts.specs.Rows.{row_view};
 ghost use Rattle.facts.specs.declared.rule.Rule.TheVariants.{K1, K2, K3, K4, K5};
 ghost use Rattle.facts.specs.Touching.{touches_in, IsWithinLimit, HasGoodNeeds};
 ghost use Rattle.facts.specs.Permitting.{FourPermit};
-ghost use Rattle.facts.specs.Sets.{all_pages, pages_in, protects_in, rails_in};
+ghost use Rattle.pmbus_table.specs.Codes.{all_pages};
+ghost use Rattle.facts.specs.Sets.{pages_in, protects_in, rails_in};
 
 use crate::allowing::{is_in_entry, is_known_value, written_span};
 use crate::good_set::GoodSet;
-use crate::heading::{Heading, code_of, heading_of};
 use crate::page_set::PageSet;
 use crate::parts::{pages_at, protects_at};
 use crate::protect_set::ProtectSet;
@@ -26,13 +28,10 @@ use crate::row::Row;
 use crate::rule::Rule;
 use crate::span::Span;
 use board::{Allow, Board, Rail, Target};
-use pmbus_table::code::OPERATION;
+use pmbus_table::code::{ALL_PAGES, OPERATION};
 use pmbus_table::{Command, carries_voltage, enables, permits, within};
-use seq_program::{Instr, Written};
+use seq_program::{Content, Instr, Transaction, Written};
 use smbus::Form;
-
-/// PAGE's value that stands for all pages.
-const ALL_PAGES: u8 = 0xFF;
 
 /// Whether a paged command isn't read while PAGE may stand for all pages.
 fn reads_one_page(pages: PageSet, command: Command, form: Form) -> bool
@@ -171,48 +170,48 @@ fn has_needs(board: &Board, pages: PageSet, target: usize, good: GoodSet) -> boo
         .all(|rail| has_good_needs(pages, target, good, rail))
 }
 
-/// Whether what an instruction writes lies in an entry's ranges, and is one of its command's
-/// values.
-fn is_taken(instr: &Instr, row: &Row, device: &Target, entry: &Allow) -> bool
-    ensures { IsTrue result ↔ IsTaken (row_view row.now) device.now entry.now (sent_in instr.now) }
+/// Whether an entry takes what is written, and it is one of its command's values.
+fn is_taken(row: &Row, device: &Target, entry: &Allow, transaction: &Transaction<'_>) -> bool
+    ensures { IsTrue result
+        ↔ (IsInEntry (row_view row.now) entry.now (transaction_view transaction.now)
+        × IsKnownValue device.now (transaction_view transaction.now)) }
 {
-    is_in_entry(instr, row, entry) && is_known_value(instr, device)
+    is_in_entry(row, entry, transaction) && is_known_value(device, transaction)
 }
 
 /// Whether a target allows the message, with every value that it may carry.
-fn may_be_sent(board: &Board, instr: &Instr, row: &Row, heading: &Heading) -> bool
-    requires { IsHeadingOf instr.now heading.now }
-    ensures { IsTrue result ↔ Meets board.now (row_view row.now) instr.now K1 }
+fn may_be_sent(board: &Board, row: &Row, target: usize, transaction: &Transaction<'_>) -> bool
+    ensures { IsTrue result
+        ↔ MayBeSent board.now (row_view row.now) target (transaction_view transaction.now) }
 {
-    let Some(device) = board.target(heading.target) else {
+    let Some(device) = board.target(target) else {
         return false;
     };
-    let Some(entry) = device.entry(heading.form, code_of(heading)) else {
+    let Some(entry) = device.entry(transaction.form, transaction.code()) else {
         return false;
     };
-    is_taken(instr, row, device, entry)
+    is_taken(row, device, entry, transaction)
 }
 
 /// Whether a paged command isn't read while PAGE may stand for all pages.
-fn is_read_at_one_page(row: &Row, heading: &Heading) -> bool
+fn is_read_at_one_page(row: &Row, target: usize, transaction: &Transaction<'_>) -> bool
     ensures { IsTrue result
-        ↔ IfSome heading.now.command
-        (λ code. ReadsOnePageAt (row_view row.now) heading.now.target code heading.now.form) }
+        ↔ ReadsOnePage (row_view row.now) target (transaction_view transaction.now) }
 {
-    match heading.command {
-        Some(command) => { reads_one_page(pages_at(row, heading.target), command, heading.form) }
+    match transaction.command {
+        Some(command) => reads_one_page(pages_at(row, target), command, transaction.form),
         None => true,
     }
 }
 
 /// Whether every protection that may be stored permits the write.
-fn is_permitted(row: &Row, heading: &Heading) -> bool
+fn is_permitted(row: &Row, target: usize, transaction: &Transaction<'_>) -> bool
+    requires { transaction.now.command ≡ None → carries_code transaction.now.form ≡ false }
     ensures { IsTrue result
-        ↔ IfSome heading.now.command
-        (λ code. IsUnprotectedAt (row_view row.now) heading.now.target code heading.now.form) }
+        ↔ IsUnprotected (row_view row.now) target (transaction_view transaction.now) }
 {
-    match heading.command {
-        Some(command) => { is_unprotected(protects_at(row, heading.target), command, heading.form) }
+    match transaction.command {
+        Some(command) => is_unprotected(protects_at(row, target), command, transaction.form),
         None => true,
     }
 }
@@ -235,11 +234,11 @@ fn keeps_order(board: &Board, row: &Row, target: usize) -> bool
 }
 
 /// Whether these values, if the command sets a voltage, are within the limits.
-fn may_set(board: &Board, row: &Row, target: usize, command: Command, values: Span) -> bool
-    ensures { IsTrue result ↔ (IsTrue (carries_voltage command)
+fn may_set(board: &Board, row: &Row, target: usize, code: u8, values: Span) -> bool
+    ensures { IsTrue result ↔ (IsTrue (carries_voltage code)
         → IsWithinLimits board.now (row_view row.now) target values) }
 {
-    if carries_voltage(command.code()) {
+    if carries_voltage(code) {
         keeps_limits(board, row, target, values)
     } else {
         true
@@ -247,51 +246,47 @@ fn may_set(board: &Board, row: &Row, target: usize, command: Command, values: Sp
 }
 
 /// Whether a voltage that is written is within the limits.
-fn writes_within_limits(
-    board: &Board,
-    row: &Row,
-    target: usize,
-    command: Command,
-    value: &Written,
-) -> bool
+fn writes_within_limits(board: &Board, row: &Row, target: usize, code: u8, value: &Written) -> bool
     ensures { IsTrue result
-        ↔ CommandsWithinLimits board.now (row_view row.now) target (Write command value.now) }
+        ↔ SetsWithinLimits board.now (row_view row.now) target code (Value value.now) }
 {
     match value {
         Written::Byte(_) => true,
-        Written::Word(_) => { may_set(board, row, target, command, written_span(row, *value)) }
-        Written::Register(_) => { may_set(board, row, target, command, written_span(row, *value)) }
+        Written::Word(_) => may_set(board, row, target, code, written_span(row, *value)),
+        Written::Register(_) => may_set(board, row, target, code, written_span(row, *value)),
     }
 }
 
-/// Whether a voltage that is commanded is within the limits.
-fn commands_within_limits(board: &Board, instr: &Instr, row: &Row) -> bool
-    ensures { IsTrue result ↔ Meets board.now (row_view row.now) instr.now K4 }
+/// Whether a voltage that is commanded is within the limits. A message that reads commands none.
+fn commands_within_limits(
+    board: &Board,
+    row: &Row,
+    target: usize,
+    transaction: &Transaction<'_>,
+) -> bool
+    ensures { IsTrue result ↔ CommandsWithinLimits board.now (row_view row.now) target
+        (transaction_view transaction.now) }
 {
-    match instr {
-        Instr::Write {
-            target,
-            command,
-            value,
-            ..
-        } => writes_within_limits(board, row, *target, *command, value),
+    if transaction.register.is_some() {
+        return true;
+    }
+    match &transaction.content {
+        Content::Value(value) => {
+            writes_within_limits(board, row, target, transaction.code(), value)
+        }
         _ => true,
     }
 }
 
 /// Whether what a rail needs is good, where the rail is turned on.
-fn turns_on_in_order(board: &Board, instr: &Instr, row: &Row) -> bool
-    ensures { IsTrue result ↔ Meets board.now (row_view row.now) instr.now K5 }
+fn turns_on_in_order(board: &Board, row: &Row, target: usize, transaction: &Transaction<'_>) -> bool
+    ensures { IsTrue result
+        ↔ HasNeeds board.now (row_view row.now) target (transaction_view transaction.now) }
 {
-    match instr {
-        Instr::Write {
-            target,
-            command,
-            value: Written::Byte(value),
-            ..
-        } => {
-            if command.code() == OPERATION && enables(*value) {
-                keeps_order(board, row, *target)
+    match &transaction.content {
+        Content::Value(Written::Byte(value)) => {
+            if transaction.code() == OPERATION && enables(*value) {
+                keeps_order(board, row, target)
             } else {
                 true
             }
@@ -325,14 +320,16 @@ fn first_failing(first: bool, second: bool, third: bool, fourth: bool, fifth: bo
 pub fn duty(board: &Board, instr: &Instr, row: &Row) -> Option<Rule>
     ensures { IsFirstFailing board.now (row_view row.now) instr.now duties result }
 {
-    let Some(heading) = heading_of(instr) else {
+    let Some(request) = instr.request() else {
         return None;
     };
+    let target = request.target;
+    let transaction = &request.transaction;
     first_failing(
-        may_be_sent(board, instr, row, &heading),
-        is_read_at_one_page(row, &heading),
-        is_permitted(row, &heading),
-        commands_within_limits(board, instr, row),
-        turns_on_in_order(board, instr, row),
+        may_be_sent(board, row, target, transaction),
+        is_read_at_one_page(row, target, transaction),
+        is_permitted(row, target, transaction),
+        commands_within_limits(board, row, target, transaction),
+        turns_on_in_order(board, row, target, transaction),
     )
 }

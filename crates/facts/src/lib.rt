@@ -11,7 +11,6 @@ mod edging;
 mod effect;
 mod going_on;
 mod good_set;
-mod heading;
 mod judging;
 mod law;
 mod learning;

@@ -1,15 +1,15 @@
 //! How long an instruction takes at most.
 
-ghost use Rattle.std.specs.Prelude.{◌≡◌, ◌+◌, ◌*◌, ℕ, option_map, unwrap_or};
-ghost use Rattle.smbus.specs.SlotCounts.{most_slots};
+ghost use Rattle.std.specs.Prelude.{◌≡◌, ◌+◌, ◌*◌, ℕ};
 ghost use Rattle.board.specs.Boards.{largest_stretch};
-ghost use Rattle.facts.specs.Requests.{sent_in, block_count};
-ghost use Rattle.facts.specs.Headings.{IsHeadingOf, longest_read};
-ghost use Rattle.facts.specs.Ticks.{frame_ticks, other_ticks, worst_ticks};
+ghost use Rattle.board.specs.declared.entry.Range.{Range};
+ghost use Rattle.seq_program.specs.Requests.{block_count};
+ghost use Rattle.seq_program.specs.RequestViews.{content_view, transaction_view, request_view};
+ghost use Rattle.facts.specs.Allowing.{lengths_at};
+ghost use Rattle.facts.specs.Ticks.{frame_ticks, longest_slots, other_ticks, worst_ticks};
 
-use crate::heading::{Heading, code_of, heading_of};
 use board::{Board, full_length};
-use seq_program::Instr;
+use seq_program::{Content, Instr, Request, Transaction};
 use smbus::{Form, most_slots};
 
 /// The ticks of a message of so many slots.
@@ -20,23 +20,22 @@ fn frame_ticks(board: &Board, slots: u32) -> u64
     2 + u64::from(slots) * (3 + u64::from(board.largest_stretch()))
 }
 
-/// How many bytes of a block an instruction writes.
-fn block_count(instr: &Instr) -> u16
-    ensures { result
-        ≡ unwrap_or (option_map (λ s. block_count s.request) (sent_in instr.now)) 0 }
+/// How many bytes of a block are written.
+fn block_count(content: &Content<'_>) -> u16
+    ensures { result ≡ block_count (content_view content.now) }
 {
-    match instr {
-        Instr::BlockWrite { bytes, .. } => bytes.bytes().len() as u16,
-        Instr::BlockCall { bytes, .. } => bytes.bytes().len() as u16,
+    match content {
+        Content::Block(bytes) => bytes.bytes().len() as u16,
         _ => 0,
     }
 }
 
 /// How many bytes of a block may be read.
-fn longest_block(board: &Board, heading: &Heading) -> u16
-    ensures { result ≡ longest_read board.now heading.now }
+fn longest_block(board: &Board, target: usize, transaction: &Transaction<'_>) -> u16
+    ensures { result
+        ≡ Range.high (lengths_at board.now target (transaction_view transaction.now)) }
 {
-    match board.entry_at(heading.target, heading.form, code_of(heading)) {
+    match board.entry_at(target, transaction.form, transaction.code()) {
         Some(entry) => entry.length().high,
         None => full_length().high,
     }
@@ -53,22 +52,22 @@ fn other_ticks(board: &Board, instr: &Instr) -> u64
     }
 }
 
-/// The ticks of a message.
-fn sent_ticks(board: &Board, instr: &Instr, heading: &Heading) -> u64
-    requires { IsHeadingOf instr.now heading.now }
-    ensures { result ≡ worst_ticks board.now instr.now }
+/// The ticks of a request.
+fn sent_ticks(board: &Board, request: &Request<'_>) -> u64
+    ensures { result ≡ frame_ticks board.now (longest_slots board.now (request_view request.now)) }
 {
-    let sent = block_count(instr);
-    let read = longest_block(board, heading);
-    frame_ticks(board, most_slots(heading.form, sent, read))
+    let transaction = &request.transaction;
+    let sent = block_count(&transaction.content);
+    let read = longest_block(board, request.target, transaction);
+    frame_ticks(board, most_slots(transaction.form, sent, read))
 }
 
 /// The most ticks that an instruction takes.
 pub fn worst_ticks(board: &Board, instr: &Instr) -> u64
     ensures { result ≡ worst_ticks board.now instr.now }
 {
-    match heading_of(instr) {
-        Some(heading) => sent_ticks(board, instr, &heading),
+    match instr.request() {
+        Some(request) => sent_ticks(board, &request),
         None => other_ticks(board, instr),
     }
 }

@@ -4,7 +4,8 @@ use Rattle.board.specs.Boards.{Board}
 use Rattle.board.specs.Valid.{IsBoard}
 use Rattle.seq_program.specs.declared.instr.Instr.{Instr}
 use Rattle.seq_program.specs.Programs.{program_of}
-use Rattle.seq_program.specs.Valid.{target_in, IsOnBoard, IsProgram}
+use Rattle.seq_program.specs.Requests.{target_in}
+use Rattle.seq_program.specs.Valid.{IsOnBoard, IsProgram}
 use Rattle.seq_program.specs.Printed.{printed}
 
 -- reading the printed text of a board's program gives the program

@@ -1,63 +1,29 @@
 -- What every instruction and every program keeps to, whatever text it was read from.
-use Rattle.std.specs.Prelude.{◌≡◌, ◌≤◌, ◌<◌, ◌-◌, ℕ, List, length, slice_get, Option, Some, None}
+use Rattle.std.specs.Prelude.{◌≡◌, ◌≤◌, ◌<◌, ◌-◌, ℕ, List, length, slice_get, Option, Some}
 use Rattle.std.specs.Prelude.{IfSome, IsTrue, All}
 use Rattle.std.specs.List.{AllByRecursion}
-use Rattle.smbus.specs.declared.message.Form.{Form}
 use Rattle.smbus.specs.declared.message.Form.TheVariants as form
 use Rattle.pmbus_table.specs.Commands.{takes_form}
 use Rattle.pmbus_table.specs.Voltage.{carries_voltage}
 use Rattle.seq_program.specs.declared.instr.Instr.{Instr}
 use Rattle.seq_program.specs.declared.instr.Instr.TheVariants as instr
-use Rattle.seq_program.specs.declared.instr.Width.{Width}
-use Rattle.seq_program.specs.declared.instr.Width.TheVariants as width
 use Rattle.seq_program.specs.declared.instr.Written.{Written}
 use Rattle.seq_program.specs.declared.instr.Written.TheVariants as written
 use Rattle.seq_program.specs.Programs.{is_end}
-
--- the target that an instruction sends to
-abbrev pub target_in : Instr → Option ℕ
-target_in (instr.Quick target read otherwise) = Some target
-target_in (instr.Send target command otherwise) = Some target
-target_in (instr.Receive target register otherwise) = Some target
-target_in (instr.Write target command value otherwise) = Some target
-target_in (instr.Read target command size register otherwise) = Some target
-target_in (instr.Call target command value register otherwise) = Some target
-target_in (instr.BlockWrite target command bytes otherwise) = Some target
-target_in (instr.BlockRead target command register otherwise) = Some target
-target_in (instr.BlockCall target command bytes register otherwise) = Some target
-target_in _ = None
+use Rattle.seq_program.specs.Requests.{target_in, else_in, read_form}
 
 -- where it may jump to
 abbrev pub jump_in : Instr → Option ℕ
-jump_in (instr.Quick target read otherwise) = Some otherwise
-jump_in (instr.Send target command otherwise) = Some otherwise
-jump_in (instr.Receive target register otherwise) = Some otherwise
-jump_in (instr.Write target command value otherwise) = Some otherwise
-jump_in (instr.Read target command size register otherwise) = Some otherwise
-jump_in (instr.Call target command value register otherwise) = Some otherwise
-jump_in (instr.BlockWrite target command bytes otherwise) = Some otherwise
-jump_in (instr.BlockRead target command register otherwise) = Some otherwise
-jump_in (instr.BlockCall target command bytes register otherwise) = Some otherwise
-jump_in (instr.Alert register otherwise) = Some otherwise
 jump_in (instr.IfAlert jump) = Some jump
 jump_in (instr.If register mask value jump) = Some jump
 jump_in (instr.Above register value jump) = Some jump
 jump_in (instr.Again counter jump) = Some jump
 jump_in (instr.Goto jump) = Some jump
-jump_in _ = None
+jump_in i = else_in i
 
 -- it jumps nowhere but to this place
 abbrev pub JumpsTo : ℕ → Instr → Type 0
 JumpsTo place i = IfSome (jump_in i) (λ p. p ≡ place)
-
--- the forms that write and read so much
-abbrev pub written_form : Width → Form
-written_form width.Byte = form.WriteByte
-written_form width.Word = form.WriteWord
-
-abbrev pub read_form : Width → Form
-read_form width.Byte = form.ReadByte
-read_form width.Word = form.ReadWord
 
 -- a register is written as a word, to a command that sets a voltage
 abbrev pub IsWritten : ℕ → Written → Type 0

@@ -11,22 +11,12 @@ impl Instr {
         ensures { result ≡ jump_in self.now }
     {
         match self {
-            Instr::Quick { otherwise, .. }
-            | Instr::Send { otherwise, .. }
-            | Instr::Receive { otherwise, .. }
-            | Instr::Write { otherwise, .. }
-            | Instr::Read { otherwise, .. }
-            | Instr::Call { otherwise, .. }
-            | Instr::BlockWrite { otherwise, .. }
-            | Instr::BlockRead { otherwise, .. }
-            | Instr::BlockCall { otherwise, .. }
-            | Instr::Alert { otherwise, .. } => Some(*otherwise),
             Instr::IfAlert { jump }
             | Instr::If { jump, .. }
             | Instr::Above { jump, .. }
             | Instr::Again { jump, .. }
             | Instr::Goto { jump } => Some(*jump),
-            _ => None,
+            _ => self.otherwise(),
         }
     }
 }

@@ -2,11 +2,13 @@
 
 ghost use Rattle.std.specs.Prelude.{◌≡◌, ◌≢◌, ◌≤◌, IfOk, IfSome, option_map, slice_get};
 ghost use Rattle.smbus.specs.declared.message.Form.TheVariants.{Alert};
-ghost use Rattle.seq_program.specs.Valid.{read_form};
-ghost use Rattle.seq_program.specs.Messages.{low_byte_first, form_of, data_of, message_to};
+ghost use Rattle.seq_program.specs.Requests.{low_byte_first, data_of, bytes_in};
+ghost use Rattle.seq_program.specs.RequestViews.{content_view, request_view};
+ghost use Rattle.seq_program.specs.Messages.{message_to, message_for, other_message};
 ghost use Rattle.seq_program.specs.Messages.{message_of};
 
-use crate::instr::{Instr, Width, Written};
+use crate::instr::{Instr, Written};
+use crate::request::{Content, Request};
 use board::{Board, board_is_valid};
 use smbus::{Form, Message};
 use std::alloc::{AllocError, Global};
@@ -21,27 +23,7 @@ fn low_byte_first(alloc: Global, word: u16) -> Result<Vec<u8>, AllocError>
     Ok(bytes)
 }
 
-fn form_of(value: Written) -> Form
-    ensures value { result ≡ form_of value }
-    ensures target { result ≢ Alert }
-{
-    match value {
-        Written::Byte(_) => Form::WriteByte,
-        Written::Word(_) | Written::Register(_) => Form::WriteWord,
-    }
-}
-
-fn read_form(width: Width) -> Form
-    ensures value { result ≡ read_form width }
-    ensures target { result ≢ Alert }
-{
-    match width {
-        Width::Byte => Form::ReadByte,
-        Width::Word => Form::ReadWord,
-    }
-}
-
-/// The data bytes of what is written.
+/// The data bytes of a value.
 fn data_of(alloc: Global, registers: &[u16; 8], value: Written) -> Result<Vec<u8>, AllocError>
     ensures { IfOk result (λ bytes. bytes.items ≡ data_of registers.now value) }
 {
@@ -53,6 +35,22 @@ fn data_of(alloc: Global, registers: &[u16; 8], value: Written) -> Result<Vec<u8
         }
         Written::Word(word) => low_byte_first(alloc, word),
         Written::Register(register) => low_byte_first(alloc, registers[register.index()]),
+    }
+}
+
+/// The data bytes of what is written.
+fn bytes_in(
+    alloc: Global,
+    registers: &[u16; 8],
+    content: &Content<'_>,
+) -> Result<Vec<u8>, AllocError>
+    ensures { IfOk result
+        (λ bytes. bytes.items ≡ bytes_in registers.now (content_view content.now)) }
+{
+    match content {
+        Content::Nothing => Ok(Vec::new(alloc)),
+        Content::Value(value) => data_of(alloc, registers, *value),
+        Content::Block(block) => Ok(block.copied()?.bytes),
     }
 }
 
@@ -79,6 +77,43 @@ fn message_to(board: &Board, target: usize, form: Form, code: u8, out: Vec<u8>) 
     })
 }
 
+/// The message of a request, if the board has its target.
+fn message_for(
+    alloc: Global,
+    board: &Board,
+    registers: &[u16; 8],
+    request: &Request<'_>,
+) -> Result<Option<Message>, AllocError>
+    requires { request.now.transaction.form ≢ Alert }
+    ensures { IfOk result
+        (λ m. m ≡ message_for board.now registers.now (request_view request.now)) }
+{
+    let transaction = &request.transaction;
+    let out = bytes_in(alloc, registers, &transaction.content)?;
+    Ok(message_to(
+        board,
+        request.target,
+        transaction.form,
+        transaction.code(),
+        out,
+    ))
+}
+
+/// The message of an instruction that asks no target for anything.
+fn other_message(alloc: Global, instr: &Instr) -> Option<Message>
+    ensures { result ≡ other_message instr.now }
+{
+    match instr {
+        Instr::Alert { .. } => Some(Message {
+            address: 0x0C,
+            form: Form::Alert,
+            code: 0,
+            out: Vec::new(alloc),
+        }),
+        _ => None,
+    }
+}
+
 /// The message that an instruction sends to a target of the board, where the registers hold these
 /// words; `None` for an instruction that sends nothing, and for a target that the board hasn't.
 /// Memory is answered where a growth was refused.
@@ -90,77 +125,8 @@ pub fn message_of(
 ) -> Result<Option<Message>, AllocError>
     ensures { IfOk result (λ m. m ≡ message_of board.now instr.now registers.now) }
 {
-    let none = Vec::new(alloc);
-    Ok(match instr {
-        Instr::Quick { target, read, .. } => message_to(
-            board,
-            *target,
-            Form::Quick(*read),
-            0,
-            none,
-        ),
-        Instr::Send {
-            target,
-            command,
-            ..
-        } => { message_to(board, *target, Form::SendByte, command.code(), none) }
-        Instr::Receive { target, .. } => message_to(board, *target, Form::ReceiveByte, 0, none),
-        Instr::Write {
-            target,
-            command,
-            value,
-            ..
-        } => {
-            let out = data_of(alloc, registers, *value)?;
-            message_to(board, *target, form_of(*value), command.code(), out)
-        }
-        Instr::Read {
-            target,
-            command,
-            width,
-            ..
-        } => message_to(board, *target, read_form(*width), command.code(), none),
-        Instr::Call {
-            target,
-            command,
-            value,
-            ..
-        } => {
-            let out = low_byte_first(alloc, *value)?;
-            message_to(board, *target, Form::ProcessCall, command.code(), out)
-        }
-        Instr::BlockWrite {
-            target,
-            command,
-            bytes,
-            ..
-        } => message_to(
-            board,
-            *target,
-            Form::BlockWrite,
-            command.code(),
-            bytes.copied()?.bytes,
-        ),
-        Instr::BlockRead {
-            target,
-            command,
-            ..
-        } => message_to(board, *target, Form::BlockRead, command.code(), none),
-        Instr::BlockCall {
-            target,
-            command,
-            bytes,
-            ..
-        } => {
-            let out = bytes.copied()?.bytes;
-            message_to(board, *target, Form::BlockProcessCall, command.code(), out)
-        }
-        Instr::Alert { .. } => Some(Message {
-            address: 0x0C,
-            form: Form::Alert,
-            code: 0,
-            out: none,
-        }),
-        _ => None,
-    })
+    match instr.request() {
+        Some(request) => message_for(alloc, board, registers, &request),
+        None => Ok(other_message(alloc, instr)),
+    }
 }

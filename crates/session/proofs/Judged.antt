@@ -14,7 +14,7 @@ use Rattle.simulator.specs.StepLaws.{StepIsSeen}
 use Rattle.facts.specs.declared.rule.Rule.{Rule}
 use Rattle.facts.specs.declared.rule.Rule.TheVariants.{K1, K2, K3, K4, K5}
 use Rattle.facts.specs.Duties.{IsFirstFailing, Meets, MeetsSent, duties}
-use Rattle.facts.specs.Requests.{Sent, sent_in}
+use Rattle.seq_program.specs.Requests.{Request, request_in}
 use Rattle.facts.specs.Rows.{Row}
 use Rattle.facts.specs.Sets.{Set, empty}
 use Rattle.session.specs.Known.{Knows}
@@ -95,19 +95,19 @@ after_silence b p m next a e i history good seen here is known = record {
         (record { word = k.word; last = by d k.word k.last; good = k.good })
 
 -- an instruction that sends nothing breaks no rule
-pub silent : (b : Board) (row : Row) (i : Instr) → sent_in i ≡ None
+pub silent : (b : Board) (row : Row) (i : Instr) → request_in i ≡ None
     → IsFirstFailing b row i duties None
 silent b row i nothing =
-    let met : (rule : Rule) → Meets b row i rule = λ rule. free rule (sent_in i) nothing in
+    let met : (rule : Rule) → Meets b row i rule = λ rule. free rule (request_in i) nothing in
     inl (met K1, inl (met K2, inl (met K3, inl (met K4, inl (met K5, refl)))))
   where
-    free : (rule : Rule) (o : Option Sent) → o ≡ None → MeetsSent b row o rule
+    free : (rule : Rule) (o : Option Request) → o ≡ None → MeetsSent b row o rule
     free rule None is = tt
     free rule (Some s) is = cc is
 
 -- the same of the instruction at a place
 pub silent_at : (b : Board) (p : List Instr) (place : ℕ) (i j : Instr) (row : Row)
-    → slice_get p place ≡ Some i → slice_get p place ≡ Some j → sent_in i ≡ None
+    → slice_get p place ≡ Some i → slice_get p place ≡ Some j → request_in i ≡ None
     → IsFirstFailing b row j duties None
 silent_at b p place i j row x y quiet =
     subst (λ z. IsFirstFailing b row z duties None) (same_instr p place i j x y)

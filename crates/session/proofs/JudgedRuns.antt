@@ -20,7 +20,7 @@ use Rattle.simulator.specs.Steps.{IsStep}
 use Rattle.facts.specs.declared.rule.Rule.{Rule}
 use Rattle.facts.specs.declared.rule.Rule.TheVariants.{K1, K2, K3, K4, K5, K6, K7, K8, K9}
 use Rattle.facts.specs.Duties.{Meets, MeetsSent, IsFirstFailing, duties}
-use Rattle.facts.specs.Requests.{Sent, sent_in}
+use Rattle.seq_program.specs.Requests.{Request, request_in}
 use Rattle.facts.specs.Rows.{Row}
 use Rattle.facts.specs.Sets.{Set}
 use Rattle.session.specs.declared.scenario.Scenario.{Scenario}
@@ -79,7 +79,7 @@ none_fails b row i (rule ∷ rules) (inl k) = (k.0, none_fails b row i rules k.1
 none_fails b row i (rule ∷ rules) (inr k) = cc (k.1)
 
 -- the rules of tables ask nothing of an instruction
-rules_of_tables : (b : Board) (row : Row) (o : Option Sent)
+rules_of_tables : (b : Board) (row : Row) (o : Option Request)
     → MeetsSent b row o K6 × MeetsSent b row o K7 × MeetsSent b row o K8 × MeetsSent b row o K9
 rules_of_tables b row None = (tt, tt, tt, tt)
 rules_of_tables b row (Some s) = (tt, tt, tt, tt)
@@ -91,10 +91,10 @@ all_met b row i none K2 = (none_fails b row i duties none).1.0
 all_met b row i none K3 = (none_fails b row i duties none).1.1.0
 all_met b row i none K4 = (none_fails b row i duties none).1.1.1.0
 all_met b row i none K5 = (none_fails b row i duties none).1.1.1.1.0
-all_met b row i none K6 = (rules_of_tables b row (sent_in i)).0
-all_met b row i none K7 = (rules_of_tables b row (sent_in i)).1
-all_met b row i none K8 = (rules_of_tables b row (sent_in i)).2
-all_met b row i none K9 = (rules_of_tables b row (sent_in i)).3
+all_met b row i none K6 = (rules_of_tables b row (request_in i)).0
+all_met b row i none K7 = (rules_of_tables b row (request_in i)).1
+all_met b row i none K8 = (rules_of_tables b row (request_in i)).2
+all_met b row i none K9 = (rules_of_tables b row (request_in i)).3
 
 -- what is told of a machine's instruction, if it runs
 abbrev pub IsTold : Scenario → Machine → Set → Option Rule → Type 0

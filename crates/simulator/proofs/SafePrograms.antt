@@ -19,7 +19,7 @@ use Rattle.pmbus_table.specs.Voltage.{IsWithin}
 use Rattle.board.specs.Boards.{Allow, Target, Board, entry_of}
 use Rattle.targets.specs.Fitting.{IsIn}
 use Rattle.targets.specs.States.{BusState, IsTargetAt}
-use Rattle.seq_program.specs.Messages.{low_byte_first}
+use Rattle.seq_program.specs.Requests.{low_byte_first}
 use Rattle.simulator.specs.Allowed.{word_of, is_operation_value, IsInRange, WritesOnly}
 use Rattle.simulator.specs.Allowed.{IsAllowedBy}
 use Rattle.simulator.specs.Safe.{is_guarded}

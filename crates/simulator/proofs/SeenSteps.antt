@@ -30,7 +30,8 @@ use Rattle.simulator.specs.Entries.{IsEntry}
 use Rattle.simulator.specs.EntryLaws.{EntriesReadBack, IdleReadsBack, ReadsOne}
 use Rattle.simulator.specs.Does.{IsFrontOfBytes, EntriesDoAsAsked}
 use Rattle.simulator.specs.Machines.{Machine, Entry}
-use Rattle.simulator.specs.Moves.{result_in, with_result, after_message, silently}
+use Rattle.seq_program.specs.Requests.{result_in}
+use Rattle.simulator.specs.Moves.{with_result, after_message, silently}
 use Rattle.simulator.specs.Steps.{alert_level, idle_ticks, IsStepOf}
 use Rattle.simulator.specs.StepDoes.{StepDoes}
 use Rattle.simulator.specs.StepLaws.{Carries, StepsAreSeen, StartsAreReady}

@@ -17,7 +17,8 @@ use Rattle.seq_program.specs.declared.instr.Instr.TheVariants as instr
 use Rattle.seq_program.specs.declared.instr.Width.TheVariants as width
 use Rattle.seq_program.specs.declared.instr.Written.TheVariants as written
 use Rattle.seq_program.specs.declared.instr.Written.{Written}
-use Rattle.seq_program.specs.Messages.{low_byte_first, form_of, data_of, message_to, message_of}
+use Rattle.seq_program.specs.Requests.{low_byte_first, form_of, data_of}
+use Rattle.seq_program.specs.Messages.{message_to, message_of}
 use Rattle.seq_program.specs.Valid.{IsInstr}
 use Rattle.simulator.proofs.Stretches.{stretches, below}
 

@@ -20,8 +20,10 @@ use Rattle.seq_program.specs.declared.instr.Instr.{Instr}
 use Rattle.seq_program.specs.declared.instr.Instr.TheVariants as instr
 use Rattle.seq_program.specs.declared.instr.Written.{Written}
 use Rattle.seq_program.specs.declared.instr.Written.TheVariants as written
-use Rattle.seq_program.specs.Messages.{low_byte_first, form_of, data_of, message_to, message_of}
-use Rattle.seq_program.specs.Valid.{read_form, IsWritten, IsInstr}
+use Rattle.seq_program.specs.Requests.{low_byte_first, form_of, data_of}
+use Rattle.seq_program.specs.Messages.{message_to, message_of}
+use Rattle.seq_program.specs.Requests.{read_form}
+use Rattle.seq_program.specs.Valid.{IsWritten, IsInstr}
 use Rattle.simulator.specs.Allowed.{is_operation_value}
 use Rattle.simulator.specs.StepDoes.{writes_data}
 use Rattle.simulator.proofs.WireMessages.{asked_at}

@@ -18,7 +18,7 @@ use Rattle.targets.specs.States.{BusState, IsStart, IsTargetAt}
 use Rattle.seq_program.specs.declared.instr.Instr.{Instr}
 use Rattle.seq_program.specs.declared.instr.Instr.TheVariants as instr
 use Rattle.seq_program.specs.declared.instr.Written.TheVariants as written
-use Rattle.seq_program.specs.Messages.{low_byte_first}
+use Rattle.seq_program.specs.Requests.{low_byte_first}
 use Rattle.seq_program.specs.Valid.{IsInstr, IsProgram, jump_in}
 use Rattle.simulator.specs.Does.{BeginsWith}
 use Rattle.simulator.specs.Machines.{start_at}

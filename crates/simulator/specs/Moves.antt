@@ -7,20 +7,12 @@ use Rattle.targets.specs.declared.outcome.Outcome.TheVariants.{Done}
 use Rattle.targets.specs.States.{BusState}
 use Rattle.seq_program.specs.declared.instr.Instr.{Instr}
 use Rattle.seq_program.specs.declared.instr.Instr.TheVariants as instr
+use Rattle.seq_program.specs.Requests.{result_in}
 use Rattle.seq_program.specs.Valid.{jump_in}
 use Rattle.simulator.specs.declared.machine.Ending.TheVariants.{Finished, Failed}
 use Rattle.simulator.specs.Machines.{Machine}
 
--- the register that what is read goes to
-abbrev pub result_in : Instr → Option ℕ
-result_in (instr.Receive target register otherwise) = Some register
-result_in (instr.Read target command size register otherwise) = Some register
-result_in (instr.Call target command value register otherwise) = Some register
-result_in (instr.BlockRead target command register otherwise) = Some register
-result_in (instr.BlockCall target command bytes register otherwise) = Some register
-result_in (instr.Alert register otherwise) = Some register
-result_in _ = None
-
+-- what is read goes to its register
 abbrev pub with_result : Option ℕ → ℕ → List ℕ → List ℕ
 with_result None value regs = regs
 with_result (Some register) value regs = slice_set regs register value

@@ -1,24 +1,30 @@
 //! Where an instruction leads, and what it does to registers and counters.
 
 ghost use Rattle.std.specs.Prelude.{◌≡◌, ◌<◌, ◌+◌, if◌then◌else◌};
-ghost use Rattle.simulator.specs.Moves.{result_in, after_message, silently};
+ghost use Rattle.seq_program.specs.Requests.{other_result, result_in};
+ghost use Rattle.simulator.specs.Moves.{after_message, silently};
 
 use crate::machine::{Ending, Machine};
 use seq_program::{Instr, Register};
 use targets::Outcome;
 
+/// The register that what is read goes to, of an instruction that asks no target for anything.
+fn other_result(instr: &Instr) -> Option<Register>
+    ensures { result ≡ other_result instr.now }
+{
+    match instr {
+        Instr::Alert { register, .. } => Some(*register),
+        _ => None,
+    }
+}
+
 /// The register that what is read goes to.
 fn result_in(instr: &Instr) -> Option<Register>
     ensures { result ≡ result_in instr.now }
 {
-    match instr {
-        Instr::Receive { register, .. }
-        | Instr::Read { register, .. }
-        | Instr::Call { register, .. }
-        | Instr::BlockRead { register, .. }
-        | Instr::BlockCall { register, .. }
-        | Instr::Alert { register, .. } => Some(*register),
-        _ => None,
+    match instr.request() {
+        Some(request) => request.transaction.register,
+        None => other_result(instr),
     }
 }
 

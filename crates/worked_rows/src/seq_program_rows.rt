@@ -2,8 +2,8 @@ use crate::boards::two_board;
 use crate::expected::same;
 use board::{Board, BoardFault};
 use seq_program::{
-    Instr, Program, ProgramFault, Width, command_in, counter_of, direction_of, label_in,
-    message_of, number_within, read_program, register_of, sized_in, without_comment,
+    Content, Instr, Program, ProgramFault, Request, Width, command_in, counter_of, direction_of,
+    label_in, message_of, number_within, read_program, register_of, sized_in, without_comment,
 };
 use smbus::Form;
 use std::alloc::Global;
@@ -68,6 +68,68 @@ fn all_send(rt: &impl Abort, alloc: Global, board: &Board, program: &Program, ro
         let is_sent = sends(alloc, board, program, *want);
         same(rt, (*want, is_sent), (*want, true));
     }
+}
+
+/// The target of an instruction, its form, its code, the register that what is read goes to, and
+/// where it leads if it isn't done.
+type Asked = (usize, Form, u8, Option<usize>, usize);
+
+fn parts_asked(request: &Request<'_>) -> Asked {
+    let transaction = &request.transaction;
+    let register = match transaction.register {
+        Some(register) => Some(register.index()),
+        None => None,
+    };
+    (
+        request.target,
+        transaction.form,
+        transaction.code(),
+        register,
+        request.otherwise,
+    )
+}
+
+/// What the instruction of a place asks of a target.
+fn asked_at(program: &Program, place: usize) -> Option<Asked> {
+    match program.at(place)?.request() {
+        Some(request) => Some(parts_asked(&request)),
+        None => None,
+    }
+}
+
+static ASKED: [(usize, Option<Asked>); 9] = [
+    (0, Some((0, Form::Quick(true), 0x00, None, 15))),
+    (2, Some((0, Form::SendByte, 0x03, None, 15))),
+    (3, Some((1, Form::ReceiveByte, 0x00, Some(7), 15))),
+    (5, Some((0, Form::WriteWord, 0xD0, None, 0))),
+    (7, Some((0, Form::ReadWord, 0x79, Some(0), 15))),
+    (9, Some((1, Form::ProcessCall, 0xD1, Some(2), 15))),
+    (12, Some((0, Form::BlockProcessCall, 0x1A, Some(5), 15))),
+    (13, None),
+    (14, None),
+];
+
+/// Tries what the instructions of some places ask.
+fn all_ask(rt: &impl Abort, program: &Program, rows: &[(usize, Option<Asked>)]) {
+    for (place, want) in rows {
+        same(rt, (*place, asked_at(program, *place)), (*place, *want));
+    }
+}
+
+/// The bytes of the block that the instruction of a place writes.
+fn written_block(program: &Program, place: usize) -> Option<&[u8]> {
+    match program.at(place)?.request() {
+        Some(request) => match request.transaction.content {
+            Content::Block(bytes) => Some(bytes.bytes()),
+            _ => None,
+        },
+        None => None,
+    }
+}
+
+/// Where the message of a place leads if it isn't done.
+fn otherwise_at(program: &Program, place: usize) -> Option<usize> {
+    program.at(place)?.otherwise()
 }
 
 /// The word of an instruction, its register or counter, its value, and where it jumps.
@@ -144,6 +206,15 @@ fn compare_sent(rt: &impl Abort, alloc: Global, board: &Board, program: &Program
     same(rt, sends_more, false);
 }
 
+fn compare_asked(rt: &impl Abort, program: &Program) {
+    all_ask(rt, program, &ASKED);
+    same(rt, written_block(program, 10), Some(b"\x00\xFF"));
+    same(rt, written_block(program, 5), None);
+    same(rt, otherwise_at(program, 5), Some(0));
+    same(rt, otherwise_at(program, 13), Some(15));
+    same(rt, otherwise_at(program, 14), None);
+}
+
 /// Where the instruction of a place jumps to.
 fn jump_at(program: &Program, place: usize) -> Option<usize> {
     program.at(place)?.jump()
@@ -158,6 +229,7 @@ fn compare_jumps(rt: &impl Abort, program: &Program) {
 fn compare_messages_on(rt: &impl Abort, alloc: Global, board: &Board) -> Option<()> {
     let program = read_program(alloc, board, MESSAGES).ok()?;
     compare_sent(rt, alloc, board, &program);
+    compare_asked(rt, &program);
     compare_jumps(rt, &program);
     all_have(rt, &program, &PARTS);
     same(rt, block_of(program.at(12)), Some(b"\x21"));

@@ -10,10 +10,10 @@ use Rattle.facts.specs.Sets.{Set, pages_in, rails_in}
 use Rattle.facts.specs.Rows.{Row}
 use Rattle.seq_program.specs.declared.instr.Written.{Written}
 use Rattle.seq_program.specs.declared.instr.Written.TheVariants as written
-use Rattle.facts.specs.Requests.{Write}
+use Rattle.seq_program.specs.Requests.{Value}
 use Rattle.pmbus_table.specs.Voltage.{carries_voltage}
 use Rattle.facts.specs.Duties.{may_select, written_span, IsWithinLimits}
-use Rattle.facts.specs.Duties.{CommandsWithinLimits}
+use Rattle.facts.specs.Duties.{SetsWithinLimits}
 use Rattle.facts.specs.Touching.{IsWithinLimit, HasGoodNeeds}
 use Rattle.facts.specs.declared.span.Span.{Span}
 use Rattle.facts.proofs.Coded.Headed.{some_is}
@@ -65,17 +65,17 @@ limits_iff b i voltage p s t x e at iff = subst (λ u. IsTrue x ↔ Limits b i v
 pub word_limits : (b : Board) (row : Row) (i code w : ℕ) (v : Written) (s : Span) (x : Bool)
     → v ≡ written.Word w → s ≡ written_span row v
     → IsTrue x ↔ (IsTrue (carries_voltage code) → IsWithinLimits b row i s)
-    → IsTrue x ↔ CommandsWithinLimits b row i (Write code v)
+    → IsTrue x ↔ SetsWithinLimits b row i code (Value v)
 word_limits b row i code w v s x e q iff =
-    subst (λ u. IsTrue x ↔ CommandsWithinLimits b row i (Write code u)) (sym e)
+    subst (λ u. IsTrue x ↔ SetsWithinLimits b row i code (Value u)) (sym e)
     (subst (λ z. IsTrue x ↔ (IsTrue (carries_voltage code) → IsWithinLimits b row i z))
     (q ∙ ap (written_span row) e) iff)
 
 pub register_limits : (b : Board) (row : Row) (i code r : ℕ) (v : Written) (s : Span) (x : Bool)
     → v ≡ written.Register r → s ≡ written_span row v
     → IsTrue x ↔ (IsTrue (carries_voltage code) → IsWithinLimits b row i s)
-    → IsTrue x ↔ CommandsWithinLimits b row i (Write code v)
+    → IsTrue x ↔ SetsWithinLimits b row i code (Value v)
 register_limits b row i code r v s x e q iff =
-    subst (λ u. IsTrue x ↔ CommandsWithinLimits b row i (Write code u)) (sym e)
+    subst (λ u. IsTrue x ↔ SetsWithinLimits b row i code (Value u)) (sym e)
     (subst (λ z. IsTrue x ↔ (IsTrue (carries_voltage code) → IsWithinLimits b row i z))
     (q ∙ ap (written_span row) e) iff)

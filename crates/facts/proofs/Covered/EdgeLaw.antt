@@ -10,7 +10,7 @@ use Rattle.seq_program.specs.Valid.{IsInstr}
 use Rattle.facts.specs.declared.source.Source.TheVariants as source
 use Rattle.facts.specs.declared.span.Span.{Span}
 use Rattle.facts.specs.Rows.{Row, span_at, SpanCovers, SpansCover, RowCovers}
-use Rattle.facts.specs.Requests.{Sent, sent_in}
+use Rattle.seq_program.specs.Requests.{Request, request_in}
 use Rattle.facts.specs.Duties.{one}
 use Rattle.facts.specs.Edges.{edge, edge_if, edges_of, other_edges, effect_of, done_row, else_row}
 use Rattle.facts.specs.Edges.{with_reg, a_byte, plus, above, up_to, reg_in, counter_in}
@@ -134,21 +134,22 @@ other_follows b place (instr.BlockWrite t c bytes l) s u fits k = follows_none b
 other_follows b place (instr.BlockRead t c r l) s u fits k = follows_none b []
 other_follows b place (instr.BlockCall t c bytes r l) s u fits k = follows_none b []
 
-of_follows : (b : Board) (place : ℕ) (i : Instr) (s u : Row) (o : Option Sent) → IsBoard b
+of_follows : (b : Board) (place : ℕ) (i : Instr) (s u : Row) (o : Option Request) → IsBoard b
     → IsInstr i
-    → IfSome o (λ x. x.target < length b.targets) → IfSome o (λ x. FitsRequest x.request)
+    → IfSome o (λ x. x.target < length b.targets) → IfSome o (λ x. FitsRequest x.transaction)
     → Wider b s u
     → EdgesCover b (edges_of b place i s o) (edges_of b place i u o)
 of_follows b place i s u None board fits at' fits' k = other_follows b place i s u fits k
 of_follows b place i s u (Some x) board fits at' fits' k =
-    let e = effect_of x.request in
+    let e = effect_of x.transaction in
     let t = x.target in
-    two_edges b (place + 1) x.otherwise (done_row b s t x.request e) (done_row b u t x.request e)
+    two_edges b (place + 1) x.otherwise (done_row b s t x.transaction e)
+    (done_row b u t x.transaction e)
     (else_row b s t e) (else_row b u t e)
-    (done_covers b s u t x.request e board k at' (fits_effect x.request fits'))
+    (done_covers b s u t x.transaction e board k at' (fits_effect x.transaction fits'))
     (else_covers b s u t e k at')
 
 pub edges_follow : EdgesFollow
 edges_follow b place i s u board said k =
-    of_follows b place i s u (sent_in i) board said.0 (sent_on (length b.targets) i said.1)
+    of_follows b place i s u (request_in i) board said.0 (sent_on (length b.targets) i said.1)
     (fits_sent i said.0) k

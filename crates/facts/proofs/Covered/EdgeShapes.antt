@@ -14,7 +14,7 @@ use Rattle.facts.specs.declared.rule.Rule.TheVariants.{K1}
 use Rattle.facts.specs.declared.source.Source.TheVariants as source
 use Rattle.facts.specs.declared.span.Span.{Span}
 use Rattle.facts.specs.Rows.{Row, span_at, source_at}
-use Rattle.facts.specs.Requests.{Sent, sent_in}
+use Rattle.seq_program.specs.Requests.{Request, request_in}
 use Rattle.facts.specs.Duties.{one, MeetsSent}
 use Rattle.facts.specs.Edges.{Edge, edge, edge_if, edges_of, other_edges, effect_of, done_row}
 use Rattle.facts.specs.Edges.{else_row, with_reg, a_byte, plus, above, up_to, one_off, reg_in}
@@ -116,19 +116,20 @@ other_shaped b place (instr.BlockWrite t c bytes l) row x f k h = absurd h
 other_shaped b place (instr.BlockRead t c r l) row x f k h = absurd h
 other_shaped b place (instr.BlockCall t c bytes r l) row x f k h = absurd h
 
-of_shaped : (b : Board) (place : ℕ) (i : Instr) (row : Row) (o : Option Sent) (x : Edge)
+of_shaped : (b : Board) (place : ℕ) (i : Instr) (row : Row) (o : Option Request) (x : Edge)
     → IsBoard b → IsInstr i
-    → IfSome o (λ s. FitsRequest s.request) → IsShaped b row → MeetsSent b row o K1
+    → IfSome o (λ s. FitsRequest s.transaction) → IsShaped b row → MeetsSent b row o K1
     → HasEdge (edges_of b place i row o) x → IsShaped b x.row
 of_shaped b place i row None x board fits fits' k duty h = other_shaped b place i row x fits k h
 of_shaped b place i row (Some s) x board fits fits' k duty h =
-    let e = effect_of s.request in
-    let known = known_effect duty.target s.request duty.known in
-    two_have (HasShaped b) (place + 1) s.otherwise (done_row b row s.target s.request e)
+    let e = effect_of s.transaction in
+    let known = known_effect duty.target s.transaction duty.known in
+    two_have (HasShaped b) (place + 1) s.otherwise (done_row b row s.target s.transaction e)
     (else_row b row s.target e) x
-    (done_shaped b row s.target s.request e board k duty (fits_effect s.request fits') known)
-    (else_shaped b row s.target s.request e k duty known) h
+    (done_shaped b row s.target s.transaction e board k duty
+    (fits_effect s.transaction fits') known)
+    (else_shaped b row s.target s.transaction e k duty known) h
 
 pub edges_stay_shaped : EdgesStayShaped
 edges_stay_shaped b place i row e board fits k duty h =
-    of_shaped b place i row (sent_in i) e board fits (fits_sent i fits) k duty h
+    of_shaped b place i row (request_in i) e board fits (fits_sent i fits) k duty h

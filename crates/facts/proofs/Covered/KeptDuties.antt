@@ -9,14 +9,14 @@ use Rattle.seq_program.specs.declared.instr.Instr.TheVariants as instr
 use Rattle.seq_program.specs.declared.instr.Written.{Written}
 use Rattle.seq_program.specs.declared.instr.Written.TheVariants as written
 use Rattle.seq_program.specs.Valid.{IsOnBoard}
+use Rattle.seq_program.specs.Requests.{Content, Nothing, Value, Block, Transaction, Request}
+use Rattle.seq_program.specs.Requests.{request_in, code_in}
 use Rattle.facts.specs.declared.rule.Rule.{Rule}
 use Rattle.facts.specs.declared.rule.Rule.TheVariants.{K1, K2, K3, K4, K5, K6, K7, K8, K9}
-use Rattle.facts.specs.Sets.{all_pages}
+use Rattle.pmbus_table.specs.Codes.{all_pages}
 use Rattle.facts.specs.Rows.{Row, set_at, SpanCovers, RowCovers}
-use Rattle.facts.specs.Requests.{Request, QuickTo, Send, Receive, Write, Read, Call, PutBlock}
-use Rattle.facts.specs.Requests.{GetBlock, CallBlock, Sent, sent_in}
-use Rattle.facts.specs.Duties.{MeetsAt, MeetsSent, IsInEntry, IsWithinLimits, CommandsWithinLimits}
-use Rattle.facts.specs.Duties.{HasNeeds, written_span}
+use Rattle.facts.specs.Duties.{MeetsAt, MeetsSent, IsTaken, IsWithinLimits, LimitsOf}
+use Rattle.facts.specs.Duties.{EnablesInOrder, written_span}
 use Rattle.facts.specs.FactLaws.{DutiesAreKept}
 use Rattle.facts.proofs.Covered.Covers.{SpansCover-at}
 use Rattle.facts.proofs.Covered.RowMoves.{touches_covers}
@@ -27,18 +27,13 @@ written_covers b s u (written.Byte n) k = (omega arith, omega arith)
 written_covers b s u (written.Word n) k = (omega arith, omega arith)
 written_covers b s u (written.Register r) k = SpansCover-at s.regs u.regs r k.regs
 
-entry_kept : (b : Board) (s u : Row) (e : Allow) (r : Request) → RowCovers b s u → IsInEntry s e r
-    → IsInEntry u e r
-entry_kept b s u e (Write code v) k h =
+content_kept : (b : Board) (s u : Row) (e : Allow) (content : Content) (g : Option ℕ)
+    → RowCovers b s u → IsTaken s e content g → IsTaken u e content g
+content_kept b s u e (Value v) None k h =
     let o = written_covers b s u v k in (omega (arith, h.0, o.0), omega (arith, h.1, o.1))
-entry_kept b s u e (PutBlock code bytes) k h = h
-entry_kept b s u e (CallBlock code bytes r) k h = h
-entry_kept b s u e (QuickTo read) k h = h
-entry_kept b s u e (Send code) k h = h
-entry_kept b s u e (Receive r) k h = h
-entry_kept b s u e (Read code width r) k h = h
-entry_kept b s u e (Call code v r) k h = h
-entry_kept b s u e (GetBlock code r) k h = h
+content_kept b s u e Nothing None k h = h
+content_kept b s u e (Block bytes) None k h = h
+content_kept b s u e content (Some r) k h = h
 
 All_good : (f g : ℕ → Bool) (ns : List ℕ) → ((n : ℕ) → f n ≡ true → g n ≡ true)
     → All (λ n. IsTrue (f n)) ns → All (λ n. IsTrue (g n)) ns
@@ -52,47 +47,35 @@ limits_kept b s u i v c at' h t d r there rail reached =
     let less = (written_covers b s u v c).1 in
     record { least = k.least; most = k.most; below = omega (arith, less, k.below) }
 
-commands_kept : (b : Board) (s u : Row) (i : ℕ) (r : Request) → RowCovers b s u
-    → i < length b.targets
-    → CommandsWithinLimits b s i r → CommandsWithinLimits b u i r
-commands_kept b s u i (Write code (written.Byte n)) c at' h = tt
-commands_kept b s u i (Write code (written.Word n)) c at' h =
-    λ carries. limits_kept b s u i (written.Word n) c at' (h carries)
-commands_kept b s u i (Write code (written.Register r)) c at' h =
-    λ carries. limits_kept b s u i (written.Register r) c at' (h carries)
-commands_kept b s u i (PutBlock code bytes) c at' h = tt
-commands_kept b s u i (CallBlock code bytes r) c at' h = tt
-commands_kept b s u i (QuickTo read) c at' h = tt
-commands_kept b s u i (Send code) c at' h = tt
-commands_kept b s u i (Receive r) c at' h = tt
-commands_kept b s u i (Read code width r) c at' h = tt
-commands_kept b s u i (Call code v r) c at' h = tt
-commands_kept b s u i (GetBlock code r) c at' h = tt
+sets_kept : (b : Board) (s u : Row) (i c : ℕ) (content : Content) (g : Option ℕ) → RowCovers b s u
+    → i < length b.targets → LimitsOf b s i c content g → LimitsOf b u i c content g
+sets_kept b s u i c (Value (written.Byte n)) None k at' h = tt
+sets_kept b s u i c (Value (written.Word n)) None k at' h =
+    λ carries. limits_kept b s u i (written.Word n) k at' (h carries)
+sets_kept b s u i c (Value (written.Register r)) None k at' h =
+    λ carries. limits_kept b s u i (written.Register r) k at' (h carries)
+sets_kept b s u i c Nothing None k at' h = tt
+sets_kept b s u i c (Block bytes) None k at' h = tt
+sets_kept b s u i c content (Some r) k at' h = tt
 
-needs_kept : (b : Board) (s u : Row) (i : ℕ) (r : Request) → RowCovers b s u → i < length b.targets
-    → HasNeeds b s i r → HasNeeds b u i r
-needs_kept b s u i (Write code (written.Byte n)) c at' h = λ e on d r there reached.
-    All_good s.good u.good r.needs c.good (h e on d r there (touches_covers b s u i (Some r) c
+needs_kept : (b : Board) (s u : Row) (i c : ℕ) (content : Content) → RowCovers b s u
+    → i < length b.targets → EnablesInOrder b s i c content → EnablesInOrder b u i c content
+needs_kept b s u i c (Value (written.Byte n)) k at' h = λ e on d r there reached.
+    All_good s.good u.good r.needs k.good (h e on d r there (touches_covers b s u i (Some r) k
     at' reached))
-needs_kept b s u i (Write code (written.Word n)) c at' h = tt
-needs_kept b s u i (Write code (written.Register r)) c at' h = tt
-needs_kept b s u i (PutBlock code bytes) c at' h = tt
-needs_kept b s u i (CallBlock code bytes r) c at' h = tt
-needs_kept b s u i (QuickTo read) c at' h = tt
-needs_kept b s u i (Send code) c at' h = tt
-needs_kept b s u i (Receive r) c at' h = tt
-needs_kept b s u i (Read code width r) c at' h = tt
-needs_kept b s u i (Call code v r) c at' h = tt
-needs_kept b s u i (GetBlock code r) c at' h = tt
+needs_kept b s u i c (Value (written.Word n)) k at' h = tt
+needs_kept b s u i c (Value (written.Register r)) k at' h = tt
+needs_kept b s u i c Nothing k at' h = tt
+needs_kept b s u i c (Block bytes) k at' h = tt
 
-pub met_kept : (b : Board) (s u : Row) (i : ℕ) (r : Request) (rule : Rule) → RowCovers b s u
+pub met_kept : (b : Board) (s u : Row) (i : ℕ) (r : Transaction) (rule : Rule) → RowCovers b s u
     → i < length b.targets → MeetsAt b s i r rule → MeetsAt b u i r rule
 met_kept b s u i r K1 c at' h = record {
   target = h.target;
   at = h.at;
   entry = h.entry;
   listed = h.listed;
-  in_entry = entry_kept b s u h.entry r c h.in_entry;
+  in_entry = content_kept b s u h.entry r.content r.register c h.in_entry;
   known = h.known;
 }
 met_kept b s u i r K2 c at' h = λ paged reads. one (h paged reads)
@@ -104,20 +87,20 @@ met_kept b s u i r K2 c at' h = λ paged reads. one (h paged reads)
     one n (inl e) = absurd (false≢true (sym n ∙ c.pages i at' all_pages e))
     one n (inr e) = e
 met_kept b s u i r K3 c at' h = λ counts p inside. h counts p (c.protects i at' p inside)
-met_kept b s u i r K4 c at' h = commands_kept b s u i r c at' h
-met_kept b s u i r K5 c at' h = needs_kept b s u i r c at' h
+met_kept b s u i r K4 c at' h = sets_kept b s u i (code_in r) r.content r.register c at' h
+met_kept b s u i r K5 c at' h = needs_kept b s u i (code_in r) r.content c at' h
 met_kept b s u i r K6 c at' h = tt
 met_kept b s u i r K7 c at' h = tt
 met_kept b s u i r K8 c at' h = tt
 met_kept b s u i r K9 c at' h = tt
 
-sent_kept : (b : Board) (s u : Row) (o : Option Sent) (rule : Rule) → RowCovers b s u
+sent_kept : (b : Board) (s u : Row) (o : Option Request) (rule : Rule) → RowCovers b s u
     → IfSome o (λ x. x.target < length b.targets) → MeetsSent b s o rule → MeetsSent b u o rule
 sent_kept b s u None rule c at' h = tt
-sent_kept b s u (Some x) rule c at' h = met_kept b s u x.target x.request rule c at' h
+sent_kept b s u (Some x) rule c at' h = met_kept b s u x.target x.transaction rule c at' h
 
 -- the target of what is sent is the instruction's
-pub sent_on : (n : ℕ) (i : Instr) → IsOnBoard n i → IfSome (sent_in i) (λ x. x.target < n)
+pub sent_on : (n : ℕ) (i : Instr) → IsOnBoard n i → IfSome (request_in i) (λ x. x.target < n)
 sent_on n (instr.Quick t read l) k = k
 sent_on n (instr.Send t c l) k = k
 sent_on n (instr.Receive t r l) k = k
@@ -141,5 +124,5 @@ sent_on n instr.End k = tt
 sent_on n instr.Fail k = tt
 
 pub duties_are_kept : DutiesAreKept
-duties_are_kept b i s u rule said w h = sent_kept b s u (sent_in i) rule w.covers
+duties_are_kept b i s u rule said w h = sent_kept b s u (request_in i) rule w.covers
     (sent_on (length b.targets) i said.1) h

@@ -2,26 +2,30 @@
 use Rattle.std.proofs.Common.{◌≡◌, ℕ, suc, ◌<◌, ◌≤◌, List, [], ◌∷◌, length, refl, ap, sym, subst}
 use Rattle.std.proofs.Common.{inl, inr, arith, Bool, true, not, ◌&&◌}
 use Rattle.std.proofs.lemmas.Bool.{cond_both}
-use Rattle.std.specs.Prelude.{◌==◌, IfSome}
+use Rattle.std.specs.Prelude.{◌==◌, IfSome, Option, Some, None}
 use Rattle.pmbus_table.specs.Codes.{page_code, operation_code, write_protect_code}
 use Rattle.pmbus_table.specs.Codes.{status_word_code}
 use Rattle.pmbus_table.specs.Operation.{enables}
+use Rattle.smbus.specs.declared.message.Form.{Form}
+use Rattle.smbus.specs.declared.message.Form.TheVariants as form
 use Rattle.board.specs.Boards.{Board}
 use Rattle.board.specs.Valid.{IsBoard}
 use Rattle.seq_program.specs.declared.instr.Instr.{Instr}
 use Rattle.seq_program.specs.declared.instr.Instr.TheVariants as instr
-use Rattle.seq_program.specs.declared.instr.Width.TheVariants as width
 use Rattle.seq_program.specs.declared.instr.Written.TheVariants as written
 use Rattle.seq_program.specs.Valid.{IsInstr}
 use Rattle.facts.specs.declared.source.Source.{Source}
 use Rattle.facts.specs.declared.source.Source.TheVariants as source
 use Rattle.facts.specs.Sets.{only}
 use Rattle.facts.specs.Rows.{Row, set_at, SourceCovers, RowCovers}
-use Rattle.facts.specs.Requests.{Request, QuickTo, Send, Receive, Write, Read, Call, PutBlock}
-use Rattle.facts.specs.Requests.{GetBlock, CallBlock, sent_in}
+use Rattle.seq_program.specs.Requests.{Content, Value, Block, Transaction, request_in}
+use Rattle.seq_program.specs.Requests.{code_in}
+use Rattle.seq_program.specs.Requests.{Nothing as NoContent}
 use Rattle.facts.specs.Duties.{is_touched}
 use Rattle.facts.specs.Edges.{Effect, SetsPage, SetsProtect, TurnsOff, ReadsStatus, ReadsPage}
-use Rattle.facts.specs.Edges.{ReadsProtect, Loads, Nothing, effect_of, done_row, else_row, clear}
+use Rattle.facts.specs.Edges.{ReadsProtect, Loads, Nothing, content_effect, effect_by, effect_of}
+use Rattle.facts.specs.Edges.{done_row, else_row, clear}
+use Rattle.facts.specs.Edges.{byte_effect, word_effect, read_effect}
 use Rattle.facts.specs.Edges.{without_touched, is_status_of, status_source, loaded, bounds}
 use Rattle.facts.specs.FactLaws.{IsShaped, Wider}
 use Rattle.facts.proofs.Shared.Places.{found, is_target, page_small, protect_small}
@@ -31,15 +35,10 @@ use Rattle.facts.proofs.Covered.RowMoves.{or_covers}
 use Rattle.facts.proofs.Covered.SetBounds.{bounds_cover, status_covers}
 
 -- what is read goes to a register
-abbrev pub FitsRequest : Request → Type 0
-FitsRequest (Receive r) = r < 8
-FitsRequest (Read code size r) = r < 8
-FitsRequest (Call code value r) = r < 8
-FitsRequest (GetBlock code r) = r < 8
-FitsRequest (CallBlock code bytes r) = r < 8
-FitsRequest _ = Unit {0}
+abbrev pub FitsRequest : Transaction → Type 0
+FitsRequest x = IfSome x.register (λ r. r < 8)
 
-pub fits_sent : (i : Instr) → IsInstr i → IfSome (sent_in i) (λ x. FitsRequest x.request)
+pub fits_sent : (i : Instr) → IsInstr i → IfSome (request_in i) (λ x. FitsRequest x.transaction)
 fits_sent (instr.Quick t read l) k = tt
 fits_sent (instr.Send t c l) k = tt
 fits_sent (instr.Receive t r l) k = k
@@ -72,26 +71,44 @@ FitsEffect (SetsProtect v) = Unit {0}
 FitsEffect TurnsOff = Unit {0}
 FitsEffect Nothing = Unit {0}
 
-pub fits_effect : (r : Request) → FitsRequest r → FitsEffect (effect_of r)
-fits_effect (Write c (written.Byte v)) k =
+-- what holds of the effects of a byte, of a word and of any other holds of what a form reads
+pub read_has : (P : Effect → Type 0) (f : Form) (c r : ℕ) → P (byte_effect c r)
+    → P (word_effect c r) → P (Loads r) → P (read_effect f c r)
+read_has P form.ReadByte c r byte word other = byte
+read_has P form.ReadWord c r byte word other = word
+read_has P (form.Quick reads) c r byte word other = other
+read_has P form.SendByte c r byte word other = other
+read_has P form.ReceiveByte c r byte word other = other
+read_has P form.WriteByte c r byte word other = other
+read_has P form.WriteWord c r byte word other = other
+read_has P form.ProcessCall c r byte word other = other
+read_has P form.BlockWrite c r byte word other = other
+read_has P form.BlockRead c r byte word other = other
+read_has P form.BlockProcessCall c r byte word other = other
+read_has P form.Alert c r byte word other = other
+
+fits_content : (c : ℕ) (content : Content) → FitsEffect (content_effect c content)
+fits_content c (Value (written.Byte v)) =
     cond_both (c == page_code) (SetsPage v) _ FitsEffect (λ _. tt) (λ _.
     cond_both (c == write_protect_code) (SetsProtect v) _ FitsEffect (λ _. tt) (λ _.
     cond_both ((c == operation_code) && not (enables v)) TurnsOff Nothing FitsEffect (λ _. tt)
     (λ _. tt)))
-fits_effect (Write c (written.Word v)) k = tt
-fits_effect (Write c (written.Register v)) k = tt
-fits_effect (Read c width.Word r) k =
-    cond_both (c == status_word_code) (ReadsStatus r) (Loads r) FitsEffect (λ _. k) (λ _. k)
-fits_effect (Read c width.Byte r) k =
-    cond_both (c == page_code) (ReadsPage r) _ FitsEffect (λ _. k) (λ _.
-    cond_both (c == write_protect_code) (ReadsProtect r) (Loads r) FitsEffect (λ _. k) (λ _. k))
-fits_effect (Receive r) k = k
-fits_effect (Call c v r) k = k
-fits_effect (GetBlock c r) k = k
-fits_effect (CallBlock c bytes r) k = k
-fits_effect (QuickTo read) k = tt
-fits_effect (Send c) k = tt
-fits_effect (PutBlock c bytes) k = tt
+fits_content c (Value (written.Word v)) = tt
+fits_content c (Value (written.Register v)) = tt
+fits_content c NoContent = tt
+fits_content c (Block bytes) = tt
+
+fits_by : (x : Transaction) (g : Option ℕ) → IfSome g (λ r. r < 8) → FitsEffect (effect_by x g)
+fits_by x None k = fits_content (code_in x) x.content
+fits_by x (Some r) k =
+    let c = code_in x in
+    read_has FitsEffect x.form c r
+    (cond_both (c == page_code) (ReadsPage r) _ FitsEffect (λ _. k) (λ _.
+    cond_both (c == write_protect_code) (ReadsProtect r) (Loads r) FitsEffect (λ _. k) (λ _. k)))
+    (cond_both (c == status_word_code) (ReadsStatus r) (Loads r) FitsEffect (λ _. k) (λ _. k)) k
+
+pub fits_effect : (x : Transaction) → FitsRequest x → FitsEffect (effect_of x)
+fits_effect x k = fits_by x x.register k
 
 -- the numbers of a row's sets
 pub some_page : (b : Board) (row : Row) (i : ℕ) → IsBoard b → IsShaped b row → i < length b.targets
@@ -119,7 +136,7 @@ cleared_inside : (b : Board) (row : Row) (p : Source → Bool) (r : ℕ) → IsS
 cleared_inside b row p r k lt = let L : ℕ → Type 0 = λ n. r < n in
     subst L (sym (length_clear p row.sources)) (in_sources b row r k lt)
 
-pub done_covers : (b : Board) (s u : Row) (t : ℕ) (w : Request) (e : Effect) → IsBoard b
+pub done_covers : (b : Board) (s u : Row) (t : ℕ) (w : Transaction) (e : Effect) → IsBoard b
     → Wider b s u → t < length b.targets → FitsEffect e
     → RowCovers b (done_row b s t w e) (done_row b u t w e)
 unfolding status_source

@@ -8,7 +8,8 @@ use Rattle.board.specs.Boards.{Rail, Board}
 use Rattle.facts.specs.declared.source.Source.{Source}
 use Rattle.facts.specs.declared.source.Source.TheVariants as source
 use Rattle.facts.specs.declared.span.Span.{Span}
-use Rattle.facts.specs.Sets.{Set, gains, keeps, all_pages}
+use Rattle.facts.specs.Sets.{Set, gains, keeps}
+use Rattle.pmbus_table.specs.Codes.{all_pages}
 use Rattle.facts.specs.Rows.{Row, set_at, SetCovers, SpanCovers, SourceCovers, RowCovers}
 use Rattle.facts.specs.Duties.{is_touched, touches_some, may_select}
 use Rattle.facts.specs.Edges.{with_page, with_protect, without_touched, with_reg, is_page_of}

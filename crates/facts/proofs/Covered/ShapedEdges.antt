@@ -12,16 +12,16 @@ use Rattle.pmbus_table.specs.Protect.{is_protection}
 use Rattle.board.specs.Boards.{Allow, Rail, Target, Board}
 use Rattle.board.specs.Valid.{IsBoard, IsEntry, is_page_value, has_words}
 use Rattle.board.specs.declared.entry.Range.{Range}
-use Rattle.seq_program.specs.declared.instr.Width.TheVariants as width
 use Rattle.seq_program.specs.declared.instr.Written.TheVariants as written
 use Rattle.facts.specs.declared.source.Source.TheVariants as source
 use Rattle.facts.specs.Sets.{Set, only, gains}
 use Rattle.facts.specs.Rows.{Row, set_at, IsSource, IsSetOf}
-use Rattle.facts.specs.Requests.{Request, QuickTo, Send, Receive, Write, Read, Call, PutBlock}
-use Rattle.facts.specs.Requests.{GetBlock, CallBlock, form_in, code_in}
-use Rattle.facts.specs.Duties.{MayBeSent, IsKnownValue}
+use Rattle.seq_program.specs.Requests.{Content, Value, Block, Transaction, code_in}
+use Rattle.seq_program.specs.Requests.{Nothing as NoContent}
+use Rattle.facts.specs.Duties.{MayBeSent, IsKnownContent, IsKnownValue}
 use Rattle.facts.specs.Edges.{Effect, SetsPage, SetsProtect, TurnsOff, ReadsStatus, ReadsPage}
-use Rattle.facts.specs.Edges.{ReadsProtect, Loads, Nothing, effect_of, done_row, else_row}
+use Rattle.facts.specs.Edges.{ReadsProtect, Loads, Nothing, content_effect, effect_by, effect_of}
+use Rattle.facts.specs.Edges.{done_row, else_row}
 use Rattle.facts.specs.Edges.{without_touched, status_source, status_of, single, rail_on, loaded}
 use Rattle.facts.specs.Edges.{span_of, bounds}
 use Rattle.facts.specs.FactLaws.{IsShaped}
@@ -30,7 +30,7 @@ use Rattle.facts.proofs.Covered.SetBounds.{ends_in, status_on}
 use Rattle.facts.proofs.Shared.Places.{is_target, within}
 use Rattle.facts.proofs.Shared.Asking.{values_there}
 use Rattle.facts.proofs.Shared.Forms.{found_entry}
-use Rattle.facts.proofs.Covered.MessageEdges.{FitsEffect, some_page, some_protect}
+use Rattle.facts.proofs.Covered.MessageEdges.{FitsEffect, read_has, some_page, some_protect}
 use Rattle.facts.proofs.Covered.Shapes.{page_shaped, protect_shaped, touched_shaped, reg_shaped}
 use Rattle.facts.proofs.Covered.Shapes.{IsRegSpan}
 
@@ -45,29 +45,34 @@ KnownEffect t (Loads r) = Unit {0}
 KnownEffect t TurnsOff = Unit {0}
 KnownEffect t Nothing = Unit {0}
 
-pub known_effect : (t : Target) (r : Request) → IsKnownValue t r → KnownEffect t (effect_of r)
-known_effect t (Write c (written.Byte v)) k =
+known_content : (t : Target) (c : ℕ) (content : Content) → IsKnownContent t c content
+    → KnownEffect t (content_effect c content)
+known_content t c (Value (written.Byte v)) k =
     cond_both (c == page_code) (SetsPage v) _ (KnownEffect t) (λ e. k.0 (eqb-true c page_code e))
     (λ _.
     cond_both (c == write_protect_code) (SetsProtect v) _ (KnownEffect t)
     (λ e. k.1 (eqb-true c write_protect_code e)) (λ _.
     cond_both ((c == operation_code) && not (enables v)) TurnsOff Nothing (KnownEffect t)
     (λ _. tt) (λ _. tt)))
-known_effect t (Write c (written.Word v)) k = tt
-known_effect t (Write c (written.Register v)) k = tt
-known_effect t (Read c width.Word r) k =
-    cond_both (c == status_word_code) (ReadsStatus r) (Loads r) (KnownEffect t) (λ _. tt) (λ _. tt)
-known_effect t (Read c width.Byte r) k =
-    cond_both (c == page_code) (ReadsPage r) _ (KnownEffect t) (λ _. tt) (λ _.
+known_content t c (Value (written.Word v)) k = tt
+known_content t c (Value (written.Register v)) k = tt
+known_content t c NoContent k = tt
+known_content t c (Block bytes) k = tt
+
+known_by : (t : Target) (x : Transaction) (g : Option ℕ) → IsKnownValue t x
+    → KnownEffect t (effect_by x g)
+known_by t x None k = known_content t (code_in x) x.content k
+known_by t x (Some r) k =
+    let c = code_in x in
+    read_has (KnownEffect t) x.form c r
+    (cond_both (c == page_code) (ReadsPage r) _ (KnownEffect t) (λ _. tt) (λ _.
     cond_both (c == write_protect_code) (ReadsProtect r) (Loads r) (KnownEffect t) (λ _. tt)
-    (λ _. tt))
-known_effect t (Receive r) k = tt
-known_effect t (Call c v r) k = tt
-known_effect t (GetBlock c r) k = tt
-known_effect t (CallBlock c bytes r) k = tt
-known_effect t (QuickTo read) k = tt
-known_effect t (Send c) k = tt
-known_effect t (PutBlock c bytes) k = tt
+    (λ _. tt)))
+    (cond_both (c == status_word_code) (ReadsStatus r) (Loads r) (KnownEffect t) (λ _. tt)
+    (λ _. tt)) tt
+
+pub known_effect : (t : Target) (x : Transaction) → IsKnownValue t x → KnownEffect t (effect_of x)
+known_effect t x k = known_by t x x.register k
 
 only_shaped : (P : ℕ → Type 0) (v : ℕ) → P v → IsSetOf P (only v)
 only_shaped P v k = record {
@@ -91,11 +96,11 @@ full_small : (words : Bool) → cond words 65535 255 < 65536
 full_small true = omega arith
 full_small false = omega arith
 
-loaded_shaped : (b : Board) (row : Row) (i : ℕ) (r : Request) → IsBoard b → MayBeSent b row i r
+loaded_shaped : (b : Board) (row : Row) (i : ℕ) (r : Transaction) → IsBoard b → MayBeSent b row i r
     → IsRegSpan (loaded b i r)
 unfolding loaded
 loaded_shaped b row i r board k =
-    let good = found_entry IsEntry (form_in r) (code_in r) (Target.allow k.target) k.entry
+    let good = found_entry IsEntry r.form (code_in r) (Target.allow k.target) k.entry
     (recursion_from_All IsEntry (Target.allow k.target)
     (is_target b i k.target board k.at).entries) k.listed in
     let values = (good.0).in_values in
@@ -123,7 +128,7 @@ bounds_shaped s v small h =
     let k = bounds_hold s v small h in
     let e = ends_in s v small h in (omega (arith, k.0, k.1), omega (arith, e.3))
 
-pub done_shaped : (b : Board) (row : Row) (i : ℕ) (r : Request) (e : Effect) → IsBoard b
+pub done_shaped : (b : Board) (row : Row) (i : ℕ) (r : Transaction) (e : Effect) → IsBoard b
     → IsShaped b row
     → (m : MayBeSent b row i r) → FitsEffect e → KnownEffect m.target e
     → IsShaped b (done_row b row i r e)
@@ -150,7 +155,7 @@ done_shaped b row i r (Loads reg) board k m f known =
     reg_shaped b row reg (loaded b i r) source.None k f (loaded_shaped b row i r board m) tt
 done_shaped b row i r Nothing board k m f known = k
 
-pub else_shaped : (b : Board) (row : Row) (i : ℕ) (r : Request) (e : Effect) → IsShaped b row
+pub else_shaped : (b : Board) (row : Row) (i : ℕ) (r : Transaction) (e : Effect) → IsShaped b row
     → (m : MayBeSent b row i r) → KnownEffect m.target e → IsShaped b (else_row b row i e)
 else_shaped b row i r (SetsPage v) k m known =
     page_shaped b row i m.target (gains (set_at row.pages i) v) k m.at

@@ -1,11 +1,13 @@
 -- A step that sends a request to a target: what is known of it.
 use Rattle.std.proofs.Common.{◌≡◌, ◌≤◌, ◌<◌, ℕ, Bool, Option, Some, None, List, length, slice_get}
-use Rattle.std.proofs.Common.{cond, sym, ap, ◌∙◌, arith}
+use Rattle.std.proofs.Common.{cond, sym, ap, subst, ◌∙◌, arith}
 use Rattle.std.specs.Prelude.{IsTrue, ◌==◌, nat_lt, option_map, option_and_then, unwrap_or}
 use Rattle.std.specs.List.{position_or_len}
 use Rattle.std.proofs.lemmas.Bool.{eq-eqb, ne_eqb, cond-true, lt-ltb}
 use Rattle.std.proofs.lemmas.List.Sums.{position_or_len_is}
 use Rattle.smbus.specs.declared.message.Form.TheVariants as form
+use Rattle.seq_program.specs.declared.instr.Width.{Width}
+use Rattle.seq_program.specs.declared.instr.Written.{Written}
 use Rattle.smbus.specs.Asked.{Asked}
 use Rattle.smbus.specs.Answered.{Answered}
 use Rattle.pmbus_table.specs.Commands.{takes_form}
@@ -18,57 +20,66 @@ use Rattle.targets.specs.Outcomes.{outcome_of}
 use Rattle.targets.specs.States.{Belongs, IsTargetAt}
 use Rattle.targets.specs.Effects.{IsAfter}
 use Rattle.targets.specs.Fitting.{values_for, lengths_for, Fits}
-use Rattle.seq_program.specs.Valid.{read_form, IsWritten, IsBlock}
+use Rattle.seq_program.specs.Valid.{IsWritten, IsBlock}
 use Rattle.simulator.specs.Machines.{Machine, Entry}
 use Rattle.simulator.specs.Moves.{with_result}
 use Rattle.simulator.specs.StepLaws.{CarriesMessage}
 use Rattle.simulator.specs.StepDoes.{StepDoes}
 use Rattle.facts.specs.declared.rule.Rule.{Rule}
 use Rattle.facts.specs.Rows.{Row, Admits, IsRow}
-use Rattle.facts.specs.Requests.{Request, QuickTo, Send, Receive, Write, Read, Call, PutBlock}
-use Rattle.facts.specs.Requests.{GetBlock, CallBlock, form_in, code_in, data_in, entry_at}
-use Rattle.facts.specs.Requests.{values_at, lengths_at}
+use Rattle.seq_program.specs.Requests.{Transaction, quick, send, receive, write, read, call}
+use Rattle.seq_program.specs.Requests.{write_block}
+use Rattle.seq_program.specs.Requests.{read_block, call_block, read_form, code_in, data_in}
+use Rattle.facts.specs.Allowing.{allowing}
+use Rattle.facts.specs.Allowing.{values_at, lengths_at}
 use Rattle.facts.specs.Duties.{MeetsAt}
-use Rattle.facts.proofs.Shared.Places.{within, index_at}
+use Rattle.facts.proofs.Shared.Places.{within, index_at, some_same}
 
 -- its message, where the registers hold these words
-abbrev pub asked : Target → List ℕ → Request → Asked
+abbrev pub asked : Target → List ℕ → Transaction → Asked
 asked t regs r =
-    record { address = t.address; form = form_in r; code = code_in r; out = data_in regs r }
+    record { address = t.address; form = r.form; code = code_in r; out = data_in regs r }
 
--- what every instruction's request keeps to
-abbrev pub IsRequest : Request → Type 0
-IsRequest (QuickTo read) = Unit {0}
-IsRequest (Send code) = IsTrue (takes_form code form.SendByte)
-IsRequest (Receive register) = register < 8
-IsRequest (Write code value) = IsWritten code value
-IsRequest (Read code width register) = IsTrue (takes_form code (read_form width)) × (register < 8)
-IsRequest (Call code value register) = IsTrue (takes_form code form.ProcessCall) × (value ≤ 65535)
-    × (register < 8)
-IsRequest (PutBlock code bytes) = IsTrue (takes_form code form.BlockWrite) × IsBlock 255 bytes
-IsRequest (GetBlock code register) = IsTrue (takes_form code form.BlockRead) × (register < 8)
-IsRequest (CallBlock code bytes register) = IsTrue (takes_form code form.BlockProcessCall)
-    × IsBlock 254 bytes × (register < 8)
+-- what every instruction's transaction is, form by form
+pub data IsRequest : Transaction → Type 0 where
+  Quick : (reads : Bool) → IsRequest (quick reads)
+  Send : (code : ℕ) → IsTrue (takes_form code form.SendByte) → IsRequest (send code)
+  Receive : (register : ℕ) → register < 8 → IsRequest (receive register)
+  Write : (code : ℕ) (value : Written) → IsWritten code value → IsRequest (write code value)
+  Read : (code : ℕ) (width : Width) (register : ℕ) → IsTrue (takes_form code (read_form width))
+      → register < 8 → IsRequest (read code width register)
+  Call : (code value register : ℕ) → IsTrue (takes_form code form.ProcessCall) → value ≤ 65535
+      → register < 8 → IsRequest (call code value register)
+  PutBlock : (code : ℕ) (bytes : List ℕ) → IsTrue (takes_form code form.BlockWrite)
+      → IsBlock 255 bytes → IsRequest (write_block code bytes)
+  GetBlock : (code register : ℕ) → IsTrue (takes_form code form.BlockRead) → register < 8
+      → IsRequest (read_block code register)
+  CallBlock : (code : ℕ) (bytes : List ℕ) (register : ℕ)
+      → IsTrue (takes_form code form.BlockProcessCall) → IsBlock 254 bytes → register < 8
+      → IsRequest (call_block code bytes register)
 
--- the register that what is read goes to
-abbrev pub register_in : Request → Option ℕ
-register_in (Receive register) = Some register
-register_in (Read code width register) = Some register
-register_in (Call code value register) = Some register
-register_in (GetBlock code register) = Some register
-register_in (CallBlock code bytes register) = Some register
-register_in _ = None
+-- what is read goes to one of eight registers
+pub register_small : (r : Transaction) (g : ℕ) → IsRequest r → r.register ≡ Some g → g < 8
+register_small r g (Receive h lt) e = subst (λ n. n < 8) (some_same h g e) lt
+register_small r g (Read c w h ok lt) e = subst (λ n. n < 8) (some_same h g e) lt
+register_small r g (Call c v h ok most lt) e = subst (λ n. n < 8) (some_same h g e) lt
+register_small r g (GetBlock c h ok lt) e = subst (λ n. n < 8) (some_same h g e) lt
+register_small r g (CallBlock c bytes h ok block lt) e = subst (λ n. n < 8) (some_same h g e) lt
+register_small r g (Quick reads) e = cc
+register_small r g (Send c ok) e = cc
+register_small r g (Write c v ok) e = cc
+register_small r g (PutBlock c bytes ok block) e = cc
 
-abbrev pub regs_after : Request → List ℕ → Outcome → List ℕ
-regs_after r regs (Done value) = with_result (register_in r) value regs
+abbrev pub regs_after : Transaction → List ℕ → Outcome → List ℕ
+regs_after r regs (Done value) = with_result r.register value regs
 regs_after r regs other = regs
 
 -- how its message ends
-abbrev pub ending : Target → List ℕ → Request → Answered → Outcome
+abbrev pub ending : Target → List ℕ → Transaction → Answered → Outcome
 ending t regs r a = outcome_of (Some (asked t regs r)) a
 
 pub record Sending (b : Board) (row : Row) (h : List Entry) (m next : Machine) (i : ℕ) (t : Target)
-    (r : Request) (a : Answered) (e : Entry) : Type 0 where
+    (r : Transaction) (a : Answered) (e : Entry) : Type 0 where
   pub board : IsBoard b
   pub at : IsTargetAt b i t
   pub request : IsRequest r
@@ -98,50 +109,51 @@ place_is b i t is at' =
     ap (λ n. cond (nat_lt n (length b.targets)) (Some n) None) first
     ∙ cond-true (nat_lt i (length b.targets)) (Some i) None (lt-ltb i (length b.targets) lt)
 
-target_is : (b : Board) (i : ℕ) (t : Target) (regs : List ℕ) (r : Request) → IsBoard b
+target_is : (b : Board) (i : ℕ) (t : Target) (regs : List ℕ) (r : Transaction) → IsBoard b
     → IsTargetAt b i t
     → target_of b (asked t regs r) ≡ Some t
 target_is b i t regs r is at' =
     ap (option_and_then (slice_get b.targets)) (place_is b i t is at') ∙ at'
 
 -- the entry that bounds what is read
-pub entry_same : (b : Board) (i : ℕ) (t : Target) (regs : List ℕ) (r : Request) → IsBoard b
-    → IsTargetAt b i t → entry_for b (asked t regs r) ≡ entry_of (form_in r) (code_in r) t.allow
+pub entry_same : (b : Board) (i : ℕ) (t : Target) (regs : List ℕ) (r : Transaction) → IsBoard b
+    → IsTargetAt b i t → entry_for b (asked t regs r) ≡ entry_of r.form (code_in r) t.allow
 entry_same b i t regs r is at' =
-    ap (option_and_then (λ (u : Target). entry_of (form_in r) (code_in r)
+    ap (option_and_then (λ (u : Target). entry_of r.form (code_in r)
     u.allow)) (target_is b i t regs r is at')
 
-pub entry_there : (b : Board) (i : ℕ) (t : Target) (r : Request) → IsTargetAt b i t
-    → entry_at b i r ≡ entry_of (form_in r) (code_in r) t.allow
+pub entry_there : (b : Board) (i : ℕ) (t : Target) (r : Transaction) → IsTargetAt b i t
+    → allowing b i r ≡ entry_of r.form (code_in r) t.allow
 entry_there b i t r at' =
-    ap (option_and_then (λ (u : Target). entry_of (form_in r) (code_in r) u.allow)) at'
+    ap (option_and_then (λ (u : Target). entry_of r.form (code_in r) u.allow)) at'
 
-pub values_same : (b : Board) (i : ℕ) (t : Target) (regs : List ℕ) (r : Request) (x : Allow)
+pub values_same : (b : Board) (i : ℕ) (t : Target) (regs : List ℕ) (r : Transaction) (x : Allow)
     → IsBoard b
-    → IsTargetAt b i t → entry_of (form_in r) (code_in r) t.allow ≡ Some x
+    → IsTargetAt b i t → entry_of r.form (code_in r) t.allow ≡ Some x
     → values_for b (asked t regs r) ≡ x.values
 values_same b i t regs r x is at' listed =
     ap (λ (o : Option Allow).
-    unwrap_or (option_map (λ (e : Allow). e.values) o) (full_values (form_in r)))
+    unwrap_or (option_map (λ (e : Allow). e.values) o) (full_values r.form))
     (entry_same b i t regs r is at' ∙ listed)
 
-pub lengths_same : (b : Board) (i : ℕ) (t : Target) (regs : List ℕ) (r : Request) (x : Allow)
+pub lengths_same : (b : Board) (i : ℕ) (t : Target) (regs : List ℕ) (r : Transaction) (x : Allow)
     → IsBoard b
-    → IsTargetAt b i t → entry_of (form_in r) (code_in r) t.allow ≡ Some x
+    → IsTargetAt b i t → entry_of r.form (code_in r) t.allow ≡ Some x
     → lengths_for b (asked t regs r) ≡ x.length
 lengths_same b i t regs r x is at' listed =
     ap (λ (o : Option Allow). unwrap_or (option_map (λ (e : Allow). e.length) o) full_length)
     (entry_same b i t regs r is at' ∙ listed)
 
-pub values_there : (b : Board) (i : ℕ) (t : Target) (r : Request) (x : Allow) → IsTargetAt b i t
-    → entry_of (form_in r) (code_in r) t.allow ≡ Some x → values_at b i r ≡ x.values
+pub values_there : (b : Board) (i : ℕ) (t : Target) (r : Transaction) (x : Allow) → IsTargetAt b i t
+    → entry_of r.form (code_in r) t.allow ≡ Some x → values_at b i r ≡ x.values
 values_there b i t r x at' listed =
     ap (λ (o : Option Allow).
-    unwrap_or (option_map (λ (e : Allow). e.values) o) (full_values (form_in r)))
+    unwrap_or (option_map (λ (e : Allow). e.values) o) (full_values r.form))
     (entry_there b i t r at' ∙ listed)
 
-pub lengths_there : (b : Board) (i : ℕ) (t : Target) (r : Request) (x : Allow) → IsTargetAt b i t
-    → entry_of (form_in r) (code_in r) t.allow ≡ Some x → lengths_at b i r ≡ x.length
+pub lengths_there : (b : Board) (i : ℕ) (t : Target) (r : Transaction) (x : Allow)
+    → IsTargetAt b i t
+    → entry_of r.form (code_in r) t.allow ≡ Some x → lengths_at b i r ≡ x.length
 lengths_there b i t r x at' listed =
     ap (λ (o : Option Allow). unwrap_or (option_map (λ (e : Allow). e.length) o) full_length)
     (entry_there b i t r at' ∙ listed)

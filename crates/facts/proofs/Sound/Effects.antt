@@ -18,7 +18,7 @@ use Rattle.simulator.specs.Reports.{Selects}
 use Rattle.simulator.specs.StepDoes.{MessageReports, MessageWithdraws}
 use Rattle.facts.specs.Sets.{Set}
 use Rattle.facts.specs.Rows.{Row}
-use Rattle.facts.specs.Requests.{Request, form_in, code_in, data_in}
+use Rattle.seq_program.specs.Requests.{Transaction, code_in, data_in}
 use Rattle.facts.specs.Duties.{touches_some, is_touched}
 use Rattle.facts.proofs.Shared.Places.{some_same, only_one}
 use Rattle.facts.proofs.Sound.RowChanges.{Change}
@@ -33,29 +33,29 @@ ended_done refuse (Some slot) returned v e = cc
 ended_done (Some n) None returned v e = cc
 ended_done None None returned v e = (refl, refl, cc)
 
-pub is_done : (t : Target) (regs : List ℕ) (r : Request) (a : Answered) (v : ℕ)
+pub is_done : (t : Target) (regs : List ℕ) (r : Transaction) (a : Answered) (v : ℕ)
     → ending t regs r a ≡ Done v
     → IsDone (asked t regs r) a
 is_done t regs r a v e =
     let d =
-    ended_done a.refuse (cut_of (asked t regs r) a) (returned_by (form_in r) a.value a.bytes) v e in
+    ended_done a.refuse (cut_of (asked t regs r) a) (returned_by r.form a.value a.bytes) v e in
     record { accepted = d.0; uncut = d.1 }
 
-pub done_value : (t : Target) (regs : List ℕ) (r : Request) (a : Answered) (v : ℕ)
-    → ending t regs r a ≡ Done v → v ≡ returned_by (form_in r) a.value a.bytes
+pub done_value : (t : Target) (regs : List ℕ) (r : Transaction) (a : Answered) (v : ℕ)
+    → ending t regs r a ≡ Done v → v ≡ returned_by r.form a.value a.bytes
 done_value t regs r a v e = (ended_done a.refuse (cut_of (asked t regs r) a)
-    (returned_by (form_in r) a.value a.bytes) v e).2
+    (returned_by r.form a.value a.bytes) v e).2
 
 -- what a write of a code to target u is
-pub record ByteWrite (regs : List ℕ) (i u code value : ℕ) (r : Request) : Type 0 where
-  pub form : form_in r ≡ form.WriteByte
+pub record ByteWrite (regs : List ℕ) (i u code value : ℕ) (r : Transaction) : Type 0 where
+  pub form : r.form ≡ form.WriteByte
   pub command : code_in r ≡ code
   pub content : data_in regs r ≡ value ∷ []
   pub here : u ≡ i
 
 pub byte_write_of : (code : ℕ) (is_value : Target → ℕ → Bool) (b : Board) (s : BusState)
     (regs : List ℕ)
-    (i u : ℕ) (t : Target) (r : Request) (a : Answered) (value : ℕ)
+    (i u : ℕ) (t : Target) (r : Transaction) (a : Answered) (value : ℕ)
     → IsBoard b → IsTargetAt b i t → Writes code is_value b s (Some (asked t regs r)) a u value
     → ByteWrite regs i u code value r
 byte_write_of code is_value b s regs i u t r a value is at' w =
@@ -69,7 +69,7 @@ byte_write_of code is_value b s regs i u t r a value is at' w =
     }
 
 touched_at : (b : Board) (row : Row) (h : List Entry) (m next : Machine) (i d : ℕ) (t : Target)
-    (r : Request) (a : Answered) (e : Entry) (rail : Rail) → Sending b row h m next i t r a e
+    (r : Transaction) (a : Answered) (e : Entry) (rail : Rail) → Sending b row h m next i t r a e
     → Selects b m.bus i d rail → is_touched b row i d ≡ true
 touched_at b row h m next i d t r a e rail k s = ap (touches_some row i) s.rail
     ∙ touched b row m h i d rail t k.admits k.at s
@@ -77,9 +77,9 @@ touched_at b row h m next i d t r a e rail k s = ap (touches_some row i) s.rail
 -- a report of rail d is a read of STATUS_WORD, and touches it
 pub report_by : (b : Board) (row : Row) (h : List Entry) (m next : Machine) (i d word : ℕ)
     (t : Target)
-    (r : Request) (a : Answered) (e : Entry) → Sending b row h m next i t r a e
+    (r : Transaction) (a : Answered) (e : Entry) → Sending b row h m next i t r a e
     → MessageReports b m.bus d word (Some (asked t m.regs r)) a
-    → (form_in r ≡ form.ReadWord) × (code_in r ≡ status_word_code) × (is_touched b row i d ≡ true)
+    → (r.form ≡ form.ReadWord) × (code_in r ≡ status_word_code) × (is_touched b row i d ≡ true)
 report_by b row h m next i d word t r a e k x =
     let same : x.rail.target ≡ i = only_one b k.board x.rail.target i x.target t x.at.target k.at
     (sym x.reports.read.to) in
@@ -97,8 +97,9 @@ report_by b row h m next i d word t r a e k x =
     )
 
 -- a withdrawal of rail d is a write of OPERATION that turns off, and touches it
-pub record TurnsOff (b : Board) (row : Row) (regs : List ℕ) (i d : ℕ) (r : Request) : Type 0 where
-  pub form : form_in r ≡ form.WriteByte
+pub record TurnsOff (b : Board) (row : Row) (regs : List ℕ) (i d : ℕ)
+    (r : Transaction) : Type 0 where
+  pub form : r.form ≡ form.WriteByte
   pub command : code_in r ≡ operation_code
   pub value : ℕ
   pub content : data_in regs r ≡ value ∷ []
@@ -107,7 +108,7 @@ pub record TurnsOff (b : Board) (row : Row) (regs : List ℕ) (i d : ℕ) (r : R
 
 pub withdrawal_by : (b : Board) (row : Row) (h : List Entry) (m next : Machine) (i d : ℕ)
     (t : Target)
-    (r : Request) (a : Answered) (e : Entry) → Sending b row h m next i t r a e
+    (r : Transaction) (a : Answered) (e : Entry) → Sending b row h m next i t r a e
     → MessageWithdraws b m.bus d (Some (asked t m.regs r)) a → TurnsOff b row m.regs i d r
 withdrawal_by b row h m next i d t r a e k x =
     let same : x.rail.target ≡ i = only_one b k.board x.rail.target i x.target t x.at.target k.at
@@ -125,10 +126,10 @@ withdrawal_by b row h m next i d t r a e k x =
 -- what a request may change
 pub request_changes : (b : Board) (row : Row) (h : List Entry) (m next : Machine) (i : ℕ)
     (t : Target)
-    (r : Request) (a : Answered) (e : Entry) (P W D : Set) → Sending b row h m next i t r a e
+    (r : Transaction) (a : Answered) (e : Entry) (P W D : Set) → Sending b row h m next i t r a e
     → ((u value : ℕ) → P u ≡ false → ByteWrite m.regs i u page_code value r → ⊥)
     → ((u value : ℕ) → W u ≡ false → ByteWrite m.regs i u write_protect_code value r → ⊥)
-    → ((d : ℕ) → D d ≡ false → form_in r ≡ form.ReadWord → code_in r ≡ status_word_code
+    → ((d : ℕ) → D d ≡ false → r.form ≡ form.ReadWord → code_in r ≡ status_word_code
     → is_touched b row i d ≡ true → ⊥)
     → ((d : ℕ) → D d ≡ false → TurnsOff b row m.regs i d r → ⊥)
     → Change b m h next (e ∷ h) P W D

@@ -27,8 +27,9 @@ use Rattle.simulator.specs.Steps.{alert_level, idle_ticks, IsStepOf}
 use Rattle.facts.specs.declared.rule.Rule.TheVariants.{K1}
 use Rattle.facts.specs.Sets.{empty}
 use Rattle.facts.specs.Rows.{Row}
-use Rattle.facts.specs.Requests.{Request, QuickTo, Send, Receive, Write, Read, Call, PutBlock}
-use Rattle.facts.specs.Requests.{GetBlock, CallBlock, sent}
+use Rattle.seq_program.specs.Requests.{Transaction, quick, send, receive, write, read, call}
+use Rattle.seq_program.specs.Requests.{write_block}
+use Rattle.seq_program.specs.Requests.{read_block, call_block, request}
 use Rattle.facts.specs.Duties.{MayBeSent}
 use Rattle.facts.specs.Ticks.{frame_ticks, longest_slots, ticks_of, worst_ticks}
 use Rattle.facts.specs.Steps.{Leads, Stands, IsSoundStep, StepsAreSound}
@@ -41,6 +42,8 @@ use Rattle.facts.proofs.Sound.Silent.{leads_same, leads_again}
 use Rattle.facts.proofs.Sound.Ifs.{leads_if}
 use Rattle.facts.proofs.Sound.Counters.{leads_ifalert, leads_set, leads_add, leads_above}
 use Rattle.facts.proofs.Sound.Counters.{leads_count}
+use Rattle.facts.proofs.Shared.Asking.{Quick, Send, Receive, Write, Read, Call, PutBlock}
+use Rattle.facts.proofs.Shared.Asking.{GetBlock, CallBlock}
 use Rattle.facts.proofs.Shared.Asking.{asked, regs_after, Sending}
 use Rattle.facts.proofs.Sound.SafeSteps.{safe_message, safe_silence}
 use Rattle.facts.proofs.Sound.Sorts.{Requests, request_duty}
@@ -80,7 +83,7 @@ is_instr b p i row m h k = all_at (λ (x : Instr). IsInstr x) p m.place i k.prog
 
 request_sound : Laws → (b : Board) (p : List Instr) (i : Instr) (row : Row) (m : Machine)
     (h : List Entry) (a : Answered) (e : Entry) (next : Machine) (target otherwise : ℕ)
-    (r : Request)
+    (r : Transaction)
     → Stands b p i row m h → Requests b i m.regs target r otherwise
     → IsStepOf b i (message_of b i m.regs) m a e next → IsSoundStep b i row m h e next
 request_sound laws b p i row m h a e next target otherwise r k q step =
@@ -111,9 +114,9 @@ request_sound laws b p i row m h a e next target otherwise r k q step =
       regs = ap (λ (z : Machine). z.regs) by.next_is ∙ moved_regs i r msg o next.bus m q.result;
       counters = ap (λ (z : Machine). z.counters) by.next_is ∙ moved_counters i msg o next.bus m;
     } in
-    let worst : worst_ticks b i ≡ frame_ticks b (longest_slots b (sent target r otherwise)) =
+    let worst : worst_ticks b i ≡ frame_ticks b (longest_slots b (request target r otherwise)) =
     ap (ticks_of b i) q.sent in
-    let few : length e.samples ≤ frame_ticks b (longest_slots b (sent target r otherwise)) =
+    let few : length e.samples ≤ frame_ticks b (longest_slots b (request target r otherwise)) =
     request_ticks b row h m next target t r otherwise a e k' in
     let ticks : e.ticks ≡ length e.samples = step_ticks b i (Some msg) m a e next by in
     record {
@@ -142,9 +145,9 @@ alert_sound laws b p r l row m h a e next k step =
     ap (λ (z : Machine). z.place) step.next_is
     ∙ moved_place (instr.Alert r l) alert_message o next.bus
     m in
-    let regs : next.regs ≡ regs_after (Receive r) m.regs o =
+    let regs : next.regs ≡ regs_after (receive r) m.regs o =
     ap (λ (z : Machine). z.regs) step.next_is
-    ∙ moved_regs (instr.Alert r l) (Receive r) alert_message o
+    ∙ moved_regs (instr.Alert r l) (receive r) alert_message o
     next.bus m refl in
     let k' : AlertStep b row h m next r l a e = record {
       shaped = k.shaped;
@@ -158,7 +161,7 @@ alert_sound laws b p r l row m h a e next k step =
       done = λ v is. (
         place ∙ ap (place_after (instr.Alert r l) m.place) is,
         regs ∙ ap
-            (regs_after (Receive r) m.regs) is,
+            (regs_after (receive r) m.regs) is,
       );
       other = λ never. (place ∙ otherwise o never, regs ∙ unchanged o never);
       counters = ap (λ (z : Machine). z.counters) step.next_is
@@ -189,7 +192,7 @@ alert_sound laws b p r l row m h a e next k step =
     otherwise TimedOut never = refl
 
     unchanged : (o : Outcome) → ((v : ℕ) → o ≡ Done v → ⊥)
-        → regs_after (Receive r) m.regs o ≡ m.regs
+        → regs_after (receive r) m.regs o ≡ m.regs
     unchanged (Done v) never = absurd (never v refl)
     unchanged NotAcknowledged never = refl
     unchanged TimedOut never = refl
@@ -252,33 +255,88 @@ sound : Laws
     → Stands b p i row m h → IsInstr i → IsStepOf b i (message_of b i m.regs) m a e next
     → IsSoundStep b i row m h e next
 sound laws b p (instr.Quick t read l) row m h a e next k ok step =
-    request_sound laws b p (instr.Quick t read l) row m h a e next t l (QuickTo read) k
-    (record { sent = refl; asks = refl; result = refl; jump = refl; request = ok }) step
+    request_sound laws b p (instr.Quick t read l) row m h a e next t l (quick read) k
+    (record {
+      sent = refl;
+      asks = refl;
+      result = refl;
+      jump = refl;
+      request = Quick read;
+    }) step
 sound laws b p (instr.Send t c l) row m h a e next k ok step =
-    request_sound laws b p (instr.Send t c l) row m h a e next t l (Send c) k
-    (record { sent = refl; asks = refl; result = refl; jump = refl; request = ok }) step
+    request_sound laws b p (instr.Send t c l) row m h a e next t l (send c) k
+    (record {
+      sent = refl;
+      asks = refl;
+      result = refl;
+      jump = refl;
+      request = Send c ok;
+    }) step
 sound laws b p (instr.Receive t r l) row m h a e next k ok step =
-    request_sound laws b p (instr.Receive t r l) row m h a e next t l (Receive r) k
-    (record { sent = refl; asks = refl; result = refl; jump = refl; request = ok }) step
+    request_sound laws b p (instr.Receive t r l) row m h a e next t l (receive r) k
+    (record {
+      sent = refl;
+      asks = refl;
+      result = refl;
+      jump = refl;
+      request = Receive r ok;
+    }) step
 sound laws b p (instr.Write t c v l) row m h a e next k ok step =
-    request_sound laws b p (instr.Write t c v l) row m h a e next t l (Write c v) k
-    (record { sent = refl; asks = refl; result = refl; jump = refl; request = ok }) step
+    request_sound laws b p (instr.Write t c v l) row m h a e next t l (write c v) k
+    (record {
+      sent = refl;
+      asks = refl;
+      result = refl;
+      jump = refl;
+      request = Write c v ok;
+    }) step
 sound laws b p (instr.Read t c w r l) row m h a e next k ok step =
-    request_sound laws b p (instr.Read t c w r l) row m h a e next t l (Read c w r) k
-    (record { sent = refl; asks = refl; result = refl; jump = refl; request = ok }) step
+    request_sound laws b p (instr.Read t c w r l) row m h a e next t l (read c w r) k
+    (record {
+      sent = refl;
+      asks = refl;
+      result = refl;
+      jump = refl;
+      request = Read c w r ok.0 ok.1;
+    }) step
 sound laws b p (instr.Call t c v r l) row m h a e next k ok step =
-    request_sound laws b p (instr.Call t c v r l) row m h a e next t l (Call c v r) k
-    (record { sent = refl; asks = refl; result = refl; jump = refl; request = ok }) step
+    request_sound laws b p (instr.Call t c v r l) row m h a e next t l (call c v r) k
+    (record {
+      sent = refl;
+      asks = refl;
+      result = refl;
+      jump = refl;
+      request = Call c v r ok.0 ok.1 ok.2;
+    }) step
 sound laws b p (instr.BlockWrite t c bytes l) row m h a e next k ok step =
-    request_sound laws b p (instr.BlockWrite t c bytes l) row m h a e next t l (PutBlock c bytes) k
-    (record { sent = refl; asks = refl; result = refl; jump = refl; request = ok }) step
+    request_sound laws b p (instr.BlockWrite t c bytes l) row m h a e next t l
+    (write_block c bytes) k
+    (record {
+      sent = refl;
+      asks = refl;
+      result = refl;
+      jump = refl;
+      request = PutBlock c bytes ok.0 ok.1;
+    }) step
 sound laws b p (instr.BlockRead t c r l) row m h a e next k ok step =
-    request_sound laws b p (instr.BlockRead t c r l) row m h a e next t l (GetBlock c r) k
-    (record { sent = refl; asks = refl; result = refl; jump = refl; request = ok }) step
+    request_sound laws b p (instr.BlockRead t c r l) row m h a e next t l (read_block c r) k
+    (record {
+      sent = refl;
+      asks = refl;
+      result = refl;
+      jump = refl;
+      request = GetBlock c r ok.0 ok.1;
+    }) step
 sound laws b p (instr.BlockCall t c bytes r l) row m h a e next k ok step =
     request_sound laws b p (instr.BlockCall t c bytes r l) row m h a e next t l
-    (CallBlock c bytes r) k
-    (record { sent = refl; asks = refl; result = refl; jump = refl; request = ok }) step
+    (call_block c bytes r) k
+    (record {
+      sent = refl;
+      asks = refl;
+      result = refl;
+      jump = refl;
+      request = CallBlock c bytes r ok.0 ok.1 ok.2;
+    }) step
 sound laws b p (instr.Alert r l) row m h a e next k ok step =
     alert_sound laws b p r l row m h a e next k step
 sound laws b p (instr.IfAlert l) row m h a e next k ok step =

@@ -11,16 +11,17 @@ use Rattle.targets.specs.States.{BusState}
 use Rattle.seq_program.specs.declared.instr.Instr.{Instr}
 use Rattle.seq_program.specs.Valid.{jump_in}
 use Rattle.simulator.specs.Machines.{Machine, Entry}
-use Rattle.simulator.specs.Moves.{result_in, moved}
+use Rattle.simulator.specs.Moves.{moved}
+use Rattle.seq_program.specs.Requests.{result_in}
 use Rattle.simulator.specs.Steps.{IsStepOf}
 use Rattle.facts.specs.Rows.{Row, Admits, rank}
-use Rattle.facts.specs.Requests.{Request}
-use Rattle.facts.specs.Requests.{sent, sent_in}
+use Rattle.seq_program.specs.Requests.{Transaction}
+use Rattle.seq_program.specs.Requests.{request, request_in}
 use Rattle.facts.specs.Edges.{Effect, SetsPage, SetsProtect, TurnsOff, ReadsStatus, ReadsPage}
 use Rattle.facts.specs.Edges.{ReadsProtect, Loads, Nothing, Edge, edge, edges, edges_of, sent_edges}
 use Rattle.facts.specs.Edges.{effect_of, done_row, else_row}
 use Rattle.facts.specs.Steps.{HasEdge, Leads}
-use Rattle.facts.proofs.Shared.Asking.{register_in, regs_after}
+use Rattle.facts.proofs.Shared.Asking.{regs_after}
 use Rattle.facts.proofs.Sound.WriteEdges.{row_by}
 
 pub step_ticks : (b : Board) (i : Instr) (o : Option Asked) (m : Machine) (a : Answered) (e : Entry)
@@ -29,7 +30,7 @@ step_ticks b i o m a e next step = ap (λ (x : Entry). x.ticks) step.entry_is
     ∙ sym (ap (λ (x : Entry). length x.samples) step.entry_is)
 
 -- ranks along the edges of a request
-pub done_rank : (b : Board) (row : Row) (i : ℕ) (r : Request) (f : Effect) (counters : List ℕ)
+pub done_rank : (b : Board) (row : Row) (i : ℕ) (r : Transaction) (f : Effect) (counters : List ℕ)
     → rank (done_row b row i r f) counters ≡ rank row counters
 done_rank b row i r (SetsPage v) counters = refl
 done_rank b row i r (SetsProtect v) counters = refl
@@ -78,8 +79,9 @@ moved_ended i msg (Done v) s m = refl
 moved_ended i msg NotAcknowledged s m = refl
 moved_ended i msg TimedOut s m = refl
 
-pub moved_regs : (i : Instr) (r : Request) (msg : Asked) (o : Outcome) (s : BusState) (m : Machine)
-    → result_in i ≡ register_in r → (moved i (Some msg) o s m).regs ≡ regs_after r m.regs o
+pub moved_regs : (i : Instr) (r : Transaction) (msg : Asked) (o : Outcome) (s : BusState)
+    (m : Machine)
+    → result_in i ≡ r.register → (moved i (Some msg) o s m).regs ≡ regs_after r m.regs o
 moved_regs i r msg (Done v) s m e =
     ap (λ (z : Option ℕ). Rattle.simulator.specs.Moves.with_result z v
     m.regs) e
@@ -89,17 +91,17 @@ moved_regs i r msg TimedOut s m e = refl
 -- the edge that the outcome takes
 pub leads_request : (b : Board) (row : Row) (m : Machine) (next : Machine) (h' : List Entry)
     (i : Instr)
-    (target otherwise : ℕ) (r : Request) (o : Outcome)
-    → sent_in i ≡ Some (sent target r otherwise) → jump_in i ≡ Some otherwise
+    (target otherwise : ℕ) (r : Transaction) (o : Outcome)
+    → request_in i ≡ Some (request target r otherwise) → jump_in i ≡ Some otherwise
     → next.place ≡ place_after i m.place o → Admits b (row_by b row target r o) next h'
     → next.counters ≡ m.counters → Leads b m.place i row m next h'
 leads_request b row m next h' i target otherwise r o sends jump place admits counters =
     by o place admits
   where
-    all : edges b m.place i row ≡ sent_edges b m.place (sent target r otherwise) row
+    all : edges b m.place i row ≡ sent_edges b m.place (request target r otherwise) row
     all = ap (edges_of b m.place i row) sends
 
-    there : (x : Edge) → HasEdge (sent_edges b m.place (sent target r otherwise) row) x
+    there : (x : Edge) → HasEdge (sent_edges b m.place (request target r otherwise) row) x
         → HasEdge (edges b m.place i row) x
     there x k = let P : List Edge → Type 0 = λ es. HasEdge es x in
         subst P (sym (ap (edges_of b m.place i row) sends)) k

@@ -24,7 +24,7 @@ use Rattle.facts.specs.declared.rule.Rule.TheVariants.{K1}
 use Rattle.facts.specs.declared.source.Source.TheVariants as source
 use Rattle.facts.specs.Sets.{empty}
 use Rattle.facts.specs.Rows.{Row, Admits, IsFrom, InSpan, set_at}
-use Rattle.facts.specs.Requests.{Request, Read, form_in, code_in}
+use Rattle.seq_program.specs.Requests.{Transaction, read, code_in}
 use Rattle.facts.specs.Duties.{is_touched}
 use Rattle.facts.specs.Edges.{Effect, ReadsStatus, ReadsPage, ReadsProtect, Loads, Nothing}
 use Rattle.facts.specs.Edges.{effect_of, without_touched, bounds, span_of, loaded, single, rail_on}
@@ -34,14 +34,15 @@ use Rattle.facts.proofs.Shared.Places.{protect_small}
 use Rattle.facts.proofs.Shared.Bounds.{bounds_hold, single_is}
 use Rattle.facts.proofs.Sound.RowChanges.{Change, admits_same, admits_touched, admits_reg}
 use Rattle.facts.proofs.Sound.Loads.{admits_load}
-use Rattle.facts.proofs.Shared.Asking.{asked, register_in, regs_after, ending, Sending, place_is}
+use Rattle.facts.proofs.Shared.Asking.{register_small}
+use Rattle.facts.proofs.Shared.Asking.{asked, regs_after, ending, Sending, place_is}
 use Rattle.facts.proofs.Shared.Asking.{values_same, values_there}
 use Rattle.facts.proofs.Sound.SafeRequests.{Entered, entered}
 use Rattle.facts.proofs.Sound.Effects.{is_done, done_value, request_changes}
 use Rattle.facts.proofs.Sound.WriteEdges.{row_by, regs_same}
 
 -- one argument for the done edge, and one for every other outcome
-pub by_effect : (b : Board) (row : Row) (next : Machine) (h' : List Entry) (i : ℕ) (r : Request)
+pub by_effect : (b : Board) (row : Row) (next : Machine) (h' : List Entry) (i : ℕ) (r : Transaction)
     (f : Effect) (o : Outcome) → effect_of r ≡ f
     → ((v : ℕ) → o ≡ Done v → Admits b (done_row b row i r f) next h')
     → (((v : ℕ) → o ≡ Done v → ⊥) → Admits b (else_row b row i f) next h')
@@ -62,19 +63,19 @@ by_effect b row next h' i r f TimedOut e done other = let P : Effect
     apart v z = cc
 
 -- where it isn't done no register changes
-pub regs_kept : (r : Request) (regs : List ℕ) (o : Outcome) → ((v : ℕ) → o ≡ Done v → ⊥)
+pub regs_kept : (r : Transaction) (regs : List ℕ) (o : Outcome) → ((v : ℕ) → o ≡ Done v → ⊥)
     → regs_after r regs o ≡ regs
 regs_kept r regs (Done v) never = absurd (never v refl)
 regs_kept r regs NotAcknowledged never = refl
 regs_kept r regs TimedOut never = refl
 
 -- neither a byte write nor a read of STATUS_WORD
-pub record IsQuiet (r : Request) : Type 0 where
-  pub no_write : form_in r ≡ form.WriteByte → ⊥
-  pub no_status : form_in r ≡ form.ReadWord → code_in r ≡ status_word_code → ⊥
+pub record IsQuiet (r : Transaction) : Type 0 where
+  pub no_write : r.form ≡ form.WriteByte → ⊥
+  pub no_status : r.form ≡ form.ReadWord → code_in r ≡ status_word_code → ⊥
 
 pub quiet_changes : (b : Board) (row : Row) (h : List Entry) (m next : Machine) (i : ℕ) (t : Target)
-    (r : Request) (a : Answered) (e : Entry) → Sending b row h m next i t r a e
+    (r : Transaction) (a : Answered) (e : Entry) → Sending b row h m next i t r a e
     → IsQuiet r → Change b m h next (e ∷ h) empty empty empty
 quiet_changes b row h m next i t r a e k q =
     request_changes b row h m next i t r a e empty empty empty k
@@ -84,8 +85,8 @@ quiet_changes b row h m next i t r a e k q =
 
 -- nothing is known anew
 pub nothing_edges : (b : Board) (row : Row) (h : List Entry) (m next : Machine) (i : ℕ) (t : Target)
-    (r : Request) (a : Answered) (e : Entry) → Sending b row h m next i t r a e
-    → IsQuiet r → effect_of r ≡ Nothing → register_in r ≡ None
+    (r : Transaction) (a : Answered) (e : Entry) → Sending b row h m next i t r a e
+    → IsQuiet r → effect_of r ≡ Nothing → r.register ≡ None
     → Admits b (row_by b row i r (ending t m.regs r a)) next (e ∷ h)
 nothing_edges b row h m next i t r a e k q f none =
     by_effect b row next (e ∷ h) i r Nothing (ending t m.regs r a) f (λ _ _. same) (λ _. same)
@@ -96,10 +97,10 @@ nothing_edges b row h m next i t r a e k q f none =
 
 -- the register after a read that is done
 loaded_regs : (b : Board) (row : Row) (h : List Entry) (m next : Machine) (i : ℕ) (t : Target)
-    (r : Request)
+    (r : Transaction)
     (a : Answered) (e : Entry) → Sending b row h m next i t r a e
-    → (g v : ℕ) → register_in r ≡ Some g → ending t m.regs r a ≡ Done v
-    → next.regs ≡ slice_set m.regs g (returned_by (form_in r) a.value a.bytes)
+    → (g v : ℕ) → r.register ≡ Some g → ending t m.regs r a ≡ Done v
+    → next.regs ≡ slice_set m.regs g (returned_by r.form a.value a.bytes)
 loaded_regs b row h m next i t r a e k g v some is =
     k.regs ∙ (ap (regs_after r m.regs) is
     ∙ (ap (λ (z : Option ℕ). Rattle.simulator.specs.Moves.with_result z v m.regs) some
@@ -107,14 +108,14 @@ loaded_regs b row h m next i t r a e k g v some is =
 
 -- a register is loaded
 pub load_edges : (b : Board) (row : Row) (h : List Entry) (m next : Machine) (i : ℕ) (t : Target)
-    (r : Request) (a : Answered) (e : Entry) → Sending b row h m next i t r a e
-    → (g : ℕ) → IsQuiet r → effect_of r ≡ Loads g → register_in r ≡ Some g → g < 8
-    → InSpan (loaded b i r) (returned_by (form_in r) a.value a.bytes)
+    (r : Transaction) (a : Answered) (e : Entry) → Sending b row h m next i t r a e
+    → (g : ℕ) → IsQuiet r → effect_of r ≡ Loads g → r.register ≡ Some g → g < 8
+    → InSpan (loaded b i r) (returned_by r.form a.value a.bytes)
     → Admits b (row_by b row i r (ending t m.regs r a)) next (e ∷ h)
 load_edges b row h m next i t r a e k g q f some lt inside =
     by_effect b row next (e ∷ h) i r (Loads g) (ending t m.regs r a) f
     (λ v is. admits_load b row m h next (e ∷ h) g (loaded b i r) source.None
-    (returned_by (form_in r) a.value a.bytes) k.shaped k.admits changes lt inside tt k.counters
+    (returned_by r.form a.value a.bytes) k.shaped k.admits changes lt inside tt k.counters
     (loaded_regs b row h m next i t r a e k g v some is))
     (λ never. admits_same b row m h next (e ∷ h) k.admits changes
     (k.regs ∙ regs_kept r m.regs (ending t m.regs r a) never) k.counters)
@@ -123,18 +124,19 @@ load_edges b row h m next i t r a e k g q f some lt inside =
     changes = quiet_changes b row h m next i t r a e k q
 
 -- what lies in the entry's range is loaded
-pub in_loaded : (b : Board) (i : ℕ) (t : Target) (r : Request) (x : Allow) (v : ℕ)
+pub in_loaded : (b : Board) (i : ℕ) (t : Target) (r : Transaction) (x : Allow) (v : ℕ)
     → IsTargetAt b i t
-    → entry_of (form_in r) (code_in r) t.allow ≡ Some x → IsIn x.values v → InSpan (loaded b i r) v
+    → entry_of r.form (code_in r) t.allow ≡ Some x → IsIn x.values v → InSpan (loaded b i r) v
 unfolding loaded
 in_loaded b i t r x v at' listed is =
     let P : Range → Type 0 = λ z. InSpan (span_of z) v in
     subst P (sym (values_there b i t r x at' listed)) (is.above, is.below)
 
 -- and of a form of bytes it is a byte
-pub byte_loaded : (b : Board) (row : Row) (i : ℕ) (t : Target) (r : Request) (x : Entered b row t r)
+pub byte_loaded : (b : Board) (row : Row) (i : ℕ) (t : Target) (r : Transaction)
+    (x : Entered b row t r)
     (v : ℕ)
-    → IsTargetAt b i t → Range.high (full_values (form_in r)) ≡ 255 → IsIn x.entry.values v
+    → IsTargetAt b i t → Range.high (full_values r.form) ≡ 255 → IsIn x.entry.values v
     → InSpan (loaded b i r) (v % 256)
 byte_loaded b row i t r x v at' bytes is =
     let top : Range.high x.entry.values ≤ Range.high (full_values x.entry.form) =
@@ -152,7 +154,7 @@ byte_loaded b row i t r x v at' bytes is =
     small v high most p q e = omega (arith, p, q, e)
 
 -- a block's first byte
-pub first_loaded : (b : Board) (row : Row) (i : ℕ) (t : Target) (r : Request)
+pub first_loaded : (b : Board) (row : Row) (i : ℕ) (t : Target) (r : Transaction)
     (x : Entered b row t r)
     (bytes : List ℕ) → IsTargetAt b i t → IsIn x.entry.length (length bytes)
     → All (IsIn x.entry.values) bytes
@@ -164,7 +166,7 @@ first_loaded b row i t r x bytes at' count each =
     (each 0 0 (omega (arith, one, more)))
 
 -- reads of PAGE and WRITE_PROTECT
-quiet_read : (c g : ℕ) → IsQuiet (Read c width.Byte g)
+quiet_read : (c g : ℕ) → IsQuiet (read c width.Byte g)
 quiet_read c g = record { no_write = λ e. apart e; no_status = λ e _. other e }
   where
     apart : form.ReadByte ≡ form.WriteByte → ⊥
@@ -173,7 +175,7 @@ quiet_read c g = record { no_write = λ e. apart e; no_status = λ e _. other e 
     other : form.ReadByte ≡ form.ReadWord → ⊥
     other e = cc
 
-stored_value : (b : Board) (i : ℕ) (t : Target) (regs : List ℕ) (r : Request) (stored : List ℕ)
+stored_value : (b : Board) (i : ℕ) (t : Target) (regs : List ℕ) (r : Transaction) (stored : List ℕ)
     (v : ℕ)
     → Rattle.board.specs.Valid.IsBoard b → IsTargetAt b i t
     → IsStoredBy b stored (asked t regs r) v → slice_index stored i ≡ v
@@ -187,28 +189,28 @@ low_byte v x e lt = omega (arith, e, lt)
 pub page_read_edges : (b : Board) (row : Row) (h : List Entry) (m next : Machine) (i : ℕ)
     (t : Target)
     (g : ℕ) (a : Answered) (e : Entry)
-    → Sending b row h m next i t (Read page_code width.Byte g) a e
-    → Admits b (row_by b row i (Read page_code width.Byte g)
-    (ending t m.regs (Read page_code width.Byte g) a)) next (e ∷ h)
+    → Sending b row h m next i t (read page_code width.Byte g) a e
+    → Admits b (row_by b row i (read page_code width.Byte g)
+    (ending t m.regs (read page_code width.Byte g) a)) next (e ∷ h)
 page_read_edges b row h m next i t g a e k =
-    by_effect b row next (e ∷ h) i (Read page_code width.Byte g)
-    (ReadsPage g) (ending t m.regs (Read page_code width.Byte g) a) refl
+    by_effect b row next (e ∷ h) i (read page_code width.Byte g)
+    (ReadsPage g) (ending t m.regs (read page_code width.Byte g) a) refl
     (λ v is. admits_load b row m h next (e ∷ h) g (bounds (set_at row.pages i)) (source.Page i)
-    (a.value % 256) k.shaped k.admits changes k.request.1
+    (a.value % 256) k.shaped k.admits changes (register_small _ g k.request refl)
     (let P : ℕ → Type 0 = λ x. InSpan (bounds (set_at row.pages i)) x in
     subst P (sym value)
     (bounds_hold (set_at row.pages i) (slice_index m.bus.page i) (omega (arith, small))
     (k.admits.pages i (within b.targets i t k.at))))
     (within b.targets i t k.at, value ∙ sym (changes.pages i (within b.targets i t k.at) refl))
     k.counters
-    (loaded_regs b row h m next i t (Read page_code width.Byte g) a e k g v refl is))
+    (loaded_regs b row h m next i t (read page_code width.Byte g) a e k g v refl is))
     (λ never. admits_same b row m h next (e ∷ h) k.admits changes
-    (k.regs ∙ regs_kept (Read page_code width.Byte g) m.regs
-    (ending t m.regs (Read page_code width.Byte g) a) never) k.counters)
+    (k.regs ∙ regs_kept (read page_code width.Byte g) m.regs
+    (ending t m.regs (read page_code width.Byte g) a) never) k.counters)
   where
     changes : Change b m h next (e ∷ h) empty empty empty
     changes =
-        quiet_changes b row h m next i t (Read page_code width.Byte g) a e k
+        quiet_changes b row h m next i t (read page_code width.Byte g) a e k
         (quiet_read page_code g)
 
     small : slice_index m.bus.page i < 256
@@ -217,7 +219,7 @@ page_read_edges b row h m next i t g a e k =
 
     value : a.value % 256 ≡ slice_index m.bus.page i
     value = low_byte a.value (slice_index m.bus.page i)
-        (stored_value b i t m.regs (Read page_code width.Byte g) m.bus.page a.value k.board k.at
+        (stored_value b i t m.regs (read page_code width.Byte g) m.bus.page a.value k.board k.at
         (k.fits.form.0.page refl))
         (page_small t (slice_index m.bus.page i) (is_target b i t k.board k.at)
         (k.belongs.targets i t k.at).page_valid)
@@ -225,27 +227,27 @@ page_read_edges b row h m next i t g a e k =
 pub protect_read_edges : (b : Board) (row : Row) (h : List Entry) (m next : Machine) (i : ℕ)
     (t : Target)
     (g : ℕ) (a : Answered) (e : Entry)
-    → Sending b row h m next i t (Read write_protect_code width.Byte g) a e
-    → Admits b (row_by b row i (Read write_protect_code width.Byte g)
-    (ending t m.regs (Read write_protect_code width.Byte g) a)) next (e ∷ h)
+    → Sending b row h m next i t (read write_protect_code width.Byte g) a e
+    → Admits b (row_by b row i (read write_protect_code width.Byte g)
+    (ending t m.regs (read write_protect_code width.Byte g) a)) next (e ∷ h)
 protect_read_edges b row h m next i t g a e k =
-    by_effect b row next (e ∷ h) i (Read write_protect_code width.Byte g) (ReadsProtect g)
-    (ending t m.regs (Read write_protect_code width.Byte g) a) refl
+    by_effect b row next (e ∷ h) i (read write_protect_code width.Byte g) (ReadsProtect g)
+    (ending t m.regs (read write_protect_code width.Byte g) a) refl
     (λ v is.
     admits_load b row m h next (e ∷ h) g (bounds (set_at row.protects i)) (source.Protect i)
-    (a.value % 256) k.shaped k.admits changes k.request.1
+    (a.value % 256) k.shaped k.admits changes (register_small _ g k.request refl)
     (let P : ℕ → Type 0 = λ x. InSpan (bounds (set_at row.protects i)) x in
     subst P (sym value) (bounds_hold (set_at row.protects i) (slice_index m.bus.protect i)
     (omega (arith, small)) (k.admits.protects i (within b.targets i t k.at))))
     (within b.targets i t k.at, value ∙ sym (changes.protects i (within b.targets i t k.at) refl))
     k.counters
-    (loaded_regs b row h m next i t (Read write_protect_code width.Byte g) a e k g v refl is))
+    (loaded_regs b row h m next i t (read write_protect_code width.Byte g) a e k g v refl is))
     (λ never. admits_same b row m h next (e ∷ h) k.admits changes
-    (k.regs ∙ regs_kept (Read write_protect_code width.Byte g) m.regs
-    (ending t m.regs (Read write_protect_code width.Byte g) a) never) k.counters)
+    (k.regs ∙ regs_kept (read write_protect_code width.Byte g) m.regs
+    (ending t m.regs (read write_protect_code width.Byte g) a) never) k.counters)
   where
     changes : Change b m h next (e ∷ h) empty empty empty
-    changes = quiet_changes b row h m next i t (Read write_protect_code width.Byte g) a e k
+    changes = quiet_changes b row h m next i t (read write_protect_code width.Byte g) a e k
         (quiet_read write_protect_code g)
 
     small : slice_index m.bus.protect i < 256
@@ -254,13 +256,13 @@ protect_read_edges b row h m next i t g a e k =
     value : a.value % 256 ≡ slice_index m.bus.protect i
     value = low_byte a.value (slice_index m.bus.protect i)
         (stored_value b i t m.regs
-        (Read write_protect_code width.Byte g) m.bus.protect a.value k.board k.at
+        (read write_protect_code width.Byte g) m.bus.protect a.value k.board k.at
         (k.fits.form.0.protect refl))
         (protect_small (slice_index m.bus.protect i) (k.belongs.targets i t k.at).protect_valid)
 
 -- a read of STATUS_WORD
-abbrev pub status_read : ℕ → Request
-status_read g = Read status_word_code width.Word g
+abbrev pub status_read : ℕ → Transaction
+status_read g = read status_word_code width.Word g
 
 status_changes : (b : Board) (row : Row) (h : List Entry) (m next : Machine) (i : ℕ) (t : Target)
     (g : ℕ)
@@ -335,7 +337,8 @@ status_edges b row h m next i t g a e k =
     (ending t m.regs (status_read g) a) refl
     (λ v is. admits_reg b (without_touched b row i) (record next { regs = m.regs }) next (e ∷ h) g
     (loaded b i (status_read g)) (status_source b row i) a.value
-    k.shaped.reg_count (length-map row.sources _ ∙ k.shaped.source_count) first k.request.1 inside
+    k.shaped.reg_count (length-map row.sources _ ∙ k.shaped.source_count) first
+    (register_small _ g k.request refl) inside
     (source_is_report b row h m next i t g a e v k is) refl refl
     (loaded_regs b row h m next i t (status_read g) a e k g v refl is))
     (λ never.

@@ -16,11 +16,15 @@ use Rattle.seq_program.specs.declared.instr.Written.TheVariants as written
 use Rattle.simulator.specs.Machines.{Machine, Entry}
 use Rattle.facts.specs.declared.rule.Rule.TheVariants.{K1}
 use Rattle.facts.specs.Rows.{Row, Admits, InSpan}
-use Rattle.facts.specs.Requests.{Request, QuickTo, Send, Receive, Write, Read, Call, PutBlock}
-use Rattle.facts.specs.Requests.{GetBlock, CallBlock}
+use Rattle.seq_program.specs.Requests.{Transaction, quick, send, receive, write, read, call}
+use Rattle.seq_program.specs.Requests.{write_block}
+use Rattle.seq_program.specs.Requests.{read_block, call_block}
 use Rattle.facts.specs.Edges.{TurnsOff, Nothing, written_effect, without_touched, loaded, done_row}
 use Rattle.facts.specs.Edges.{else_row}
-use Rattle.facts.proofs.Shared.Asking.{asked, ending, Sending, values_same, lengths_same}
+use Rattle.facts.proofs.Shared.Asking.{Quick, Send, Receive, Write, Read, Call, PutBlock}
+use Rattle.facts.proofs.Shared.Asking.{GetBlock, CallBlock}
+use Rattle.facts.proofs.Shared.Asking.{asked, ending, IsRequest, register_small, Sending}
+use Rattle.facts.proofs.Shared.Asking.{values_same, lengths_same}
 use Rattle.facts.proofs.Sound.SafeRequests.{Entered, entered}
 use Rattle.facts.proofs.Sound.WriteEdges.{byte_write, row_by, page_write, protect_write}
 use Rattle.facts.proofs.Sound.WriteEdges.{after_other}
@@ -31,7 +35,7 @@ use Rattle.facts.proofs.Sound.ReadEdges.{status_edges}
 
 -- the row of the edge that the outcome takes admits what follows
 abbrev pub Leaves : (b : Board) (row : Row) (h : List Entry) (m next : Machine) (i : ℕ) (t : Target)
-    (a : Answered) (e : Entry) → Request → Type 0
+    (a : Answered) (e : Entry) → Transaction → Type 0
 Leaves b row h m next i t a e r = Sending b row h m next i t r a e
     → Admits b (row_by b row i r (ending t m.regs r a)) next (e ∷ h)
 
@@ -40,7 +44,7 @@ effect_other : (c v : ℕ) → c ≢ page_code → c ≢ write_protect_code
 effect_other c v np nw = cond-false (c == page_code) _ _ (ne_eqb c page_code np)
     ∙ cond-false (c == write_protect_code) _ _ (ne_eqb c write_protect_code nw)
 
-done_by : (b : Board) (row : Row) (i : ℕ) (r : Request) (q : Bool)
+done_by : (b : Board) (row : Row) (i : ℕ) (r : Transaction) (q : Bool)
     → done_row b row i r (cond q TurnsOff Nothing) ≡ cond q (without_touched b row i) row
 done_by b row i r true = refl
 done_by b row i r false = refl
@@ -87,7 +91,7 @@ write_edges b row h m next i t a e c v = by_page (cases_eq c page_code)
 
 -- what was read lies in the entry's range
 read_in : (b : Board) (row : Row) (h : List Entry) (m next : Machine) (i : ℕ) (t : Target)
-    (r : Request)
+    (r : Transaction)
     (a : Answered) (e : Entry) (v : ℕ) → Sending b row h m next i t r a e → (x : Entered b row t r)
     → IsIn (Rattle.targets.specs.Fitting.values_for b (asked t m.regs r)) v → IsIn x.entry.values v
 read_in b row h m next i t r a e v k x is = let P : Range
@@ -95,10 +99,11 @@ read_in b row h m next i t r a e v k x is = let P : Range
     subst P (values_same b i t m.regs r x.entry k.board k.at x.listed) is
 
 entry_of_request : (b : Board) (row : Row) (h : List Entry) (m next : Machine) (i : ℕ) (t : Target)
-    (r : Request) (a : Answered) (e : Entry) → Sending b row h m next i t r a e → Entered b row t r
+    (r : Transaction) (a : Answered) (e : Entry) → Sending b row h m next i t r a e
+    → Entered b row t r
 entry_of_request b row h m next i t r a e k = entered b row i t r k.board k.at (k.duty K1)
 
-quiet_byte_read : (c g : ℕ) → IsQuiet (Read c width.Byte g)
+quiet_byte_read : (c g : ℕ) → IsQuiet (read c width.Byte g)
 quiet_byte_read c g = record { no_write = λ e. apart e; no_status = λ e _. other e }
   where
     apart : form.ReadByte ≡ form.WriteByte → ⊥
@@ -109,17 +114,18 @@ quiet_byte_read c g = record { no_write = λ e. apart e; no_status = λ e _. oth
 
 byte_read_edges : (b : Board) (row : Row) (h : List Entry) (m next : Machine) (i : ℕ) (t : Target)
     (a : Answered) (e : Entry) (c g : ℕ) → c ≢ page_code → c ≢ write_protect_code
-    → Leaves b row h m next i t a e (Read c width.Byte g)
+    → Leaves b row h m next i t a e (read c width.Byte g)
 byte_read_edges b row h m next i t a e c g np nw k =
-    let r = Read c width.Byte g in
+    let r = read c width.Byte g in
     let x = entry_of_request b row h m next i t r a e k in
     load_edges b row h m next i t r a e k g (quiet_byte_read c g)
     (cond-false (c == page_code) _ _ (ne_eqb c page_code np)
-    ∙ cond-false (c == write_protect_code) _ _ (ne_eqb c write_protect_code nw)) refl k.request.1
+    ∙ cond-false (c == write_protect_code) _ _ (ne_eqb c write_protect_code nw)) refl
+    (register_small r g k.request refl)
     (byte_loaded b row i t r x a.value k.at refl
     (read_in b row h m next i t r a e a.value k x (k.fits.form.0.other np nw)))
 
-quiet_word_read : (c g : ℕ) → c ≢ status_word_code → IsQuiet (Read c width.Word g)
+quiet_word_read : (c g : ℕ) → c ≢ status_word_code → IsQuiet (read c width.Word g)
 quiet_word_read c g ns = record { no_write = λ e. apart e; no_status = λ _ is. ns is }
   where
     apart : form.ReadWord ≡ form.WriteByte → ⊥
@@ -127,17 +133,18 @@ quiet_word_read c g ns = record { no_write = λ e. apart e; no_status = λ _ is.
 
 word_read_edges : (b : Board) (row : Row) (h : List Entry) (m next : Machine) (i : ℕ) (t : Target)
     (a : Answered) (e : Entry) (c g : ℕ) → c ≢ status_word_code
-    → Leaves b row h m next i t a e (Read c width.Word g)
+    → Leaves b row h m next i t a e (read c width.Word g)
 word_read_edges b row h m next i t a e c g ns k =
-    let r = Read c width.Word g in
+    let r = read c width.Word g in
     let x = entry_of_request b row h m next i t r a e k in
     load_edges b row h m next i t r a e k g (quiet_word_read c g ns)
-    (cond-false (c == status_word_code) _ _ (ne_eqb c status_word_code ns)) refl k.request.1
+    (cond-false (c == status_word_code) _ _ (ne_eqb c status_word_code ns)) refl
+    (register_small r g k.request refl)
     (in_loaded b i t r x.entry a.value k.at x.listed
     (read_in b row h m next i t r a e a.value k x k.fits.form.0))
 
 block_loaded : (b : Board) (row : Row) (h : List Entry) (m next : Machine) (i : ℕ) (t : Target)
-    (r : Request) (a : Answered) (e : Entry) (n : ℕ) → Sending b row h m next i t r a e
+    (r : Transaction) (a : Answered) (e : Entry) (n : ℕ) → Sending b row h m next i t r a e
     → FitsBlock b (asked t m.regs r) n a.bytes → InSpan (loaded b i r) (slice_index a.bytes 0)
 block_loaded b row h m next i t r a e n k f =
     let x = entry_of_request b row h m next i t r a e k in
@@ -147,10 +154,10 @@ block_loaded b row h m next i t r a e n k f =
     (subst P (lengths_same b i t m.regs r x.entry k.board k.at
     x.listed) f.count) (subst Q (values_same b i t m.regs r x.entry k.board k.at x.listed) f.each)
 
-pub request_edges : (b : Board) (row : Row) (h : List Entry) (m next : Machine) (i : ℕ) (t : Target)
-    (a : Answered) (e : Entry) (r : Request) → Leaves b row h m next i t a e r
-request_edges b row h m next i t a e (QuickTo read) k =
-    nothing_edges b row h m next i t (QuickTo read) a e k
+edges_by : (b : Board) (row : Row) (h : List Entry) (m next : Machine) (i : ℕ) (t : Target)
+    (a : Answered) (e : Entry) (r : Transaction) → IsRequest r → Leaves b row h m next i t a e r
+edges_by b row h m next i t a e r (Quick read) k =
+    nothing_edges b row h m next i t (quick read) a e k
     (record { no_write = λ e. apart e; no_status = λ e _. other e }) refl refl
   where
     apart : form.Quick read ≡ form.WriteByte → ⊥
@@ -158,7 +165,7 @@ request_edges b row h m next i t a e (QuickTo read) k =
 
     other : form.Quick read ≡ form.ReadWord → ⊥
     other e = cc
-request_edges b row h m next i t a e (Send c) k = nothing_edges b row h m next i t (Send c) a e k
+edges_by b row h m next i t a e r (Send c ok) k = nothing_edges b row h m next i t (send c) a e k
     (record { no_write = λ e. apart e; no_status = λ e _. other e }) refl refl
   where
     apart : form.SendByte ≡ form.WriteByte → ⊥
@@ -166,8 +173,8 @@ request_edges b row h m next i t a e (Send c) k = nothing_edges b row h m next i
 
     other : form.SendByte ≡ form.ReadWord → ⊥
     other e = cc
-request_edges b row h m next i t a e (Write c (written.Word v)) k =
-    nothing_edges b row h m next i t (Write c (written.Word v)) a e k
+edges_by b row h m next i t a e r (Write c (written.Word v) ok) k =
+    nothing_edges b row h m next i t (write c (written.Word v)) a e k
     (record { no_write = λ e. apart e; no_status = λ e _. other e }) refl refl
   where
     apart : form.WriteWord ≡ form.WriteByte → ⊥
@@ -175,8 +182,8 @@ request_edges b row h m next i t a e (Write c (written.Word v)) k =
 
     other : form.WriteWord ≡ form.ReadWord → ⊥
     other e = cc
-request_edges b row h m next i t a e (Write c (written.Register g)) k =
-    nothing_edges b row h m next i t (Write c (written.Register g)) a e k
+edges_by b row h m next i t a e r (Write c (written.Register g) ok) k =
+    nothing_edges b row h m next i t (write c (written.Register g)) a e k
     (record { no_write = λ e. apart e; no_status = λ e _. other e }) refl refl
   where
     apart : form.WriteWord ≡ form.WriteByte → ⊥
@@ -184,8 +191,8 @@ request_edges b row h m next i t a e (Write c (written.Register g)) k =
 
     other : form.WriteWord ≡ form.ReadWord → ⊥
     other e = cc
-request_edges b row h m next i t a e (PutBlock c bytes) k =
-    nothing_edges b row h m next i t (PutBlock c bytes) a e k
+edges_by b row h m next i t a e r (PutBlock c bytes ok block) k =
+    nothing_edges b row h m next i t (write_block c bytes) a e k
     (record { no_write = λ e. apart e; no_status = λ e _. other e }) refl refl
   where
     apart : form.BlockWrite ≡ form.WriteByte → ⊥
@@ -193,73 +200,77 @@ request_edges b row h m next i t a e (PutBlock c bytes) k =
 
     other : form.BlockWrite ≡ form.ReadWord → ⊥
     other e = cc
-request_edges b row h m next i t a e (Write c (written.Byte v)) k =
+edges_by b row h m next i t a e r (Write c (written.Byte v) ok) k =
     write_edges b row h m next i t a e c v k
-request_edges b row h m next i t a e (Receive g) k =
-    let x = entry_of_request b row h m next i t (Receive g) a e k in
-    load_edges b row h m next i t (Receive g) a e k g
-    (record { no_write = λ e. apart e; no_status = λ e _. other e }) refl refl k.request
-    (byte_loaded b row i t (Receive g) x a.value k.at refl
-    (read_in b row h m next i t (Receive g) a e a.value k x k.fits.form.0))
+edges_by b row h m next i t a e r (Receive g lt) k =
+    let x = entry_of_request b row h m next i t (receive g) a e k in
+    load_edges b row h m next i t (receive g) a e k g
+    (record { no_write = λ e. apart e; no_status = λ e _. other e }) refl refl lt
+    (byte_loaded b row i t (receive g) x a.value k.at refl
+    (read_in b row h m next i t (receive g) a e a.value k x k.fits.form.0))
   where
     apart : form.ReceiveByte ≡ form.WriteByte → ⊥
     apart e = cc
 
     other : form.ReceiveByte ≡ form.ReadWord → ⊥
     other e = cc
-request_edges b row h m next i t a e (Call c v g) k =
-    let x = entry_of_request b row h m next i t (Call c v g) a e k in
-    load_edges b row h m next i t (Call c v g) a e k g
-    (record { no_write = λ e. apart e; no_status = λ e _. other e }) refl refl k.request.2
-    (in_loaded b i t (Call c v g) x.entry a.value k.at x.listed
-    (read_in b row h m next i t (Call c v g) a e a.value k x k.fits.form.0))
+edges_by b row h m next i t a e r (Call c v g ok most lt) k =
+    let x = entry_of_request b row h m next i t (call c v g) a e k in
+    load_edges b row h m next i t (call c v g) a e k g
+    (record { no_write = λ e. apart e; no_status = λ e _. other e }) refl refl lt
+    (in_loaded b i t (call c v g) x.entry a.value k.at x.listed
+    (read_in b row h m next i t (call c v g) a e a.value k x k.fits.form.0))
   where
     apart : form.ProcessCall ≡ form.WriteByte → ⊥
     apart e = cc
 
     other : form.ProcessCall ≡ form.ReadWord → ⊥
     other e = cc
-request_edges b row h m next i t a e (GetBlock c g) k =
-    load_edges b row h m next i t (GetBlock c g) a e k g
-    (record { no_write = λ e. apart e; no_status = λ e _. other e }) refl refl k.request.1
-    (block_loaded b row h m next i t (GetBlock c g) a e 0 k k.fits.form.0)
+edges_by b row h m next i t a e r (GetBlock c g ok lt) k =
+    load_edges b row h m next i t (read_block c g) a e k g
+    (record { no_write = λ e. apart e; no_status = λ e _. other e }) refl refl lt
+    (block_loaded b row h m next i t (read_block c g) a e 0 k k.fits.form.0)
   where
     apart : form.BlockRead ≡ form.WriteByte → ⊥
     apart e = cc
 
     other : form.BlockRead ≡ form.ReadWord → ⊥
     other e = cc
-request_edges b row h m next i t a e (CallBlock c bytes g) k =
-    load_edges b row h m next i t (CallBlock c bytes g) a e k g
-    (record { no_write = λ e. apart e; no_status = λ e _. other e }) refl refl k.request.2
-    (block_loaded b row h m next i t (CallBlock c bytes g) a e (length bytes) k k.fits.form.0)
+edges_by b row h m next i t a e r (CallBlock c bytes g ok block lt) k =
+    load_edges b row h m next i t (call_block c bytes g) a e k g
+    (record { no_write = λ e. apart e; no_status = λ e _. other e }) refl refl lt
+    (block_loaded b row h m next i t (call_block c bytes g) a e (length bytes) k k.fits.form.0)
   where
     apart : form.BlockProcessCall ≡ form.WriteByte → ⊥
     apart e = cc
 
     other : form.BlockProcessCall ≡ form.ReadWord → ⊥
     other e = cc
-request_edges b row h m next i t a e (Read c width.Byte g) k = by_page (cases_eq c page_code) k
+edges_by b row h m next i t a e r (Read c width.Byte g ok lt) k = by_page (cases_eq c page_code) k
   where
     by_protect : c ≢ page_code → (c ≡ write_protect_code) ⊎ (c ≡ write_protect_code → ⊥)
-        → Leaves b row h m next i t a e (Read c width.Byte g)
+        → Leaves b row h m next i t a e (read c width.Byte g)
     by_protect np (inl is) = let P : ℕ → Type 0 = λ x. Leaves b row h m next i t a e
-        (Read x width.Byte g) in
+        (read x width.Byte g) in
         subst P (sym is) (λ k. protect_read_edges b row h m next i t g a e k)
     by_protect np (inr nw) = byte_read_edges b row h m next i t a e c g np nw
 
     by_page : (c ≡ page_code) ⊎ (c ≡ page_code → ⊥)
-        → Leaves b row h m next i t a e (Read c width.Byte g)
+        → Leaves b row h m next i t a e (read c width.Byte g)
     by_page (inl is) =
-        let P : ℕ → Type 0 = λ x. Leaves b row h m next i t a e (Read x width.Byte g) in
+        let P : ℕ → Type 0 = λ x. Leaves b row h m next i t a e (read x width.Byte g) in
         subst P (sym is) (λ k. page_read_edges b row h m next i t g a e k)
     by_page (inr np) = by_protect np (cases_eq c write_protect_code)
-request_edges b row h m next i t a e (Read c width.Word g) k =
+edges_by b row h m next i t a e r (Read c width.Word g ok lt) k =
     by_code (cases_eq c status_word_code) k
   where
     by_code : (c ≡ status_word_code) ⊎ (c ≡ status_word_code → ⊥)
-        → Leaves b row h m next i t a e (Read c width.Word g)
+        → Leaves b row h m next i t a e (read c width.Word g)
     by_code (inl is) =
-        let P : ℕ → Type 0 = λ x. Leaves b row h m next i t a e (Read x width.Word g) in
+        let P : ℕ → Type 0 = λ x. Leaves b row h m next i t a e (read x width.Word g) in
         subst P (sym is) (λ k. status_edges b row h m next i t g a e k)
     by_code (inr ns) = word_read_edges b row h m next i t a e c g ns
+
+pub request_edges : (b : Board) (row : Row) (h : List Entry) (m next : Machine) (i : ℕ) (t : Target)
+    (a : Answered) (e : Entry) (r : Transaction) → Leaves b row h m next i t a e r
+request_edges b row h m next i t a e r k = edges_by b row h m next i t a e r k.request k

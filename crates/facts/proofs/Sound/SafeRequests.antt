@@ -21,7 +21,7 @@ use Rattle.targets.specs.States.{IsTargetAt}
 use Rattle.targets.specs.Fitting.{IsIn}
 use Rattle.seq_program.specs.declared.instr.Width.TheVariants as width
 use Rattle.seq_program.specs.declared.instr.Written.TheVariants as written
-use Rattle.seq_program.specs.Messages.{low_byte_first}
+use Rattle.seq_program.specs.Requests.{low_byte_first}
 use Rattle.simulator.specs.Machines.{Machine, Entry}
 use Rattle.simulator.specs.Allowed.{word_of, IsInRange, is_operation_value, WritesOnly}
 use Rattle.simulator.specs.Reports.{Selects, IsReportedGood}
@@ -30,34 +30,36 @@ use Rattle.simulator.specs.StepDoes.{writes_data}
 use Rattle.facts.specs.declared.rule.Rule.TheVariants.{K1, K2, K3, K4, K5}
 use Rattle.facts.specs.declared.span.Span.{Span}
 use Rattle.facts.specs.Rows.{Row, Admits, IsRow, set_at, span_at, InSpan}
-use Rattle.facts.specs.Requests.{Request, QuickTo, Send, Receive, Write, Read, Call, PutBlock}
-use Rattle.facts.specs.Requests.{GetBlock, CallBlock, form_in, code_in, data_in}
+use Rattle.seq_program.specs.Requests.{Transaction, receive, write, read, call}
+use Rattle.seq_program.specs.Requests.{read_block, call_block, code_in, data_in}
 use Rattle.facts.specs.Duties.{touches, may_select, MayBeSent, IsInEntry}
 use Rattle.facts.specs.Duties.{IsKnownValue}
 use Rattle.facts.proofs.Shared.Places.{within, same_at, all_at, only_one, is_target}
 use Rattle.facts.proofs.Shared.Forms.{MayWrite, found_entry, guarded_write}
-use Rattle.facts.proofs.Shared.Asking.{asked, IsRequest, Sending, values_same, lengths_same}
+use Rattle.facts.proofs.Shared.Asking.{asked, IsRequest, Quick, Send, Receive, Write, Read, Call}
+use Rattle.facts.proofs.Shared.Asking.{PutBlock, GetBlock, CallBlock, Sending, values_same}
+use Rattle.facts.proofs.Shared.Asking.{lengths_same}
 use Rattle.facts.proofs.Sound.Counters.{reg_inside}
 use Rattle.facts.proofs.Sound.SafeSteps.{IsSafeMessage}
 
 -- the entry of a request, with the target at hand
-pub record Entered (b : Board) (row : Row) (t : Target) (r : Request) : Type 0 where
+pub record Entered (b : Board) (row : Row) (t : Target) (r : Transaction) : Type 0 where
   pub entry : Allow
-  pub listed : entry_of (form_in r) (code_in r) t.allow ≡ Some entry
+  pub listed : entry_of r.form (code_in r) t.allow ≡ Some entry
   pub in_entry : IsInEntry row entry r
   pub known : IsKnownValue t r
   pub is_entry : IsEntry entry
-  pub same : entry.form ≡ form_in r
+  pub same : entry.form ≡ r.form
 
-pub entered : (b : Board) (row : Row) (i : ℕ) (t : Target) (r : Request) → IsBoard b
+pub entered : (b : Board) (row : Row) (i : ℕ) (t : Target) (r : Transaction) → IsBoard b
     → IsTargetAt b i t
     → MayBeSent b row i r → Entered b row t r
 entered b row i t r is at' k =
     let same : k.target ≡ t = same_at b.targets i k.target t k.at at' in
-    let listed : entry_of (form_in r) (code_in r) t.allow ≡ Some k.entry = let P : Target
-    → Type 0 = λ u. entry_of (form_in r) (code_in r) u.allow ≡ Some k.entry in
+    let listed : entry_of r.form (code_in r) t.allow ≡ Some k.entry = let P : Target
+    → Type 0 = λ u. entry_of r.form (code_in r) u.allow ≡ Some k.entry in
     subst P same k.listed in
-    let good = found_entry IsEntry (form_in r) (code_in r) t.allow k.entry
+    let good = found_entry IsEntry r.form (code_in r) t.allow k.entry
     (recursion_from_All IsEntry t.allow (is_target b i t is at').entries) listed in
     record {
       entry = k.entry;
@@ -89,89 +91,90 @@ in_values e v w same k = subst (λ (n : ℕ). IsIn e.values n) same k
 
 -- what is written or read lies in the entry's ranges
 in_range : (b : Board) (row : Row) (h : List Entry) (m next : Machine) (i : ℕ) (t : Target)
-    (r : Request)
+    (r : Transaction) (q : IsRequest r)
     (a : Answered) (e : Entry) → Sending b row h m next i t r a e
-    → (x : Entered b row t r) → IsInRange (form_in r) x.entry (asked t m.regs r) a
-in_range b row h m next i t (QuickTo read) a e k x = tt
-in_range b row h m next i t (Send code) a e k x = tt
-in_range b row h m next i t (Receive register) a e k x =
+    → (x : Entered b row t r) → IsInRange r.form x.entry (asked t m.regs r) a
+in_range b row h m next i t r (Quick read) a e k x = tt
+in_range b row h m next i t r (Send code ok) a e k x = tt
+in_range b row h m next i t r (Receive register lt) a e k x =
     subst (λ (z : Range). IsIn z a.value)
-    (values_same b i t m.regs (Receive register) x.entry k.board k.at
+    (values_same b i t m.regs (receive register) x.entry k.board k.at
     x.listed) k.fits.form.0
-in_range b row h m next i t (Write code (written.Byte v)) a e k x =
+in_range b row h m next i t r (Write code (written.Byte v) ok) a e k x =
     record { above = x.in_entry.0; below = x.in_entry.1 }
-in_range b row h m next i t (Write code (written.Word v)) a e k x =
+in_range b row h m next i t r (Write code (written.Word v) ok) a e k x =
     in_values x.entry v (word_of (low_byte_first v)) (sym (word_back v))
     (record { above = x.in_entry.0; below = x.in_entry.1 })
-in_range b row h m next i t (Write code (written.Register q)) a e k x =
-    let v = slice_index m.regs q in
+in_range b row h m next i t r (Write code (written.Register g) ok) a e k x =
+    let v = slice_index m.regs g in
     in_values x.entry v (word_of (low_byte_first v)) (sym (word_back v))
-    (is_in x.entry.values (span_at row.regs q) v x.in_entry.0 x.in_entry.1
-    (written_inside b row m h q k.shaped k.admits k.request.2))
-in_range b row h m next i t (Read code width.Byte register) a e k x = λ np nw.
+    (is_in x.entry.values (span_at row.regs g) v x.in_entry.0 x.in_entry.1
+    (written_inside b row m h g k.shaped k.admits ok.2))
+in_range b row h m next i t r (Read code width.Byte register ok lt) a e k x = λ np nw.
     subst (λ (z : Range). IsIn z a.value)
-    (values_same b i t m.regs (Read code width.Byte register) x.entry
+    (values_same b i t m.regs (read code width.Byte register) x.entry
     k.board k.at x.listed) (k.fits.form.0.other np nw)
-in_range b row h m next i t (Read code width.Word register) a e k x =
+in_range b row h m next i t r (Read code width.Word register ok lt) a e k x =
     subst (λ (z : Range). IsIn z a.value)
-    (values_same b i t m.regs (Read code width.Word register) x.entry
+    (values_same b i t m.regs (read code width.Word register) x.entry
     k.board k.at x.listed) k.fits.form.0
-in_range b row h m next i t (Call code v register) a e k x =
+in_range b row h m next i t r (Call code v register ok most lt) a e k x =
     subst (λ (z : Range). IsIn z a.value)
-    (values_same b i t m.regs (Call code v register) x.entry k.board
+    (values_same b i t m.regs (call code v register) x.entry k.board
     k.at x.listed) k.fits.form.0
-in_range b row h m next i t (PutBlock code bytes) a e k x = x.in_entry
-in_range b row h m next i t (GetBlock code register) a e k x = record {
+in_range b row h m next i t r (PutBlock code bytes ok block) a e k x = x.in_entry
+in_range b row h m next i t r (GetBlock code register ok lt) a e k x = record {
   count = subst (λ (z : Range). IsIn z (length a.bytes))
-      (lengths_same b i t m.regs (GetBlock code register) x.entry k.board k.at x.listed)
+      (lengths_same b i t m.regs (read_block code register) x.entry k.board k.at x.listed)
       k.fits.form.0.count;
   each = subst (λ (z : Range). All (IsIn z) a.bytes)
-      (values_same b i t m.regs (GetBlock code register) x.entry k.board k.at x.listed)
+      (values_same b i t m.regs (read_block code register) x.entry k.board k.at x.listed)
       k.fits.form.0.each;
 }
-in_range b row h m next i t (CallBlock code bytes register) a e k x = record {
+in_range b row h m next i t r (CallBlock code bytes register ok block lt) a e k x = record {
   count = subst (λ (z : Range). IsIn z (length a.bytes))
-      (lengths_same b i t m.regs (CallBlock code bytes register) x.entry k.board k.at x.listed)
+      (lengths_same b i t m.regs (call_block code bytes register) x.entry k.board k.at x.listed)
       k.fits.form.0.count;
   each = subst (λ (z : Range). All (IsIn z) a.bytes)
-      (values_same b i t m.regs (CallBlock code bytes register) x.entry k.board k.at x.listed)
+      (values_same b i t m.regs (call_block code bytes register) x.entry k.board k.at x.listed)
       k.fits.form.0.each;
 }
 
 -- the value of a Write Byte is one of its command's
-byte_value : (t : Target) (m : Machine) (r : Request) (code : ℕ) (is_value : ℕ → Bool) → IsRequest r
+byte_value : (t : Target) (m : Machine) (r : Transaction) (code : ℕ) (is_value : ℕ → Bool)
+    → IsRequest r
     → IsKnownValue t r
-    → ((c v : ℕ) → IsKnownValue t (Write c (written.Byte v)) → c ≡ code → IsTrue (is_value v))
+    → ((c v : ℕ) → IsKnownValue t (write c (written.Byte v)) → c ≡ code → IsTrue (is_value v))
     → WritesOnly code is_value (asked t m.regs r)
-byte_value t m (Write c (written.Byte v)) code is_value q k by f e = by c v k e
-byte_value t m (Write c (written.Word v)) code is_value q k by f e = cc
-byte_value t m (Write c (written.Register n)) code is_value q k by f e = cc
-byte_value t m (QuickTo read) code is_value q k by f e = cc
-byte_value t m (Send c) code is_value q k by f e = cc
-byte_value t m (Receive n) code is_value q k by f e = cc
-byte_value t m (Read c width.Byte n) code is_value q k by f e = cc
-byte_value t m (Read c width.Word n) code is_value q k by f e = cc
-byte_value t m (Call c v n) code is_value q k by f e = cc
-byte_value t m (PutBlock c bytes) code is_value q k by f e = cc
-byte_value t m (GetBlock c n) code is_value q k by f e = cc
-byte_value t m (CallBlock c bytes n) code is_value q k by f e = cc
+byte_value t m r code is_value (Write c (written.Byte v) ok) k by f e = by c v k e
+byte_value t m r code is_value (Write c (written.Word v) ok) k by f e = cc
+byte_value t m r code is_value (Write c (written.Register n) ok) k by f e = cc
+byte_value t m r code is_value (Quick read) k by f e = cc
+byte_value t m r code is_value (Send c ok) k by f e = cc
+byte_value t m r code is_value (Receive n lt) k by f e = cc
+byte_value t m r code is_value (Read c width.Byte n ok lt) k by f e = cc
+byte_value t m r code is_value (Read c width.Word n ok lt) k by f e = cc
+byte_value t m r code is_value (Call c v n ok most lt) k by f e = cc
+byte_value t m r code is_value (PutBlock c bytes ok block) k by f e = cc
+byte_value t m r code is_value (GetBlock c n ok lt) k by f e = cc
+byte_value t m r code is_value (CallBlock c bytes n ok block lt) k by f e = cc
 
 -- a command that is written takes the form
-takes_written : (r : Request) → IsRequest r → MayWrite (form_in r)
-    → IsTrue (takes_form (code_in r) (form_in r))
-takes_written (Write c (written.Byte v)) q w = q.0
-takes_written (Write c (written.Word v)) q w = q.0
-takes_written (Write c (written.Register n)) q w = q.0
-takes_written (Send c) q w = q
-takes_written (Read c n g) q w = q.0
-takes_written (Call c v n) q w = q.0
-takes_written (PutBlock c bytes) q w = q.0
-takes_written (GetBlock c n) q w = q.0
-takes_written (CallBlock c bytes n) q w = q.0
-takes_written (QuickTo read) q (inl w) = absurd (false≢true w)
-takes_written (QuickTo read) q (inr e) = cc
-takes_written (Receive n) q (inl w) = absurd (false≢true w)
-takes_written (Receive n) q (inr e) = cc
+pub takes_written : (r : Transaction) → IsRequest r → MayWrite r.form
+    → IsTrue (takes_form (code_in r) r.form)
+takes_written r (Write c (written.Byte v) ok) w = ok.0
+takes_written r (Write c (written.Word v) ok) w = ok.0
+takes_written r (Write c (written.Register n) ok) w = ok.0
+takes_written r (Send c ok) w = ok
+takes_written r (Read c n g ok lt) w = ok
+takes_written r (Call c v n ok most lt) w = ok
+takes_written r (PutBlock c bytes ok block) w = ok
+takes_written r (GetBlock c n ok lt) w = ok
+takes_written r (CallBlock c bytes n ok block lt) w = ok
+takes_written r (Quick read) (inl w) = absurd (false≢true w)
+takes_written r (Quick read) (inr e) = cc
+takes_written r (Receive n lt) (inl w) = absurd (false≢true w)
+takes_written r (Receive n lt) (inr e) = cc
 
 -- a page that may be stored touches what it selects
 pub touched : (b : Board) (row : Row) (m : Machine) (h : List Entry) (i d : ℕ) (r : Rail)
@@ -201,14 +204,15 @@ lower_within v top t r le k =
 
 -- K4: a word that goes out is the one that is commanded
 voltage_of : (b : Board) (row : Row) (h : List Entry) (m next : Machine) (i : ℕ) (t : Target)
-    (r : Request)
+    (r : Transaction) (q : IsRequest r)
     (a : Answered) (e : Entry) → Sending b row h m next i t r a e
-    → (low high d : ℕ) (rail : Rail) → form_in r ≡ form.WriteWord
+    → (low high d : ℕ) (rail : Rail) → r.form ≡ form.WriteWord
     → IsTrue (carries_voltage (code_in r))
     → data_in m.regs r ≡ low ∷ high ∷ []
     → slice_get b.rails d ≡ Some rail → IsTrue (touches row i rail)
     → IsWithin (low + 256 * high) t.exponent rail.limit_uv
-voltage_of b row h m next i t (Write c (written.Word v)) a e k low high d rail f sets out at' hit =
+voltage_of b row h m next i t r
+    (Write c (written.Word v) ok) a e k low high d rail f sets out at' hit =
     let same : low + 256 * high ≡ v = two v low high out in
     rw same ((k.duty K4) sets t d rail k.at at' hit)
   where
@@ -218,11 +222,11 @@ voltage_of b row h m next i t (Write c (written.Word v)) a e k low high d rail f
         let y : v / 256 ≡ high = cc in
         omega (arith, x, y)
 voltage_of b row h m next i t
-    (Write c (written.Register n)) a e k low high d rail f sets out at' hit =
+    r (Write c (written.Register n) ok) a e k low high d rail f sets out at' hit =
     let v = slice_index m.regs n in
     let same : low + 256 * high ≡ v = two v low high out in
     let inside : InSpan (span_at row.regs n) v =
-    written_inside b row m h n k.shaped k.admits k.request.2 in
+    written_inside b row m h n k.shaped k.admits ok.2 in
     rw same (lower_within v (Span.hi (span_at row.regs n)) t rail inside.1
     ((k.duty K4) sets t d rail k.at at' hit))
   where
@@ -231,41 +235,53 @@ voltage_of b row h m next i t
         let x : v % 256 ≡ low = cc in
         let y : v / 256 ≡ high = cc in
         omega (arith, x, y)
-voltage_of b row h m next i t (Write c (written.Byte v)) a e k low high d rail f code out at' hit =
+voltage_of b row h m next i t r
+    (Write c (written.Byte v) ok) a e k low high d rail f code out at' hit =
     cc
-voltage_of b row h m next i t (QuickTo read) a e k low high d rail f code out at' hit = cc
-voltage_of b row h m next i t (Send c) a e k low high d rail f code out at' hit = cc
-voltage_of b row h m next i t (Receive n) a e k low high d rail f code out at' hit = cc
-voltage_of b row h m next i t (Read c width.Byte n) a e k low high d rail f code out at' hit = cc
-voltage_of b row h m next i t (Read c width.Word n) a e k low high d rail f code out at' hit = cc
-voltage_of b row h m next i t (Call c v n) a e k low high d rail f code out at' hit = cc
-voltage_of b row h m next i t (PutBlock c bytes) a e k low high d rail f code out at' hit = cc
-voltage_of b row h m next i t (GetBlock c n) a e k low high d rail f code out at' hit = cc
-voltage_of b row h m next i t (CallBlock c bytes n) a e k low high d rail f code out at' hit = cc
+voltage_of b row h m next i t r (Quick read) a e k low high d rail f code out at' hit = cc
+voltage_of b row h m next i t r (Send c ok) a e k low high d rail f code out at' hit = cc
+voltage_of b row h m next i t r (Receive n lt) a e k low high d rail f code out at' hit = cc
+voltage_of b row h m next i t r
+    (Read c width.Byte n ok lt) a e k low high d rail f code out at' hit = cc
+voltage_of b row h m next i t r
+    (Read c width.Word n ok lt) a e k low high d rail f code out at' hit = cc
+voltage_of b row h m next i t r (Call c v n ok most lt) a e k low high d rail f code out at' hit =
+    cc
+voltage_of b row h m next i t r
+    (PutBlock c bytes ok block) a e k low high d rail f code out at' hit = cc
+voltage_of b row h m next i t r (GetBlock c n ok lt) a e k low high d rail f code out at' hit = cc
+voltage_of b row h m next i t r
+    (CallBlock c bytes n ok block lt) a e k low high d rail f code out at' hit = cc
 
 -- K5: a byte that goes out is the one that is written
 needs_of : (b : Board) (row : Row) (h : List Entry) (m next : Machine) (i : ℕ) (t : Target)
-    (r : Request)
+    (r : Transaction) (q : IsRequest r)
     (a : Answered) (e : Entry) → Sending b row h m next i t r a e
-    → (value d : ℕ) (rail : Rail) → form_in r ≡ form.WriteByte → code_in r ≡ operation_code
+    → (value d : ℕ) (rail : Rail) → r.form ≡ form.WriteByte → code_in r ≡ operation_code
     → data_in m.regs r ≡ value ∷ [] → IsTrue (enables value)
     → slice_get b.rails d ≡ Some rail → IsTrue (touches row i rail)
     → All (λ need. IsTrue (row.good need)) rail.needs
-needs_of b row h m next i t (Write c (written.Byte v)) a e k value d rail f code out on at' hit =
+needs_of b row h m next i t r
+    (Write c (written.Byte v) ok) a e k value d rail f code out on at' hit =
     let same : v ≡ value = cc in
     (k.duty K5) code (ap enables same ∙ on) d rail at' hit
-needs_of b row h m next i t (Write c (written.Word v)) a e k value d rail f code out on at' hit = cc
+needs_of b row h m next i t r
+    (Write c (written.Word v) ok) a e k value d rail f code out on at' hit = cc
 needs_of b row h m next i t
-    (Write c (written.Register n)) a e k value d rail f code out on at' hit = cc
-needs_of b row h m next i t (QuickTo read) a e k value d rail f code out on at' hit = cc
-needs_of b row h m next i t (Send c) a e k value d rail f code out on at' hit = cc
-needs_of b row h m next i t (Receive n) a e k value d rail f code out on at' hit = cc
-needs_of b row h m next i t (Read c width.Byte n) a e k value d rail f code out on at' hit = cc
-needs_of b row h m next i t (Read c width.Word n) a e k value d rail f code out on at' hit = cc
-needs_of b row h m next i t (Call c v n) a e k value d rail f code out on at' hit = cc
-needs_of b row h m next i t (PutBlock c bytes) a e k value d rail f code out on at' hit = cc
-needs_of b row h m next i t (GetBlock c n) a e k value d rail f code out on at' hit = cc
-needs_of b row h m next i t (CallBlock c bytes n) a e k value d rail f code out on at' hit = cc
+    r (Write c (written.Register n) ok) a e k value d rail f code out on at' hit = cc
+needs_of b row h m next i t r (Quick read) a e k value d rail f code out on at' hit = cc
+needs_of b row h m next i t r (Send c ok) a e k value d rail f code out on at' hit = cc
+needs_of b row h m next i t r (Receive n lt) a e k value d rail f code out on at' hit = cc
+needs_of b row h m next i t r (Read c width.Byte n ok lt) a e k value d rail f code out on at' hit =
+    cc
+needs_of b row h m next i t r (Read c width.Word n ok lt) a e k value d rail f code out on at' hit =
+    cc
+needs_of b row h m next i t r (Call c v n ok most lt) a e k value d rail f code out on at' hit = cc
+needs_of b row h m next i t r (PutBlock c bytes ok block) a e k value d rail f code out on at' hit =
+    cc
+needs_of b row h m next i t r (GetBlock c n ok lt) a e k value d rail f code out on at' hit = cc
+needs_of b row h m next i t r
+    (CallBlock c bytes n ok block lt) a e k value d rail f code out on at' hit = cc
 
 needs_good : (b : Board) (row : Row) (h : List Entry) (m : Machine) (needs : List ℕ)
     → Admits b row m h
@@ -277,7 +293,7 @@ needs_good b row h m needs admits rails good k d lt =
 -- a request that meets its duties is safe
 pub request_is_safe : (b : Board) (row : Row) (h : List Entry) (m next : Machine) (i : ℕ)
     (t : Target)
-    (r : Request) (a : Answered) (e : Entry) → Sending b row h m next i t r a e
+    (r : Transaction) (a : Answered) (e : Entry) → Sending b row h m next i t r a e
     → IsSafeMessage b h m.bus (asked t m.regs r) a
 request_is_safe b row h m next i t r a e k =
     let x = entered b row i t r k.board k.at (k.duty K1) in
@@ -290,7 +306,7 @@ request_is_safe b row h m next i t r a e k =
           to = refl;
           entry = x.entry;
           listed = x.listed;
-          in_range = in_range b row h m next i t r a e k x;
+          in_range = in_range b row h m next i t r k.request a e k x;
           pages = byte_value t m r page_code (is_page_value t.pages) k.request x.known
               (λ c v known is. known.0 is);
           protections = byte_value t m r write_protect_code is_protection k.request x.known
@@ -307,9 +323,9 @@ request_is_safe b row h m next i t r a e k =
           let P : ℕ → Type 0 = λ n. permits (slice_index m.bus.protect n) code ≡ Some true in
           let Q : ℕ → Type 0 = λ c. permits (slice_index m.bus.protect i) c ≡ Some true in
           let G : ℕ → Type 0 = λ c. IsTrue (is_guarded c) in
-          let writes : MayWrite (form_in r) = may_write w.went_out in
+          let writes : MayWrite r.form = may_write w.went_out in
           subst P (sym same) (subst Q w.command
-          (k.duty K3 (guarded_write (code_in r) (form_in r) (subst G (sym w.command) guarded)
+          (k.duty K3 (guarded_write (code_in r) r.form (subst G (sym w.command) guarded)
           (takes_written r k.request writes) writes)
           (slice_index m.bus.protect i) (k.admits.protects i (within b.targets i t k.at))));
       limits = λ j u code low high d rail at' sets w s.
@@ -320,7 +336,7 @@ request_is_safe b row h m next i t r a e k =
           let S : ℕ → Type 0 = λ n. Selects b m.bus n d rail in
           let here : Selects b m.bus i d rail = subst S same s in
           subst P (sym target)
-          (voltage_of b row h m next i t r a e k low high d rail w.form
+          (voltage_of b row h m next i t r k.request a e k low high d rail w.form
           (subst (λ (c : ℕ). IsTrue (carries_voltage c)) (sym w.command) sets)
           w.content here.rail (touched b row m h i d rail t k.admits k.at here));
       order = λ j u value d rail at' w on s.
@@ -329,12 +345,13 @@ request_is_safe b row h m next i t r a e k =
           let here : Selects b m.bus i d rail = subst S same s in
           needs_good b row h m rail.needs k.admits
           (all_at (IsRail b) b.rails d rail k.board.rails here.rail).needs
-          (needs_of b row h m next i t r a e k value d rail w.is_write.form w.is_write.command
+          (needs_of b row h m next i t r k.request a e k value d rail w.is_write.form
+          w.is_write.command
           w.is_write.content on here.rail (touched b row m h i d rail t k.admits k.at here));
     }
   where
     may_write : {X Y : Type 0}
-        → (IsTrue (writes_data (form_in r)) × X) ⊎ ((form_in r ≡ form.SendByte) × Y)
-        → MayWrite (form_in r)
+        → (IsTrue (writes_data r.form) × X) ⊎ ((r.form ≡ form.SendByte) × Y)
+        → MayWrite r.form
     may_write (inl w) = inl w.0
     may_write (inr s) = inr s.0

@@ -19,59 +19,101 @@ use Rattle.seq_program.specs.declared.instr.Written.TheVariants as written
 use Rattle.seq_program.specs.Messages.{alert_message, message_of}
 use Rattle.seq_program.specs.Programs.{is_end}
 use Rattle.seq_program.specs.Valid.{jump_in, IsInstr}
-use Rattle.simulator.specs.Moves.{result_in}
+use Rattle.seq_program.specs.Requests.{result_in}
 use Rattle.facts.specs.declared.rule.Rule.{Rule}
 use Rattle.facts.specs.declared.rule.Rule.TheVariants.{K1}
 use Rattle.facts.specs.Rows.{Row}
-use Rattle.facts.specs.Requests.{Request, QuickTo, Send, Receive, Write, Read, Call, PutBlock}
-use Rattle.facts.specs.Requests.{GetBlock, CallBlock, Sent, sent, sent_in, form_in, data_in}
+use Rattle.seq_program.specs.Requests.{Transaction, quick, send, receive, write, read, call}
+use Rattle.seq_program.specs.Requests.{write_block}
+use Rattle.seq_program.specs.Requests.{read_block, call_block, Request, request, request_in}
+use Rattle.seq_program.specs.Requests.{data_in}
 use Rattle.facts.specs.Duties.{MayBeSent, Meets, MeetsAt, MeetsSent}
-use Rattle.facts.proofs.Shared.Asking.{asked, IsRequest, register_in, place_is, lengths_same}
+use Rattle.facts.proofs.Shared.Asking.{Quick, Send, Receive, Write, Read, Call, PutBlock}
+use Rattle.facts.proofs.Shared.Asking.{GetBlock, CallBlock}
+use Rattle.facts.proofs.Shared.Asking.{asked, IsRequest, place_is, lengths_same}
 use Rattle.facts.proofs.Sound.SafeRequests.{Entered, entered}
 
 -- an instruction that sends this request
-pub record Requests (b : Board) (i : Instr) (regs : List ℕ) (target : ℕ) (r : Request)
+pub record Requests (b : Board) (i : Instr) (regs : List ℕ) (target : ℕ) (r : Transaction)
     (otherwise : ℕ) :
     Type 0 where
-  pub sent : sent_in i ≡ Some (sent target r otherwise)
+  pub sent : request_in i ≡ Some (request target r otherwise)
   pub asks : message_of b i regs
       ≡ option_map (λ (t : Target). asked t regs r) (slice_get b.targets target)
-  pub result : result_in i ≡ register_in r
+  pub result : result_in i ≡ r.register
   pub jump : jump_in i ≡ Some otherwise
   pub request : IsRequest r
 
 pub data Kind (b : Board) (i : Instr) (regs : List ℕ) : Type 0 where
   Silent : message_of b i regs ≡ None → Kind b i regs
   Responds : message_of b i regs ≡ Some alert_message → Kind b i regs
-  Asks : (target : ℕ) (r : Request) (otherwise : ℕ) → Requests b i regs target r otherwise
+  Asks : (target : ℕ) (r : Transaction) (otherwise : ℕ) → Requests b i regs target r otherwise
       → Kind b i regs
 
 pub kind_of : (b : Board) (i : Instr) (regs : List ℕ) → IsInstr i → Kind b i regs
-kind_of b (instr.Quick t read l) regs ok = Asks t (QuickTo read) l
-    (record { sent = refl; asks = refl; result = refl; jump = refl; request = ok })
-kind_of b (instr.Send t c l) regs ok = Asks t (Send c) l
-    (record { sent = refl; asks = refl; result = refl; jump = refl; request = ok })
-kind_of b (instr.Receive t r l) regs ok = Asks t (Receive r) l
-    (record { sent = refl; asks = refl; result = refl; jump = refl; request = ok })
-kind_of b (instr.Write t c v l) regs ok = Asks t (Write c v) l
-    (record { sent = refl; asks = refl; result = refl; jump = refl; request = ok })
-kind_of b (instr.Read t c w r l) regs ok = Asks t (Read c w r) l
-    (record { sent = refl; asks = refl; result = refl; jump = refl; request = ok })
-kind_of b (instr.Call t c v r l) regs ok = Asks t (Call c v r) l
-    (record { sent = refl; asks = refl; result = refl; jump = refl; request = ok })
-kind_of b (instr.BlockWrite t c bytes l) regs ok = Asks t (PutBlock c bytes) l
-    (record { sent = refl; asks = refl; result = refl; jump = refl; request = ok })
-kind_of b (instr.BlockRead t c r l) regs ok = Asks t (GetBlock c r) l
-    (record { sent = refl; asks = refl; result = refl; jump = refl; request = ok })
-kind_of b (instr.BlockCall t c bytes r l) regs ok =
-    Asks t (CallBlock c bytes r) l (record {
-      sent = refl;
-      asks = refl;
-      result = refl;
-      jump = refl;
-      request =
-          ok;
-    })
+kind_of b (instr.Quick t read l) regs ok = Asks t (quick read) l (record {
+  sent = refl;
+  asks = refl;
+  result = refl;
+  jump = refl;
+  request = Quick read;
+})
+kind_of b (instr.Send t c l) regs ok = Asks t (send c) l (record {
+  sent = refl;
+  asks = refl;
+  result = refl;
+  jump = refl;
+  request = Send c ok;
+})
+kind_of b (instr.Receive t r l) regs ok = Asks t (receive r) l (record {
+  sent = refl;
+  asks = refl;
+  result = refl;
+  jump = refl;
+  request = Receive r ok;
+})
+kind_of b (instr.Write t c v l) regs ok = Asks t (write c v) l (record {
+  sent = refl;
+  asks = refl;
+  result = refl;
+  jump = refl;
+  request = Write c v ok;
+})
+kind_of b (instr.Read t c w r l) regs ok = Asks t (read c w r) l (record {
+  sent = refl;
+  asks = refl;
+  result = refl;
+  jump = refl;
+  request = Read c w r ok.0 ok.1;
+})
+kind_of b (instr.Call t c v r l) regs ok = Asks t (call c v r) l (record {
+  sent = refl;
+  asks = refl;
+  result = refl;
+  jump = refl;
+  request = Call c v r ok.0 ok.1 ok.2;
+})
+kind_of b (instr.BlockWrite t c bytes l) regs ok = Asks t (write_block c bytes) l (record {
+  sent = refl;
+  asks = refl;
+  result = refl;
+  jump = refl;
+  request = PutBlock c bytes ok.0 ok.1;
+})
+kind_of b (instr.BlockRead t c r l) regs ok = Asks t (read_block c r) l (record {
+  sent = refl;
+  asks = refl;
+  result = refl;
+  jump = refl;
+  request = GetBlock c r ok.0 ok.1;
+})
+kind_of b (instr.BlockCall t c bytes r l) regs ok = Asks t (call_block c bytes r) l (record {
+  sent = refl;
+  asks = refl;
+  result = refl;
+  jump = refl;
+  request = CallBlock c bytes r ok.0 ok.1 ok.2;
+})
 kind_of b (instr.Alert r l) regs ok = Responds refl
 kind_of b (instr.IfAlert l) regs ok = Silent refl
 kind_of b (instr.Set r v) regs ok = Silent refl
@@ -110,45 +152,45 @@ ends_by (instr.Wait n) e = absurd (false≢true e)
 ends_by (instr.Goto l) e = absurd (false≢true e)
 
 -- the duties of the request
-pub request_duty : (b : Board) (row : Row) (i : Instr) (target otherwise : ℕ) (r : Request)
-    → sent_in i ≡ Some (sent target r otherwise) → ((rule : Rule) → Meets b row i rule)
+pub request_duty : (b : Board) (row : Row) (i : Instr) (target otherwise : ℕ) (r : Transaction)
+    → request_in i ≡ Some (request target r otherwise) → ((rule : Rule) → Meets b row i rule)
     → (rule : Rule)
     → MeetsAt b row target r rule
-request_duty b row i target otherwise r sends duties rule = let P : Option Sent
+request_duty b row i target otherwise r sends duties rule = let P : Option Request
     → Type 0 = λ o. MeetsSent b row o rule in subst P sends (duties rule)
 
 -- blocks that can be counted, also the shortest one that is read
-good_counts : (b : Board) (row : Row) (t : Target) (i : ℕ) (regs : List ℕ) (r : Request) → IsBoard b
-    → IsTargetAt b i t → IsRequest r → (x : Entered b row t r)
-    → AreGoodCounts (form_in r) (length (data_in regs r))
+good_counts : (b : Board) (row : Row) (t : Target) (i : ℕ) (regs : List ℕ) (r : Transaction)
+    → IsBoard b → IsTargetAt b i t → IsRequest r → (x : Entered b row t r)
+    → AreGoodCounts r.form (length (data_in regs r))
     (Range.low (lengths_for b (asked t regs r)))
-good_counts b row t i regs (QuickTo read) is at' ok x = tt
-good_counts b row t i regs (Send c) is at' ok x = tt
-good_counts b row t i regs (Receive g) is at' ok x = tt
-good_counts b row t i regs (Write c (written.Byte v)) is at' ok x = tt
-good_counts b row t i regs (Write c (written.Word v)) is at' ok x = tt
-good_counts b row t i regs (Write c (written.Register g)) is at' ok x = tt
-good_counts b row t i regs (Read c width.Byte g) is at' ok x = tt
-good_counts b row t i regs (Read c width.Word g) is at' ok x = tt
-good_counts b row t i regs (Call c v g) is at' ok x = tt
-good_counts b row t i regs (PutBlock c bytes) is at' ok x =
-    let some : 1 ≤ length bytes = ok.1.0 in
-    let few : length bytes ≤ 255 = ok.1.1 in
+good_counts b row t i regs r is at' (Quick read) x = tt
+good_counts b row t i regs r is at' (Send c ok) x = tt
+good_counts b row t i regs r is at' (Receive g lt) x = tt
+good_counts b row t i regs r is at' (Write c (written.Byte v) ok) x = tt
+good_counts b row t i regs r is at' (Write c (written.Word v) ok) x = tt
+good_counts b row t i regs r is at' (Write c (written.Register g) ok) x = tt
+good_counts b row t i regs r is at' (Read c width.Byte g ok lt) x = tt
+good_counts b row t i regs r is at' (Read c width.Word g ok lt) x = tt
+good_counts b row t i regs r is at' (Call c v g ok most lt) x = tt
+good_counts b row t i regs r is at' (PutBlock c bytes ok block) x =
+    let some : 1 ≤ length bytes = block.0 in
+    let few : length bytes ≤ 255 = block.1 in
     (omega (arith, some), few)
-good_counts b row t i regs (GetBlock c g) is at' ok x =
-    let same : lengths_for b (asked t regs (GetBlock c g)) ≡ x.entry.length =
-    lengths_same b i t regs (GetBlock c g) x.entry is at' x.listed in
+good_counts b row t i regs r is at' (GetBlock c g ok lt) x =
+    let same : lengths_for b (asked t regs (read_block c g)) ≡ x.entry.length =
+    lengths_same b i t regs (read_block c g) x.entry is at' x.listed in
     let P : Range → Type 0 = λ z. (0 < z.low) × (z.low ≤ 255) in
     let one : 1 ≤ Range.low x.entry.length = x.is_entry.in_length.above in
     let most : Range.high x.entry.length ≤ 255 = x.is_entry.in_length.below in
     let order : Range.low x.entry.length ≤ Range.high x.entry.length =
     x.is_entry.in_length.nonempty in
     subst P (sym same) (omega (arith, one), omega (arith, most, order))
-good_counts b row t i regs (CallBlock c bytes g) is at' ok x =
-    let same : lengths_for b (asked t regs (CallBlock c bytes g)) ≡ x.entry.length =
-    lengths_same b i t regs (CallBlock c bytes g) x.entry is at' x.listed in
+good_counts b row t i regs r is at' (CallBlock c bytes g ok block lt) x =
+    let same : lengths_for b (asked t regs (call_block c bytes g)) ≡ x.entry.length =
+    lengths_same b i t regs (call_block c bytes g) x.entry is at' x.listed in
     let P : Range → Type 0 = λ z. (0 < length bytes) × (0 < z.low) × (length bytes + z.low ≤ 255) in
-    let some : 1 ≤ length bytes = ok.1.0 in
+    let some : 1 ≤ length bytes = block.0 in
     let one : 1 ≤ Range.low x.entry.length = x.is_entry.in_length.above in
     let order : Range.low x.entry.length ≤ Range.high x.entry.length =
     x.is_entry.in_length.nonempty in
@@ -160,7 +202,7 @@ there_is None i e = cc
 there_is (Some j) i e = refl
 
 -- a message that targets can answer
-request_message : (b : Board) (row : Row) (i : ℕ) (regs : List ℕ) (r : Request) → IsBoard b
+request_message : (b : Board) (row : Row) (i : ℕ) (regs : List ℕ) (r : Transaction) → IsBoard b
     → IsRequest r
     → (k : MayBeSent b row i r) → IsMessage b (asked k.target regs r)
 request_message b row i regs r is ok k =

@@ -13,14 +13,16 @@ use Rattle.seq_program.specs.declared.instr.Width.TheVariants as width
 use Rattle.seq_program.specs.declared.instr.Written.TheVariants as written
 use Rattle.simulator.specs.Machines.{Machine, Entry}
 use Rattle.facts.specs.Rows.{Row}
-use Rattle.facts.specs.Requests.{Request, QuickTo, Send, Receive, Write, Read, Call, PutBlock}
-use Rattle.facts.specs.Requests.{GetBlock, CallBlock, sent, form_in, data_in, block_count}
-use Rattle.facts.specs.Requests.{lengths_at}
+use Rattle.seq_program.specs.Requests.{Transaction, read}
+use Rattle.seq_program.specs.Requests.{read_block, call_block, request, data_in, block_count}
+use Rattle.facts.specs.Allowing.{lengths_at}
 use Rattle.facts.specs.Ticks.{frame_ticks, longest_slots}
-use Rattle.facts.proofs.Shared.Asking.{asked, Sending, entry_same, entry_there}
+use Rattle.facts.proofs.Shared.Asking.{Quick, Send, Receive, Write, Read, Call, PutBlock}
+use Rattle.facts.proofs.Shared.Asking.{GetBlock, CallBlock}
+use Rattle.facts.proofs.Shared.Asking.{asked, IsRequest, Sending, entry_same, entry_there}
 
 lengths_are : (b : Board) (row : Row) (h : List Entry) (m next : Machine) (i : ℕ) (t : Target)
-    (r : Request)
+    (r : Transaction)
     (a : Answered) (e : Entry) → Sending b row h m next i t r a e
     → lengths_for b (asked t m.regs r) ≡ lengths_at b i r
 lengths_are b row h m next i t r a e k =
@@ -28,7 +30,7 @@ lengths_are b row h m next i t r a e k =
     (entry_same b i t m.regs r k.board k.at ∙ sym (entry_there b i t r k.at))
 
 block_short : (b : Board) (row : Row) (h : List Entry) (m next : Machine) (i : ℕ) (t : Target)
-    (r : Request)
+    (r : Transaction)
     (a : Answered) (e : Entry) (n : ℕ) → Sending b row h m next i t r a e
     → FitsBlock b (asked t m.regs r) n a.bytes → length a.bytes ≤ Range.high (lengths_at b i r)
 block_short b row h m next i t r a e n k f =
@@ -36,34 +38,37 @@ block_short b row h m next i t r a e n k f =
     subst P (lengths_are b row h m next i t r a e k) f.count.below
 
 slots_within : (b : Board) (row : Row) (h : List Entry) (m next : Machine) (i : ℕ) (t : Target)
-    (r : Request) (a : Answered) (e : Entry) → Sending b row h m next i t r a e
-    → most_slots (form_in r) (length (data_in m.regs r)) (length a.bytes) ≤ most_slots (form_in r)
-    (block_count r) (Range.high (lengths_at b i r))
-slots_within b row h m next i t (QuickTo read) a e k = omega arith
-slots_within b row h m next i t (Send c) a e k = omega arith
-slots_within b row h m next i t (Receive g) a e k = omega arith
-slots_within b row h m next i t (Write c (written.Byte v)) a e k = omega arith
-slots_within b row h m next i t (Write c (written.Word v)) a e k = omega arith
-slots_within b row h m next i t (Write c (written.Register g)) a e k = omega arith
-slots_within b row h m next i t (Read c width.Byte g) a e k = omega arith
-slots_within b row h m next i t (Read c width.Word g) a e k = omega arith
-slots_within b row h m next i t (Call c v g) a e k = omega arith
-slots_within b row h m next i t (PutBlock c bytes) a e k = omega arith
-slots_within b row h m next i t (GetBlock c g) a e k = let short =
-    block_short b row h m next i t (GetBlock c g) a e 0 k k.fits.form.0 in omega (arith, short)
-slots_within b row h m next i t (CallBlock c bytes g) a e k = let short =
-    block_short b row h m next i t (CallBlock c bytes g) a e (length bytes) k k.fits.form.0 in
+    (r : Transaction) (q : IsRequest r) (a : Answered) (e : Entry)
+    → Sending b row h m next i t r a e
+    → most_slots r.form (length (data_in m.regs r)) (length a.bytes) ≤ most_slots r.form
+    (block_count r.content) (Range.high (lengths_at b i r))
+slots_within b row h m next i t r (Quick read) a e k = omega arith
+slots_within b row h m next i t r (Send c ok) a e k = omega arith
+slots_within b row h m next i t r (Receive g lt) a e k = omega arith
+slots_within b row h m next i t r (Write c (written.Byte v) ok) a e k = omega arith
+slots_within b row h m next i t r (Write c (written.Word v) ok) a e k = omega arith
+slots_within b row h m next i t r (Write c (written.Register g) ok) a e k = omega arith
+slots_within b row h m next i t r (Read c width.Byte g ok lt) a e k = omega arith
+slots_within b row h m next i t r (Read c width.Word g ok lt) a e k = omega arith
+slots_within b row h m next i t r (Call c v g ok most lt) a e k = omega arith
+slots_within b row h m next i t r (PutBlock c bytes ok block) a e k = omega arith
+slots_within b row h m next i t r (GetBlock c g ok lt) a e k = let short =
+    block_short b row h m next i t (read_block c g) a e 0 k k.fits.form.0 in omega (arith, short)
+slots_within b row h m next i t r (CallBlock c bytes g ok block lt) a e k = let short =
+    block_short b row h m next i t (call_block c bytes g) a e (length bytes) k k.fits.form.0 in
     omega (arith, short)
 
 pub request_ticks : (b : Board) (row : Row) (h : List Entry) (m next : Machine) (i : ℕ) (t : Target)
-    (r : Request) (otherwise : ℕ) (a : Answered) (e : Entry) → Sending b row h m next i t r a e
-    → length e.samples ≤ frame_ticks b (longest_slots b (sent i r otherwise))
+    (r : Transaction) (otherwise : ℕ) (a : Answered) (e : Entry) → Sending b row h m next i t r a e
+    → length e.samples ≤ frame_ticks b (longest_slots b (request i r otherwise))
 unfolding frame_ticks
 request_ticks b row h m next i t r otherwise a e k =
     let few = k.carries.reads.few (largest_stretch b.targets) k.fits.holds in
-    let more : most_slots (form_in r) (length (data_in m.regs r)) (length a.bytes) *
+    let more : most_slots r.form (length (data_in m.regs r)) (length a.bytes) *
     (3 + largest_stretch b.targets)
-    ≤ most_slots (form_in r) (block_count r)
+    ≤ most_slots r.form (block_count r.content)
     (Range.high (lengths_at b i r)) * (3 + largest_stretch b.targets)
-    = mul-le-mul_right (3 + largest_stretch b.targets) (slots_within b row h m next i t r a e k) in
+    =
+    mul-le-mul_right (3 + largest_stretch b.targets)
+    (slots_within b row h m next i t r k.request a e k) in
     rw k.carries.samples (omega (arith, few, more))

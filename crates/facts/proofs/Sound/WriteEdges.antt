@@ -21,27 +21,27 @@ use Rattle.simulator.specs.Safe.{is_guarded}
 use Rattle.facts.specs.declared.rule.Rule.TheVariants.{K1, K3}
 use Rattle.facts.specs.Sets.{Set, only, empty, gains}
 use Rattle.facts.specs.Rows.{Row, Admits, set_at}
-use Rattle.facts.specs.Requests.{Request, Write}
+use Rattle.seq_program.specs.Requests.{Transaction, write}
 use Rattle.facts.specs.Duties.{is_touched}
 use Rattle.facts.specs.Edges.{effect_of, without_touched, done_row, else_row}
 use Rattle.facts.proofs.Shared.Places.{found, within, index_at}
 use Rattle.facts.proofs.Shared.Forms.{guarded_write}
 use Rattle.facts.proofs.Sound.RowChanges.{Change, admits_page, admits_protect, admits_touched}
 use Rattle.facts.proofs.Sound.RowChanges.{admits_same}
-use Rattle.facts.proofs.Shared.Asking.{asked, register_in, regs_after, ending, Sending}
-use Rattle.facts.proofs.Sound.SafeRequests.{entered}
+use Rattle.facts.proofs.Shared.Asking.{asked, regs_after, ending, Sending}
+use Rattle.facts.proofs.Sound.SafeRequests.{entered, takes_written}
 use Rattle.facts.proofs.Sound.Effects.{is_done, byte_write_of, request_changes}
 
-abbrev pub byte_write : ℕ → ℕ → Request
-byte_write code value = Write code (written.Byte value)
+abbrev pub byte_write : ℕ → ℕ → Transaction
+byte_write code value = write code (written.Byte value)
 
 -- the row of the edge that an outcome takes
-abbrev pub row_by : Board → Row → ℕ → Request → Outcome → Row
+abbrev pub row_by : Board → Row → ℕ → Transaction → Outcome → Row
 row_by b row i r (Done value) = done_row b row i r (effect_of r)
 row_by b row i r other = else_row b row i (effect_of r)
 
 -- without a register in it no request changes one
-pub regs_same : (r : Request) (regs : List ℕ) (o : Outcome) → register_in r ≡ None
+pub regs_same : (r : Transaction) (regs : List ℕ) (o : Outcome) → r.register ≡ None
     → regs_after r regs o ≡ regs
 regs_same r regs (Done v) e =
     ap (λ (z : Option ℕ). Rattle.simulator.specs.Moves.with_result z v regs) e
@@ -101,7 +101,8 @@ byte_when_done code is_value b row h m next i t v a e old new x k guarded valid 
         ≡ Some true
     permitted =
         let duty : permits (slice_index m.bus.protect i) code ≡ Some true
-        = k.duty K3 (guarded_write code form.WriteByte guarded k.request.0 (inl refl))
+        = k.duty K3 (guarded_write code form.WriteByte guarded
+        (takes_written (byte_write code v) k.request (inl refl)) (inl refl))
         (slice_index m.bus.protect i) (k.admits.protects i (within b.targets i t k.at)) in
         let P : ℕ → Type 0 = λ p. permits p code ≡ Some true in
         ap (option_and_then (λ protect. permits protect code)) stored.1

@@ -3,7 +3,7 @@
 ghost use Rattle.std.specs.Prelude.{◌≡◌, ◌∷◌, ◌<◌, ◌||◌, ◌&&◌, ◌==◌, [], ℕ, IsTrue, List, Some};
 ghost use Rattle.std.specs.Prelude.{None, length, slice_get};
 ghost use Rattle.board.specs.Boards.{Board as AnyBoard};
-ghost use Rattle.facts.specs.Requests.{sent_in};
+ghost use Rattle.seq_program.specs.Requests.{request_in};
 ghost use Rattle.facts.specs.Sets.{rails_in};
 ghost use Rattle.seq_program.specs.Messages.{message_of};
 ghost use Rattle.session.specs.Telling.{TellsAfter};
@@ -86,24 +86,14 @@ fn instr_of<'a>(program: &'a Program, machine: &Machine) -> &'a Instr
 
 /// Whether an instruction sends nothing.
 fn is_silent(instr: &Instr) -> bool
-    ensures request { IsTrue result → sent_in instr.now ≡ None }
+    ensures request { IsTrue result → request_in instr.now ≡ None }
     ensures message { IsTrue result
         → (b : AnyBoard) (registers : List ℕ) → message_of b instr.now registers ≡ None }
 {
-    matches!(
-        instr,
-        Instr::IfAlert { .. }
-            | Instr::Set { .. }
-            | Instr::Add { .. }
-            | Instr::If { .. }
-            | Instr::Above { .. }
-            | Instr::Count { .. }
-            | Instr::Again { .. }
-            | Instr::Wait { .. }
-            | Instr::Goto { .. }
-            | Instr::End
-            | Instr::Fail
-    )
+    match instr.request() {
+        Some(_) => false,
+        None => !matches!(instr, Instr::Alert { .. }),
+    }
 }
 
 impl Judge {
