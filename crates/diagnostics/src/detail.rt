@@ -11,13 +11,11 @@ use crate::sentence::{Sentence, Word, advised, told};
 use crate::table_detail::{form_detail, start_detail};
 use board::{Board, Rail};
 use facts::{Row, Rule};
+use pmbus_table::code::ALL_PAGES;
 use pmbus_table::{by_code, permits};
 use seq_program::Instr;
 use smbus::Message;
 use std::alloc::{AllocError, Global};
-
-/// The value of PAGE that stands for all pages (PMBus 1.3 Part II, 11.10).
-const ALL_PAGES: u8 = 0xFF;
 
 /// The values of WRITE_PROTECT that forbid something, the strictest first (PMBus 1.3 Part II,
 /// 11.1).

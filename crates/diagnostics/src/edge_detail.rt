@@ -221,7 +221,8 @@ pub(crate) fn edge_detail(
 ) -> Result<Option<String>, AllocError> {
     for edge in &judged.edges(alloc, place)? {
         if let Some(detail) = broken_by(alloc, judged, place, edge)? {
-            let line = lines.get(edge.0).copied().unwrap_or(0);
+            let (to, _row, _ticks) = edge;
+            let line = lines.get(*to).copied().unwrap_or(0);
             return Ok(Some(format!(in alloc; "on the way to line {line}, {detail}")?));
         }
     }

@@ -9,7 +9,7 @@ use board::Board;
 use facts::{Row, Rule, duty, edges};
 use seq_program::{Instr, Program};
 use std::alloc::{AllocError, Global};
-use table_check::Table;
+use table_check::{Table, row_at};
 
 /// An edge of a place: where it leads, the row there, and the most ticks on the way.
 pub(crate) type Edge = (usize, Row, u64);
@@ -32,10 +32,7 @@ fn may_be_sent(board: &Board, instr: &Instr, row: &Row) -> bool
 impl<'a> Judged<'a> {
     /// What is known at a place.
     pub(crate) fn row(self, place: usize) -> Option<&'a Row> {
-        match self.table.rows.get(place) {
-            Some(Some(row)) => Some(row),
-            _ => None,
-        }
+        row_at(&self.table.rows, place)
     }
 
     /// The edges of a place, by what is known there. None where the table has no row of the board

@@ -10,8 +10,7 @@ use Rattle.facts.specs.Edges.{Edge, edges}
 use Rattle.facts.specs.FactLaws.{DutiesAreKept, EdgesFollow, EdgesStayShaped}
 use Rattle.facts.specs.Rows.{Row, IsRow, RowCovers}
 use Rattle.facts.specs.Steps.{HasEdge}
-use Rattle.facts.specs.Ticks.{worst_ticks}
-use Rattle.facts.specs.Ways.{timed}
+use Rattle.facts.specs.TimedEdges.{timed_edges}
 use Rattle.table_check.specs.ByPlace.{FollowingTablesTellDuties, InductiveByPlace, MeetsAll}
 use Rattle.table_check.specs.Looking.{HasRowsOf}
 use Rattle.table_check.specs.Obligations.{IsInductive}
@@ -54,7 +53,7 @@ AreEdgesAt b p t place es =
     × ((i : Instr) (row : Row) → slice_get p place ≡ Some i → row_of t place ≡ Some row
     → MeetsAll b i row → ⊥))
     ⊎ ((i : Instr) × (row : Row) × (slice_get p place ≡ Some i) × (row_of t place ≡ Some row)
-    × MeetsAll b i row × (es ≡ timed (worst_ticks b i) (edges b place i row)))
+    × MeetsAll b i row × (es ≡ timed_edges b place i row))
 
 -- the row of a place changed since the place was visited
 abbrev pub is_changed : List Bool → ℕ → Bool

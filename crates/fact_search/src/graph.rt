@@ -1,12 +1,14 @@
 //! Where a program leads, by what is known at its places.
 
-ghost use Rattle.table_check.specs.Looking.{HasRowsOf, rows_view};
+ghost use Rattle.table_check.specs.Looking.{HasRowsOf};
+ghost use Rattle.table_check.specs.Tables.{rows_view};
 
-use crate::leading::{edges_at, row_at};
+use crate::leading::edges_at;
 use board::Board;
 use facts::{Row, Span, duty};
 use seq_program::{Instr, Program};
 use std::alloc::{AllocError, Global};
+use table_check::row_at;
 
 /// Whether a way counts where loops are looked for.
 #[derive(Clone, Copy, PartialEq, Eq)]
@@ -110,11 +112,12 @@ fn push_ways(
     taken: Option<usize>,
 ) -> Result<(), AllocError> {
     for (number, edge) in edges.iter().enumerate() {
+        let (to, row, ticks) = edge;
         ways.push(Way {
             from,
-            to: edge.0,
-            ticks: edge.2,
-            counters: edge.1.counters,
+            to: *to,
+            ticks: *ticks,
+            counters: row.counters,
             takes: if number == 0 { taken } else { None },
             cut: Cut::Open,
         })?;

@@ -6,20 +6,22 @@ ghost use Rattle.facts.specs.Edges.{edge};
 ghost use Rattle.facts.specs.FactLaws.{IsShaped};
 ghost use Rattle.facts.specs.Rows.{IsRow, row_view};
 ghost use Rattle.facts.specs.Ways.{timed_view};
-ghost use Rattle.table_check.specs.Looking.{HasRowsOf, rows_view};
+ghost use Rattle.table_check.specs.Looking.{HasRowsOf};
+ghost use Rattle.table_check.specs.Tables.{rows_view};
 ghost use Rattle.fact_search.specs.Forward.{IsForward};
 ghost use Rattle.fact_search.specs.Leading.{IsLed, leads_of, leads_view};
 ghost use Rattle.fact_search.specs.Searching.{IsGrown, IsLearnt, IsSearched, is_changed};
 
 use crate::joining::{joined, widened, without_ticks};
 use crate::laws::premises;
-use crate::leading::{edges_at, row_at};
+use crate::leading::edges_at;
 use crate::starting::start_row;
 use crate::widening::Stops;
 use board::Board;
 use facts::{Part, Row};
 use seq_program::Program;
 use std::alloc::{AllocError, Global};
+use table_check::row_at;
 
 /// The row of each place so far, and whether it changed since the place was visited.
 #[derive(Drop)]
@@ -36,7 +38,8 @@ fn leads_of(alloc: Global, edges: &[(usize, Row, u64)]) -> Result<Vec<(usize, u6
 {
     let mut leads = Vec::with_capacity(alloc, edges.len())?;
     for edge in edges {
-        leads.push((edge.0, edge.2))?;
+        let (to, _row, ticks) = edge;
+        leads.push((*to, *ticks))?;
     }
     Ok(leads)
 }

@@ -1,26 +1,16 @@
 //! Where a place leads.
 
-ghost use Rattle.std.specs.Prelude.{◌≡◌, IfOk, map, option_map};
-ghost use Rattle.facts.specs.Rows.{row_view};
+ghost use Rattle.std.specs.Prelude.{IfOk, map};
 ghost use Rattle.facts.specs.Ways.{timed_view};
-ghost use Rattle.table_check.specs.Looking.{HasRowsOf, rows_view};
-ghost use Rattle.table_check.specs.Tables.{row_of};
+ghost use Rattle.table_check.specs.Looking.{HasRowsOf};
+ghost use Rattle.table_check.specs.Tables.{rows_view};
 ghost use Rattle.fact_search.specs.Searching.{AreEdgesAt};
 
 use board::Board;
 use facts::{Row, duty, edges};
 use seq_program::Program;
 use std::alloc::{AllocError, Global};
-
-/// The row of a place, if there is one.
-pub(crate) fn row_at(rows: &[Option<Row>], place: usize) -> Option<&Row>
-    ensures { option_map (λ row. row_view row.now) result ≡ row_of (rows_view rows.now) place }
-{
-    match rows.get(place) {
-        Some(Some(row)) => Some(row),
-        _ => None,
-    }
-}
+use table_check::row_at;
 
 /// The edges of a place that has a row at which its duties are met; none of any other.
 pub(crate) fn edges_at(

@@ -1,6 +1,7 @@
 //! The ticks that are left at the places of a program with loops.
 
-ghost use Rattle.table_check.specs.Looking.{HasRowsOf, rows_view};
+ghost use Rattle.table_check.specs.Looking.{HasRowsOf};
+ghost use Rattle.table_check.specs.Tables.{rows_view};
 
 use crate::carrying::carry;
 use crate::fault::FindFault;

@@ -1,7 +1,7 @@
 //! The search: edges' rows are joined until nothing changes.
 
 ghost use Rattle.std.specs.Prelude.{◌≡◌, IfErr, IfOk};
-ghost use Rattle.table_check.specs.Looking.{rows_view};
+ghost use Rattle.table_check.specs.Tables.{rows_view};
 ghost use Rattle.fact_search.specs.Forward.{IsForward};
 ghost use Rattle.fact_search.specs.Leading.{IsLedTable, leads_view};
 ghost use Rattle.fact_search.specs.Searching.{IsFollowedTable};

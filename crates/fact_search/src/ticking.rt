@@ -4,7 +4,7 @@ ghost use Rattle.std.specs.Prelude.{◌≡◌, ◌≤◌, ◌<◌, ◌+◌, ◌^
 ghost use Rattle.std.specs.Prelude.{option_map};
 ghost use Rattle.std.specs.Prelude.{slice_get, slice_index};
 ghost use Rattle.facts.specs.Rows.{row_view};
-ghost use Rattle.table_check.specs.Looking.{rows_view};
+ghost use Rattle.table_check.specs.Tables.{rows_view};
 ghost use Rattle.fact_search.specs.Forward.{IsForward};
 ghost use Rattle.fact_search.specs.Leading.{IsLedTable, leads_view};
 ghost use Rattle.fact_search.specs.Ticking.{DoFit, most_worst, plain, ticked};
@@ -30,7 +30,8 @@ fn longest(leads: &[(usize, u64)], ticks: &[u64]) -> u64
 {
     let mut most = 1;
     for lead in leads {
-        most = most.max(lead.1 + ticks[lead.0]);
+        let (to, worst) = *lead;
+        most = most.max(worst + ticks[to]);
     }
     most
 }

@@ -5,11 +5,9 @@ ghost use Rattle.facts.specs.Sets.{is_page, page_bit, pages_in, set_of, HasValue
 use crate::byte_set::{ByteSet, set_of};
 use crate::mask::{has_all, has_place, lowest, with_place, without_place};
 use crate::part::Part;
+use pmbus_table::code::ALL_PAGES;
 use std::alloc::{AllocError, Global};
 use std::marker::Model;
-
-/// PAGE's value that stands for all pages.
-const ALL_PAGES: u8 = 0xFF;
 
 fn is_page(value: u8) -> bool
     ensures { result ≡ is_page value }

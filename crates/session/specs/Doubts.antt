@@ -11,7 +11,7 @@ use Rattle.smbus.specs.Asked.{Asked}
 use Rattle.smbus.specs.FormWords.{carries_code}
 use Rattle.smbus.specs.declared.message.Form.{Form}
 use Rattle.smbus.specs.declared.message.Form.TheVariants as form
-use Rattle.pmbus_table.specs.Codes.{page_code, operation_code, write_protect_code}
+use Rattle.pmbus_table.specs.Codes.{page_code, operation_code, write_protect_code, all_pages}
 use Rattle.pmbus_table.specs.Commands.{is_command, is_paged, form_read, counts_as_write}
 use Rattle.pmbus_table.specs.Forms.{is_form}
 use Rattle.pmbus_table.specs.Protect.{permits}
@@ -21,10 +21,6 @@ use Rattle.board.specs.declared.entry.Range.{Range}
 use Rattle.board.specs.Boards.{Allow, Target, Rail, Board, entry_of}
 use Rattle.seq_program.specs.declared.instr.Instr.{Instr}
 use Rattle.seq_program.specs.Messages.{message_of}
-
--- PAGE stands for all pages (PMBus 1.3 Part II, 11.10)
-abbrev pub all_pages : ℕ
-all_pages = 0xFF
 
 abbrev pub has : Range → ℕ → Bool
 has r value = nat_le r.low value && nat_le value r.high

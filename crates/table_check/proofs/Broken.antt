@@ -21,7 +21,8 @@ use Rattle.facts.specs.Rows.{Row, InSpans, IsRow, RowCovers, most_ticks, no_span
 use Rattle.facts.specs.Rows.{rank, row_view}
 use Rattle.facts.specs.Sets.{pages_in, protects_in}
 use Rattle.facts.specs.Steps.{HasEdge}
-use Rattle.facts.specs.Ways.{timed, timed_view}
+use Rattle.facts.specs.TimedEdges.{timed}
+use Rattle.facts.specs.Ways.{timed_view}
 use Rattle.table_check.specs.Tables.{Table, row_of}
 use Rattle.table_check.specs.Obligations.{Obligation, Covered, Duty, Falls, IsFirstFault}
 use Rattle.table_check.proofs.Places.{none_some, some_same}

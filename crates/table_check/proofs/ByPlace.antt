@@ -9,11 +9,12 @@ use Rattle.seq_program.specs.Programs.{is_end}
 use Rattle.facts.specs.declared.rule.Rule.{Rule}
 use Rattle.facts.specs.declared.rule.Rule.TheVariants.{K1, K2, K3, K4, K5, K6, K7, K8, K9}
 use Rattle.facts.specs.Rows.{Row, IsRow}
-use Rattle.facts.specs.Requests.{sent_in}
+use Rattle.seq_program.specs.Requests.{request_in}
 use Rattle.facts.specs.Duties.{Meets, duties}
 use Rattle.facts.specs.Edges.{Edge, edges}
 use Rattle.facts.specs.Steps.{HasEdge}
 use Rattle.facts.specs.Ticks.{worst_ticks}
+use Rattle.facts.specs.TimedEdges.{timed, timed_edges}
 use Rattle.table_check.specs.Tables.{Table, row_of}
 use Rattle.table_check.specs.Rules.{IsCovered, Pays, PaysEnd, Starts}
 use Rattle.table_check.specs.Obligations.{Obligation, Start, Length, shapes, of_edges, of_end}
@@ -42,7 +43,7 @@ all_shapes b p t (Some x ∷ rows) first k =
 
 all_edges : (b : Board) (p : List Instr) (t : Table) (n worst : ℕ) (es : List Edge)
     → ((e : Edge) → HasEdge es e → IsCovered b t e × Pays t worst e)
-    → AllHold b p t (of_edges n worst es)
+    → AllHold b p t (of_edges n (timed worst es))
 all_edges b p t n worst [] k = tt
 all_edges b p t n worst (e ∷ es) k =
     let x = k e (inl refl) in
@@ -75,12 +76,12 @@ all_end b p t n row (instr.Goto l) k = tt
 
 -- what an instruction owes after its duties
 abbrev after_duties : Board → ℕ → Instr → Row → List Obligation
-after_duties b n i row = of_edges n (worst_ticks b i) (edges b n i row) ++ of_end n row i
+after_duties b n i row = of_edges n (timed_edges b n i row) ++ of_end n row i
 
 all_after : (b : Board) (p : List Instr) (t : Table) (n : ℕ) (i : Instr) (u : Row)
     → EdgesHold b t n i u → AllHold b p t (after_duties b n i u)
 all_after b p t n i u k =
-    all_append b p t (of_edges n (worst_ticks b i) (edges b n i u)) (of_end n u i)
+    all_append b p t (of_edges n (timed_edges b n i u)) (of_end n u i)
     (all_edges b p t n (worst_ticks b i) (edges b n i u) (λ e h. (k.covered e h, k.falls e h)))
     (all_end b p t n u i k.ends)
 
@@ -150,7 +151,7 @@ all_of b p t n i u h a r =
 goes : (b : Board) (p : List Instr) (t : Table) (n : ℕ) (i : Instr) (u : Row)
     → AllHold b p t (of_row b n i u) → EdgesHold b t n i u
 goes b p t n i u h =
-    let es = of_edges n (worst_ticks b i) (edges b n i u) in
+    let es = of_edges n (timed_edges b n i u) in
     let rest : AllHold b p t (after_duties b n i u) = h.1.1.1.1.1 in
     let front : AllHold b p t es = hold_front b p t es (of_end n u i) rest in
     record {
@@ -211,10 +212,10 @@ met_all b i u k1 k2 k3 k4 k5 K2 = k2
 met_all b i u k1 k2 k3 k4 k5 K3 = k3
 met_all b i u k1 k2 k3 k4 k5 K4 = k4
 met_all b i u k1 k2 k3 k4 k5 K5 = k5
-met_all b i u k1 k2 k3 k4 k5 K6 = (others b u (sent_in i)).0
-met_all b i u k1 k2 k3 k4 k5 K7 = (others b u (sent_in i)).1
-met_all b i u k1 k2 k3 k4 k5 K8 = (others b u (sent_in i)).2
-met_all b i u k1 k2 k3 k4 k5 K9 = (others b u (sent_in i)).3
+met_all b i u k1 k2 k3 k4 k5 K6 = (others b u (request_in i)).0
+met_all b i u k1 k2 k3 k4 k5 K7 = (others b u (request_in i)).1
+met_all b i u k1 k2 k3 k4 k5 K8 = (others b u (request_in i)).2
+met_all b i u k1 k2 k3 k4 k5 K9 = (others b u (request_in i)).3
 
 -- past a row's duties
 tells_duties : (Tells : Rule → Type 0) (b : Board) (p : List Instr) (t : Table) (n : ℕ) (i : Instr)
@@ -241,7 +242,8 @@ tells_duties Tells b p t n i u rest found tell k
 tells_edges : (Tells : Rule → Type 0) (b : Board) (p : List Instr) (t : Table) (n worst : ℕ)
     (es : List Edge) (rest : List Obligation) (found : Option (ℕ × Rule)) → Tells K7
     → ((e : Edge) → HasEdge es e → IsCovered b t e)
-    → IsFirstFault b p t (of_edges n worst es ++ rest) found → TellsOr Tells b p t rest found
+    → IsFirstFault b p t (of_edges n (timed worst es) ++ rest) found
+    → TellsOr Tells b p t rest found
 tells_edges Tells b p t n worst [] rest found tell k h = inr h
 tells_edges Tells b p t n worst (e ∷ es) rest found tell k (inr h) = absurd (h.0 (k e (inl refl)))
 tells_edges Tells b p t n worst (e ∷ es) rest found tell k (inl (covered, inr h)) =
@@ -348,7 +350,7 @@ tells_after : (b : Board) (p : List Instr) (t : Table) (n : ℕ) (i : Instr) (u 
     → ((e : Edge) → HasEdge (edges b n i u) e → IsCovered b t e)
     → IsFirstFault b p t (after_duties b n i u ++ rest) found → TellsOr DutyOrTicks b p t rest found
 tells_after b p t n i u rest found covered h =
-    let es = of_edges n (worst_ticks b i) (edges b n i u) in
+    let es = of_edges n (timed_edges b n i u) in
     or_further DutyOrTicks b p t (of_end n u i ++ rest) rest found
     (tells_edges DutyOrTicks b p t n (worst_ticks b i) (edges b n i u) (of_end n u i ++ rest) found
     (inr refl) covered

@@ -10,9 +10,10 @@ use Rattle.seq_program.specs.Programs.{is_end}
 use Rattle.facts.specs.declared.rule.Rule.{Rule}
 use Rattle.facts.specs.declared.rule.Rule.TheVariants.{K1, K2, K3, K4, K5, K6, K7, K8, K9}
 use Rattle.facts.specs.Rows.{Row, IsRow}
-use Rattle.facts.specs.Requests.{Sent, sent_in}
+use Rattle.seq_program.specs.Requests.{Request, request_in}
 use Rattle.facts.specs.Duties.{Meets, MeetsSent}
 use Rattle.facts.specs.Edges.{Edge}
+use Rattle.facts.specs.TimedEdges.{timed}
 use Rattle.facts.specs.Steps.{HasEdge}
 use Rattle.facts.specs.Ticks.{worst_ticks}
 use Rattle.table_check.specs.Tables.{Table, row_of}
@@ -34,7 +35,7 @@ hold_back b p t (x ∷ xs) ys h = hold_back b p t xs ys h.1
 -- what holds at an edge
 pub hold_edge : (b : Board) (p : List Instr) (t : Table) (n worst : ℕ)
     (es : List Edge) (x : Edge)
-    → AllHold b p t (of_edges n worst es) → HasEdge es x → IsCovered b t x × Pays t worst x
+    → AllHold b p t (of_edges n (timed worst es)) → HasEdge es x → IsCovered b t x × Pays t worst x
 hold_edge b p t n worst [] x h k = absurd k
 hold_edge b p t n worst (e ∷ es) x h (inl k) =
     let P : Edge → Type 0 = λ y. IsCovered b t y × Pays t worst y in subst P (sym k) (h.0, h.1.0)
@@ -73,7 +74,8 @@ hold_shape b p t (Some y ∷ rows) first (suc n) row h r =
     hold_shape b p t rows (first + 1) n row h.1 r
 
 -- the rules from K6 on ask nothing of an instruction alone
-pub others : (b : Board) (row : Row) (o : Option Sent) → MeetsSent b row o K6 × MeetsSent b row o K7
+pub others : (b : Board) (row : Row) (o : Option Request)
+    → MeetsSent b row o K6 × MeetsSent b row o K7
     × MeetsSent b row o K8 × MeetsSent b row o K9
 others b row None = (tt, tt, tt, tt)
 others b row (Some s) = (tt, tt, tt, tt)
@@ -85,10 +87,10 @@ met_duties b p t n i row h K2 = h.1.0
 met_duties b p t n i row h K3 = h.1.1.0
 met_duties b p t n i row h K4 = h.1.1.1.0
 met_duties b p t n i row h K5 = h.1.1.1.1.0
-met_duties b p t n i row h K6 = (others b row (sent_in i)).0
-met_duties b p t n i row h K7 = (others b row (sent_in i)).1
-met_duties b p t n i row h K8 = (others b row (sent_in i)).2
-met_duties b p t n i row h K9 = (others b row (sent_in i)).3
+met_duties b p t n i row h K6 = (others b row (request_in i)).0
+met_duties b p t n i row h K7 = (others b row (request_in i)).1
+met_duties b p t n i row h K8 = (others b row (request_in i)).2
+met_duties b p t n i row h K9 = (others b row (request_in i)).3
 
 pub at_end : (b : Board) (p : List Instr) (t : Table) (n : ℕ) (i : Instr) (row : Row)
     → (i ≡ instr.End) ⊎ (i ≡ instr.Fail) → AllHold b p t (of_end n row i) → PaysEnd row

@@ -8,14 +8,12 @@ use Rattle.std.proofs.lemmas.List.{length-map}
 use Rattle.board.specs.Boards.{Board}
 use Rattle.seq_program.specs.declared.instr.Instr.{Instr}
 use Rattle.facts.specs.declared.row.Row.{Row as CodeRow}
-use Rattle.facts.specs.Edges.{Edge}
 use Rattle.facts.specs.Rows.{row_view}
-use Rattle.facts.specs.Ways.{timed}
-use Rattle.table_check.specs.Tables.{Table, row_of}
-use Rattle.table_check.specs.Obligations.{Obligation, Covered, Falls, IsFirstFault, Length, Start}
-use Rattle.table_check.specs.Obligations.{obligations, of_edges, of_places, shapes}
-use Rattle.table_check.specs.Looking.{HasRowsOf, at_both, at_place, of_code, of_form, of_timed}
-use Rattle.table_check.specs.Looking.{rows_view, shape_at}
+use Rattle.table_check.specs.Tables.{Table, row_of, rows_view}
+use Rattle.table_check.specs.Obligations.{Obligation, IsFirstFault, Length, Start}
+use Rattle.table_check.specs.Obligations.{obligations, of_places, shapes}
+use Rattle.table_check.specs.Looking.{HasRowsOf, at_both, at_place, of_code, of_form}
+use Rattle.table_check.specs.Looking.{shape_at}
 use Rattle.table_check.proofs.Obligations.{hold_front, hold_shape, no_fault}
 use Rattle.table_check.proofs.Places.{none_some, some_same}
 
@@ -123,13 +121,6 @@ edges_end place [] zero h = refl
 edges_end place [] (suc n) h = refl
 edges_end place (x ∷ edges) zero h = absurd (omega (arith, h))
 edges_end place (x ∷ edges) (suc n) h = edges_end place edges n (omega (arith, h))
-
--- edges with the same ticks
-pub of_same_ticks : (place worst : ℕ) (es : List Edge)
-    → of_timed place (timed worst es) ≡ of_edges place worst es
-of_same_ticks place worst [] = refl
-of_same_ticks place worst (e ∷ es) =
-    ap (λ os. Covered place e ∷ Falls place worst e ∷ os) (of_same_ticks place worst es)
 
 -- what is owed before any instruction is looked at, and then what the places owe
 behind : (xs ys : List Obligation) (o : Obligation) → (xs ++ (o ∷ [])) ++ ys ≡ xs ++ (o ∷ ys)

@@ -27,6 +27,7 @@ use Rattle.facts.specs.FactLaws.{CoveringRowsAdmit}
 use Rattle.facts.specs.Starts.{HoldsStarts}
 use Rattle.facts.specs.Steps.{Leads, IsSoundStep, StepsAreSound, MetDutiesSend}
 use Rattle.facts.specs.Ticks.{worst_ticks}
+use Rattle.facts.specs.TimedEdges.{timed_edges}
 use Rattle.table_check.specs.Tables.{Table, row_of}
 use Rattle.table_check.specs.Obligations.{Start, shapes, of_edges, of_end}
 use Rattle.table_check.specs.Obligations.{of_row, of_places, obligations, AllHold, IsInductive}
@@ -117,7 +118,7 @@ stepped laws b p t is program table m h n a e next k step = by k.stands
         goes (inl x) =
             let end = ends_by step.instr x.1 in
             let es =
-            of_edges m.place (worst_ticks b step.instr) (edges b m.place step.instr l.row) in
+            of_edges m.place (timed_edges b m.place step.instr l.row) in
             let last : AllHold b p t (of_end m.place l.row step.instr) =
             hold_back b p t es (of_end m.place l.row step.instr) all.all.1.1.1.1.1 in
             let pays : 1 ≤ rank l.row m.counters =
@@ -136,7 +137,7 @@ stepped laws b p t is program table m h n a e next k step = by k.stands
         goes (inr x) =
             let lead = x.1 in
             let es =
-            of_edges m.place (worst_ticks b step.instr) (edges b m.place step.instr l.row) in
+            of_edges m.place (timed_edges b m.place step.instr l.row) in
             let first : AllHold b p t es = hold_front b p t es (of_end m.place l.row step.instr)
             all.all.1.1.1.1.1 in
             let here =

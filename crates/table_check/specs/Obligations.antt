@@ -8,8 +8,8 @@ use Rattle.facts.specs.declared.rule.Rule.{Rule}
 use Rattle.facts.specs.declared.rule.Rule.TheVariants.{K6, K7, K8, K9}
 use Rattle.facts.specs.Rows.{Row, IsRow}
 use Rattle.facts.specs.Duties.{Meets, duties}
-use Rattle.facts.specs.Edges.{Edge, edges}
-use Rattle.facts.specs.Ticks.{worst_ticks}
+use Rattle.facts.specs.Edges.{Edge}
+use Rattle.facts.specs.TimedEdges.{timed_edges}
 use Rattle.table_check.specs.Tables.{Table, row_of}
 use Rattle.table_check.specs.declared.verdict.Verdict.{Verdict}
 use Rattle.table_check.specs.declared.verdict.Verdict.TheVariants.{Accepted, Refused}
@@ -50,10 +50,10 @@ shapes place [] = []
 shapes place (None ∷ rows) = shapes (place + 1) rows
 shapes place (Some row ∷ rows) = Shape place row ∷ shapes (place + 1) rows
 
--- each edge is covered, and pays
-abbrev pub of_edges : ℕ → ℕ → List Edge → List Obligation
-of_edges place worst [] = []
-of_edges place worst (e ∷ es) = Covered place e ∷ Falls place worst e ∷ of_edges place worst es
+-- each edge is covered, and pays for its ticks
+abbrev pub of_edges : ℕ → List (Edge × ℕ) → List Obligation
+of_edges place [] = []
+of_edges place (e ∷ es) = Covered place e.0 ∷ Falls place e.1 e.0 ∷ of_edges place es
 
 abbrev pub of_end : ℕ → Row → Instr → List Obligation
 of_end place row instr.End = FallsEnd place row ∷ []
@@ -64,7 +64,7 @@ of_end place row _ = []
 abbrev pub of_row : Board → ℕ → Instr → Row → List Obligation
 of_row b place i row =
     map (Duty place i row) duties
-    ++ (of_edges place (worst_ticks b i) (edges b place i row) ++ of_end place row i)
+    ++ (of_edges place (timed_edges b place i row) ++ of_end place row i)
 
 -- places upwards; those without a row are passed over
 abbrev pub of_places : Board → ℕ → List Instr → Table → List Obligation

@@ -2,16 +2,16 @@
 
 ghost use Rattle.std.specs.Prelude.{◌≡◌, ℕ, IfOk, slice_get, Some};
 ghost use Rattle.facts.specs.Rows.{row_view, IsRow};
-ghost use Rattle.table_check.specs.Tables.{table_view};
-ghost use Rattle.table_check.specs.Looking.{HasRowsOf, at_place, rows_view};
+ghost use Rattle.table_check.specs.Tables.{table_view, rows_view};
+ghost use Rattle.table_check.specs.Looking.{HasRowsOf, at_place};
 ghost use Rattle.table_check.specs.Obligations.{IsFirstFault, IsVerdict, bound_of, obligations};
 ghost use Rattle.table_check.specs.Obligations.{of_places, of_row};
 ghost use Rattle.table_check.specs.SafeTables.{IsSafeVerdict};
 
-use crate::forming::{form_fault, row_at};
+use crate::forming::form_fault;
 use crate::law::inductive_runs_are_safe;
 use crate::leading::{edges_fault, end_fault, shaped_edges};
-use crate::table::Table;
+use crate::table::{Table, row_at};
 use crate::verdict::Verdict;
 use board::{Board, board_is_valid};
 use facts::{Row, Rule, duty};

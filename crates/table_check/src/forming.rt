@@ -1,25 +1,15 @@
 //! Whether a table is one of the board and of the program's length, and holds every start.
 
-ghost use Rattle.std.specs.Prelude.{◌≡◌, [], ◌∷◌, ◌++◌, option_map, length, ◌↔◌, IsTrue, ℕ, List};
+ghost use Rattle.std.specs.Prelude.{◌≡◌, [], ◌∷◌, ◌++◌, length, ◌↔◌, IsTrue, ℕ, List};
 ghost use Rattle.seq_program.specs.declared.instr.Instr.{Instr};
-ghost use Rattle.facts.specs.Rows.{row_view};
-ghost use Rattle.table_check.specs.Tables.{row_of};
-ghost use Rattle.table_check.specs.Looking.{of_form, rows_view, shape_at};
+ghost use Rattle.table_check.specs.Tables.{row_of, rows_view};
+ghost use Rattle.table_check.specs.Looking.{of_form, shape_at};
 ghost use Rattle.table_check.specs.Obligations.{IsFirstFault, shapes, Start};
 
+use crate::table::row_at;
 use board::Board;
 use facts::{Row, Rule};
 use seq_program::Program;
-
-/// The row of a place, if there is one.
-pub(crate) fn row_at(rows: &[Option<Row>], place: usize) -> Option<&Row>
-    ensures { option_map (λ row. row_view row.now) result ≡ row_of (rows_view rows.now) place }
-{
-    match rows.get(place) {
-        Some(Some(row)) => Some(row),
-        _ => None,
-    }
-}
 
 /// K9 at a place: whether its row, if there is one, is one of the board.
 fn shape_fault_at(board: &Board, rows: &[Option<Row>], place: usize) -> Option<(usize, Rule)>

@@ -6,18 +6,16 @@ ghost use Rattle.board.specs.Boards.{Board};
 ghost use Rattle.seq_program.specs.declared.instr.Instr.{Instr};
 ghost use Rattle.facts.specs.declared.rule.Rule.TheVariants.{K1};
 ghost use Rattle.facts.specs.Duties.{Meets};
-ghost use Rattle.facts.specs.Edges.{edge, edges};
 ghost use Rattle.facts.specs.FactLaws.{IsShaped};
 ghost use Rattle.facts.specs.Rows.{row_view, IsRow};
-ghost use Rattle.facts.specs.Ticks.{worst_ticks};
-ghost use Rattle.facts.specs.Ways.{timed, timed_view};
-ghost use Rattle.table_check.specs.Tables.{Table};
+ghost use Rattle.facts.specs.TimedEdges.{timed_edges};
+ghost use Rattle.facts.specs.Ways.{timed_view};
+ghost use Rattle.table_check.specs.Tables.{Table, rows_view};
 ghost use Rattle.table_check.specs.Looking.{AreShapedEdges, HasRowsOf, of_code};
-ghost use Rattle.table_check.specs.Looking.{rows_view};
 ghost use Rattle.table_check.specs.Obligations.{FallsEnd, IsFirstFault, of_end};
 
-use crate::forming::row_at;
 use crate::paying::{pays, pays_end};
+use crate::table::row_at;
 use board::{Board, board_is_valid};
 use facts::{Part, Row, Rule, covered_rows_follow, edges};
 use seq_program::{Instr, Program, program_is_valid};
@@ -37,8 +35,7 @@ pub(crate) fn shaped_edges(
     requires row { IsRow board.now (row_view row.now) }
     requires met { Meets board.now (row_view row.now) instr.now K1 }
     ensures edges { IfOk result (λ es. map timed_view es.items
-        ≡ timed (worst_ticks board.now instr.now)
-        (edges board.now place instr.now (row_view row.now))) }
+        ≡ timed_edges board.now place instr.now (row_view row.now)) }
     ensures shaped { IfOk result (λ es. AreShapedEdges board.now es.items) }
 {
     covered_rows_follow();
@@ -60,12 +57,13 @@ fn edge_fault(
     ensures { (p : List Instr) → IsFirstFault board.now p (rows_view rows.now)
         (of_code place (edge.now ∷ [])) result }
 {
-    let Some(next) = row_at(rows, edge.0) else {
+    let (to, row, worst) = edge;
+    let Some(next) = row_at(rows, *to) else {
         return Some((place, Rule::K6));
     };
-    if !next.covers(&edge.1) {
+    if !next.covers(row) {
         Some((place, Rule::K6))
-    } else if !pays(edge.2, next, &edge.1) {
+    } else if !pays(*worst, next, row) {
         Some((place, Rule::K7))
     } else {
         None

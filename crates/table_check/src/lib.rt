@@ -29,6 +29,6 @@ pub use law::{
 };
 pub use reading::read_table;
 pub use shape::shaped;
-pub use table::Table;
+pub use table::{Table, row_at};
 pub use verdict::Verdict;
 pub use writing::write_table;

@@ -76,8 +76,9 @@ fn ways_of(
     }
     let edges = edges(alloc, board, program, 2, row)?;
     for edge in &edges {
-        let counter = edge.1.counters[0];
-        ways.push((edge.0, edge.2, counter.lo, counter.hi))?;
+        let (to, row, ticks) = edge;
+        let counter = row.counters[0];
+        ways.push((*to, *ticks, counter.lo, counter.hi))?;
     }
     Ok(ways)
 }

@@ -9,16 +9,29 @@ use seq_program::{Program, read_program};
 use std::alloc::Global;
 use std::test::*;
 use table_check::{
-    Table, Verdict, check, read_table, shaped, tables_are_judged_by_place, write_table,
+    Table, Verdict, check, read_table, row_at, shaped, tables_are_judged_by_place, write_table,
 };
 
-/// How many rows a table that is found has, whether it belongs to the board, and its verdict.
-type Found = (usize, bool, Verdict);
+/// How many rows a table that is found has, the ticks that are left at places 1 and 2, whether
+/// it belongs to the board, and its verdict.
+type Found = (usize, Option<u64>, Option<u64>, bool, Verdict);
+
+/// The ticks that are left at a place.
+fn base_at(table: &Table, place: usize) -> Option<u64> {
+    Some(row_at(&table.rows, place)?.base)
+}
 
 fn found_for(alloc: Global, board: &Board, program: &Program) -> Option<Found> {
     let table = find(alloc, board, program).ok()?;
     let verdict = check(alloc, board, program, &table).ok()?;
-    Some((table.rows.len(), shaped(board, &table), verdict))
+    let (first, second) = (base_at(&table, 1), base_at(&table, 2));
+    Some((
+        table.rows.len(),
+        first,
+        second,
+        shaped(board, &table),
+        verdict,
+    ))
 }
 
 fn found_on(alloc: Global, board: &Board) -> Option<Found> {
@@ -36,7 +49,11 @@ fn found(alloc: Global) -> Option<Found> {
 fn found_by_call(rt: HostRuntime) {
     tables_are_judged_by_place();
     let accepted = Verdict::Accepted { bound: 3 };
-    same(&rt, found(rt.alloc()), Some((2, true, accepted)));
+    same(
+        &rt,
+        found(rt.alloc()),
+        Some((2, Some(1), None, true, accepted)),
+    );
 }
 
 #[test]

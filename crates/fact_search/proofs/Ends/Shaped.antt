@@ -9,8 +9,8 @@ use Rattle.facts.specs.declared.row.Row.{Row as CodeRow}
 use Rattle.facts.specs.declared.source.Source.TheVariants as source
 use Rattle.facts.specs.Rows.{Row, IsRow, IsSource, row_view}
 use Rattle.facts.specs.Sets.{empty, HasValue}
-use Rattle.table_check.specs.Looking.{HasRowsOf, rows_view}
-use Rattle.table_check.specs.Tables.{Table, row_of}
+use Rattle.table_check.specs.Looking.{HasRowsOf}
+use Rattle.table_check.specs.Tables.{rows_view, Table, row_of}
 use Rattle.table_check.specs.Writable.{IsShaped, IsShapedRow}
 use Rattle.fact_search.specs.declared.loops.Ticks.{Ticks}
 use Rattle.fact_search.specs.Ticking.{ticked, ticked_row, with_left}

@@ -8,8 +8,7 @@ use Rattle.std.proofs.lemmas.List.Elements.{All-from_recursion, recursion_from_A
 use Rattle.std.specs.Prelude.{Option, Some, None, option_map, slice_get, slice_index}
 use Rattle.facts.specs.declared.row.Row.{Row as CodeRow}
 use Rattle.facts.specs.Rows.{Row, row_view}
-use Rattle.table_check.specs.Looking.{rows_view}
-use Rattle.table_check.specs.Tables.{Table, row_of}
+use Rattle.table_check.specs.Tables.{rows_view, Table, row_of}
 use Rattle.fact_search.specs.declared.loops.Ticks.{Ticks}
 use Rattle.fact_search.specs.Ticking.{plain, ticked, ticked_row, with_left}
 use Rattle.fact_search.proofs.Shared.Places.{none_some, some_same}

@@ -13,7 +13,7 @@ use Rattle.facts.specs.declared.source.Source.{Source}
 use Rattle.facts.specs.declared.source.Source.TheVariants as source
 use Rattle.facts.specs.declared.span.Span.{Span}
 use Rattle.facts.specs.Rows.{Row, source_at, span_at, weight, rank}
-use Rattle.facts.specs.Requests.{Request, Sent, sent_in}
+use Rattle.seq_program.specs.Requests.{Transaction, Request, request_in}
 use Rattle.facts.specs.Edges.{Edge, edges, edges_of, other_edges, edge_if, Effect, SetsPage}
 use Rattle.facts.specs.Edges.{SetsProtect, TurnsOff, ReadsStatus, ReadsPage, ReadsProtect, Loads}
 use Rattle.facts.specs.Edges.{Nothing, effect_of, done_row, else_row, keep, learn_good}
@@ -34,7 +34,7 @@ Keeps n row = (row.base ≡ n) × (row.coeffs ≡ none)
 abbrev pub EdgeKeeps : ℕ → Edge → Type 0
 EdgeKeeps n e = Keeps n e.row
 
-done_keeps : (b : Board) (row : Row) (t n : ℕ) (w : Request) (e : Effect) → Keeps n row
+done_keeps : (b : Board) (row : Row) (t n : ℕ) (w : Transaction) (e : Effect) → Keeps n row
     → Keeps n (done_row b row t w e)
 done_keeps b row t n w (SetsPage v) k = k
 done_keeps b row t n w (SetsProtect v) k = k
@@ -141,20 +141,20 @@ other_keeps b place (instr.BlockWrite t c bytes l) row n x f k h = absurd h
 other_keeps b place (instr.BlockRead t c r l) row n x f k h = absurd h
 other_keeps b place (instr.BlockCall t c bytes r l) row n x f k h = absurd h
 
-of_keeps : (b : Board) (place : ℕ) (i : Instr) (row : Row) (o : Option Sent) (n : ℕ) (x : Edge)
+of_keeps : (b : Board) (place : ℕ) (i : Instr) (row : Row) (o : Option Request) (n : ℕ) (x : Edge)
     → IsInstr i
     → Keeps n row → HasEdge (edges_of b place i row o) x → Keeps n x.row
 of_keeps b place i row None n x f k h = other_keeps b place i row n x f k h
 of_keeps b place i row (Some s) n x f k h =
-    let e = effect_of s.request in
-    two_have (EdgeKeeps n) (place + 1) s.otherwise (done_row b row s.target s.request e)
+    let e = effect_of s.transaction in
+    two_have (EdgeKeeps n) (place + 1) s.otherwise (done_row b row s.target s.transaction e)
     (else_row b row s.target e) x
-    (done_keeps b row s.target n s.request e k) (else_keeps b row s.target n e k) h
+    (done_keeps b row s.target n s.transaction e k) (else_keeps b row s.target n e k) h
 
 pub edge_keeps : (b : Board) (place : ℕ) (i : Instr) (row : Row) (n : ℕ) (x : Edge) → IsInstr i
     → Keeps n row
     → HasEdge (edges b place i row) x → Keeps n x.row
-edge_keeps b place i row n x f k h = of_keeps b place i row (sent_in i) n x f k h
+edge_keeps b place i row n x f k h = of_keeps b place i row (request_in i) n x f k h
 
 weight_none : (ks cs : List ℕ) → ks ≡ none → weight ks cs ≡ 0
 weight_none ks cs e = ap (λ l. weight l cs) e ∙ zeros 4 cs

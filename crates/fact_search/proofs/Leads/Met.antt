@@ -8,16 +8,16 @@ use Rattle.facts.specs.declared.rule.Rule.{Rule}
 use Rattle.facts.specs.declared.rule.Rule.TheVariants.{K1, K2, K3, K4, K5, K6, K7, K8, K9}
 use Rattle.facts.specs.Duties.{IsFirstFailing, Meets, MeetsSent, duties}
 use Rattle.facts.specs.Edges.{Edge, edges}
-use Rattle.facts.specs.Requests.{Sent, sent_in}
+use Rattle.seq_program.specs.Requests.{Request, request_in}
 use Rattle.facts.specs.Rows.{Row}
 use Rattle.facts.specs.Ticks.{worst_ticks}
-use Rattle.facts.specs.Ways.{timed}
+use Rattle.facts.specs.TimedEdges.{timed}
 use Rattle.table_check.specs.ByPlace.{MeetsAll}
 use Rattle.table_check.specs.Tables.{Table, row_of}
 use Rattle.fact_search.specs.Searching.{AreEdgesAt}
 use Rattle.fact_search.proofs.Shared.Places.{none_some, some_same}
 
-others : (b : Board) (row : Row) (o : Option Sent) → MeetsSent b row o K6 × MeetsSent b row o K7
+others : (b : Board) (row : Row) (o : Option Request) → MeetsSent b row o K6 × MeetsSent b row o K7
     × MeetsSent b row o K8 × MeetsSent b row o K9
 others b row None = (tt, tt, tt, tt)
 others b row (Some s) = (tt, tt, tt, tt)
@@ -29,10 +29,10 @@ five b i row k1 k2 k3 k4 k5 K2 = k2
 five b i row k1 k2 k3 k4 k5 K3 = k3
 five b i row k1 k2 k3 k4 k5 K4 = k4
 five b i row k1 k2 k3 k4 k5 K5 = k5
-five b i row k1 k2 k3 k4 k5 K6 = (others b row (sent_in i)).0
-five b i row k1 k2 k3 k4 k5 K7 = (others b row (sent_in i)).1
-five b i row k1 k2 k3 k4 k5 K8 = (others b row (sent_in i)).2
-five b i row k1 k2 k3 k4 k5 K9 = (others b row (sent_in i)).3
+five b i row k1 k2 k3 k4 k5 K6 = (others b row (request_in i)).0
+five b i row k1 k2 k3 k4 k5 K7 = (others b row (request_in i)).1
+five b i row k1 k2 k3 k4 k5 K8 = (others b row (request_in i)).2
+five b i row k1 k2 k3 k4 k5 K9 = (others b row (request_in i)).3
 
 pub all_met : (b : Board) (i : Instr) (row : Row) → IsFirstFailing b row i duties None
     → MeetsAll b i row

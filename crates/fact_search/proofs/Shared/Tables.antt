@@ -4,8 +4,7 @@ use Rattle.std.proofs.Common.{arith}
 use Rattle.std.specs.Prelude.{slice_set, Option, Some, None, option_map}
 use Rattle.facts.specs.declared.row.Row.{Row as CodeRow}
 use Rattle.facts.specs.Rows.{Row, row_view}
-use Rattle.table_check.specs.Looking.{rows_view}
-use Rattle.table_check.specs.Tables.{Table, row_of}
+use Rattle.table_check.specs.Tables.{rows_view, Table, row_of}
 use Rattle.fact_search.proofs.Shared.Places.{none_some}
 
 pub row_set_same : (t : Table) (m : ℕ) (x : Option Row) → m < length t

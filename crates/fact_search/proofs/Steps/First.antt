@@ -8,8 +8,7 @@ use Rattle.board.specs.Boards.{Board}
 use Rattle.seq_program.specs.declared.instr.Instr.{Instr}
 use Rattle.facts.specs.declared.row.Row.{Row as CodeRow}
 use Rattle.facts.specs.Rows.{Row, IsRow, RowCovers, row_view}
-use Rattle.table_check.specs.Looking.{rows_view}
-use Rattle.table_check.specs.Tables.{Table, row_of}
+use Rattle.table_check.specs.Tables.{rows_view, Table, row_of}
 use Rattle.fact_search.specs.Starting.{IsStartRow}
 use Rattle.fact_search.specs.Searching.{IsSearched, Premises, is_changed}
 use Rattle.fact_search.proofs.Shared.Places.{none_some, some_same}

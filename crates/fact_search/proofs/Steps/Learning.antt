@@ -9,8 +9,8 @@ use Rattle.facts.specs.declared.row.Row.{Row as CodeRow}
 use Rattle.facts.specs.Edges.{edge}
 use Rattle.facts.specs.FactLaws.{without_ticks}
 use Rattle.facts.specs.Rows.{Row, IsRow, RowCovers, row_view}
-use Rattle.table_check.specs.Looking.{HasRowsOf, rows_view}
-use Rattle.table_check.specs.Tables.{Table, row_of}
+use Rattle.table_check.specs.Looking.{HasRowsOf}
+use Rattle.table_check.specs.Tables.{rows_view, Table, row_of}
 use Rattle.fact_search.specs.Searching.{IsGrown, IsLearnt}
 use Rattle.fact_search.proofs.Shared.Covers.{covers_self, no_ticks_cover}
 use Rattle.fact_search.proofs.Shared.Places.{none_some, some_same}

@@ -16,7 +16,8 @@ use Rattle.facts.specs.Rows.{Row, RowCovers, InSpans, SpansCover, SourceCovers, 
 use Rattle.facts.specs.Starts.{HoldsStarts}
 use Rattle.facts.specs.Steps.{HasEdge}
 use Rattle.facts.specs.Ticks.{worst_ticks}
-use Rattle.facts.specs.Ways.{timed, timed_view}
+use Rattle.facts.specs.TimedEdges.{timed}
+use Rattle.facts.specs.Ways.{timed_view}
 use Rattle.table_check.specs.Looking.{HasRowsOf}
 use Rattle.table_check.specs.Rules.{IsCovered, Starts}
 use Rattle.table_check.specs.Tables.{Table, row_of}

@@ -10,7 +10,7 @@ use Rattle.facts.specs.Edges.{Edge, edges}
 use Rattle.facts.specs.Rows.{Row}
 use Rattle.facts.specs.Steps.{HasEdge}
 use Rattle.facts.specs.Ticks.{worst_ticks}
-use Rattle.facts.specs.Ways.{timed}
+use Rattle.facts.specs.TimedEdges.{timed}
 use Rattle.table_check.specs.Tables.{Table}
 use Rattle.fact_search.specs.Leading.{AreLeadsAt, leads_of}
 use Rattle.fact_search.specs.Searching.{Premises}

@@ -1,6 +1,6 @@
 -- Worst ticks are low.
 use Rattle.std.proofs.Common.{◌≡◌, ℕ, ◌+◌, ◌*◌, ◌≤◌, ◌⊎◌, inl, inr, sym, ◌∙◌, subst, true, false}
-use Rattle.std.proofs.Common.{List, [], ◌∷◌, length, refl, arith}
+use Rattle.std.proofs.Common.{List, [], ◌∷◌, refl, arith}
 use Rattle.std.proofs.Common.{mul-le-mul}
 use Rattle.std.proofs.lemmas.List.Elements.{recursion_from_All}
 use Rattle.std.specs.Prelude.{slice_get, Option, Some, None, IfSome, option_and_then, option_map}
@@ -12,13 +12,12 @@ use Rattle.board.specs.Boards.{Allow, Target, Board, largest_stretch, entry_of, 
 use Rattle.board.specs.Valid.{IsBoard, IsTarget, IsEntry, full_length}
 use Rattle.seq_program.specs.declared.instr.Instr.{Instr}
 use Rattle.seq_program.specs.declared.instr.Instr.TheVariants as instr
-use Rattle.seq_program.specs.declared.instr.Width.TheVariants as width
-use Rattle.seq_program.specs.declared.instr.Written.TheVariants as written
 use Rattle.seq_program.specs.Valid.{IsInstr}
 use Rattle.smbus.specs.declared.message.Form.{Form}
-use Rattle.facts.specs.Requests.{Request, QuickTo, Send, Receive, Write, Read, Call, PutBlock}
-use Rattle.facts.specs.Requests.{GetBlock, CallBlock, Sent, sent, sent_in, form_in, code_in}
-use Rattle.facts.specs.Requests.{lengths_at}
+use Rattle.smbus.specs.declared.message.Form.TheVariants as form
+use Rattle.smbus.specs.SlotCounts.{most_slots}
+use Rattle.seq_program.specs.Requests.{Transaction, Request, request_in, code_in, block_count}
+use Rattle.facts.specs.Allowing.{lengths_at}
 use Rattle.facts.specs.Ticks.{frame_ticks, longest_slots, ticks_of, other_ticks, worst_ticks}
 use Rattle.fact_search.proofs.Shared.Places.{is_target, none_some, some_same}
 
@@ -43,24 +42,25 @@ stretch_low [] k = omega arith
 stretch_low (t ∷ targets) k = let rest = stretch_low targets k.1 in let one = k.0.stretch in
     omega (arith, rest, one)
 
-lengths_low : (b : Board) (i : ℕ) (r : Request) → IsBoard b → Range.high (lengths_at b i r) ≤ 255
+lengths_low : (b : Board) (i : ℕ) (r : Transaction) → IsBoard b
+    → Range.high (lengths_at b i r) ≤ 255
 lengths_low b i r is = at_target (slice_get b.targets i) refl
   where
     at_entry : (t : Target) → slice_get b.targets i ≡ Some t → (o : Option Allow)
-        → entry_of (form_in r) (code_in r) t.allow ≡ o
+        → entry_of r.form (code_in r) t.allow ≡ o
         → Range.high (unwrap_or (option_map (λ (e : Allow). e.length) o) full_length) ≤ 255
     at_entry t there None e = omega arith
     at_entry t there (Some x) e =
-        let good = found_entry IsEntry (form_in r) (code_in r) t.allow x
+        let good = found_entry IsEntry r.form (code_in r) t.allow x
         (recursion_from_All IsEntry t.allow (is_target b i t is there).entries) e in
         let k = good.in_length in omega (arith, k.below)
 
     at_target : (o : Option Target) → slice_get b.targets i ≡ o
         → Range.high (unwrap_or (option_map (λ (e : Allow). e.length)
-        (option_and_then (λ (t : Target). entry_of (form_in r) (code_in r) t.allow) o))
+        (option_and_then (λ (t : Target). entry_of r.form (code_in r) t.allow) o))
         full_length) ≤ 255
     at_target None e = omega arith
-    at_target (Some t) e = at_entry t e (entry_of (form_in r) (code_in r) t.allow) refl
+    at_target (Some t) e = at_entry t e (entry_of r.form (code_in r) t.allow) refl
 
 ticks_low : (b : Board) (slots : ℕ) → largest_stretch b.targets ≤ 6999 → slots ≤ 4700
     → (1 ≤ frame_ticks b slots) × (frame_ticks b slots ≤ 536870912)
@@ -71,21 +71,19 @@ ticks_low b slots s k =
     (omega arith, omega (arith, m))
 
 -- blocks have at most 255 bytes
-abbrev pub FitsBlocks : Request → Type 0
-FitsBlocks (PutBlock c bytes) = length bytes ≤ 255
-FitsBlocks (CallBlock c bytes g) = length bytes ≤ 254
-FitsBlocks _ = Unit {0}
+abbrev pub FitsBlocks : Transaction → Type 0
+FitsBlocks x = block_count x.content ≤ 255
 
-fits_blocks : (i : Instr) → IsInstr i → IfSome (sent_in i) (λ s. FitsBlocks s.request)
+fits_blocks : (i : Instr) → IsInstr i → IfSome (request_in i) (λ s. FitsBlocks s.transaction)
 fits_blocks (instr.BlockWrite t c bytes l) k = k.1.1
-fits_blocks (instr.BlockCall t c bytes r l) k = k.1.1
-fits_blocks (instr.Quick t read l) k = tt
-fits_blocks (instr.Send t c l) k = tt
-fits_blocks (instr.Receive t r l) k = tt
-fits_blocks (instr.Write t c v l) k = tt
-fits_blocks (instr.Read t c w r l) k = tt
-fits_blocks (instr.Call t c v r l) k = tt
-fits_blocks (instr.BlockRead t c r l) k = tt
+fits_blocks (instr.BlockCall t c bytes r l) k = let few = k.1.1 in omega (arith, few)
+fits_blocks (instr.Quick t read l) k = omega arith
+fits_blocks (instr.Send t c l) k = omega arith
+fits_blocks (instr.Receive t r l) k = omega arith
+fits_blocks (instr.Write t c v l) k = omega arith
+fits_blocks (instr.Read t c w r l) k = omega arith
+fits_blocks (instr.Call t c v r l) k = omega arith
+fits_blocks (instr.BlockRead t c r l) k = omega arith
 fits_blocks (instr.Alert r l) k = tt
 fits_blocks (instr.IfAlert l) k = tt
 fits_blocks (instr.Set r v) k = tt
@@ -99,21 +97,25 @@ fits_blocks (instr.Goto l) k = tt
 fits_blocks instr.End k = tt
 fits_blocks instr.Fail k = tt
 
-slots_low : (b : Board) (i : ℕ) (r : Request) (l : ℕ) → IsBoard b → FitsBlocks r
-    → longest_slots b (sent i r l) ≤ 4700
-slots_low b i (QuickTo read) l is f = omega arith
-slots_low b i (Send c) l is f = omega arith
-slots_low b i (Receive g) l is f = omega arith
-slots_low b i (Write c (written.Byte v)) l is f = omega arith
-slots_low b i (Write c (written.Word v)) l is f = omega arith
-slots_low b i (Write c (written.Register g)) l is f = omega arith
-slots_low b i (Read c width.Byte g) l is f = omega arith
-slots_low b i (Read c width.Word g) l is f = omega arith
-slots_low b i (Call c v g) l is f = omega arith
-slots_low b i (PutBlock c bytes) l is f = omega (arith, f)
-slots_low b i (GetBlock c g) l is f = let k = lengths_low b i (GetBlock c g) is in omega (arith, k)
-slots_low b i (CallBlock c bytes g) l is f =
-    let k = lengths_low b i (CallBlock c bytes g) is in omega (arith, k, f)
+form_low : (f : Form) (out back : ℕ) → out ≤ 255 → back ≤ 255 → most_slots f out back ≤ 4700
+form_low (form.Quick reads) out back o k = omega arith
+form_low form.SendByte out back o k = omega arith
+form_low form.ReceiveByte out back o k = omega arith
+form_low form.WriteByte out back o k = omega arith
+form_low form.WriteWord out back o k = omega arith
+form_low form.ReadByte out back o k = omega arith
+form_low form.ReadWord out back o k = omega arith
+form_low form.ProcessCall out back o k = omega arith
+form_low form.BlockWrite out back o k = omega (arith, o)
+form_low form.BlockRead out back o k = omega (arith, k)
+form_low form.BlockProcessCall out back o k = omega (arith, o, k)
+form_low form.Alert out back o k = omega arith
+
+slots_low : (b : Board) (r : Request) → IsBoard b → FitsBlocks r.transaction
+    → longest_slots b r ≤ 4700
+slots_low b r is f =
+    form_low (Transaction.form r.transaction) (block_count (Transaction.content r.transaction))
+    (Range.high (lengths_at b r.target r.transaction)) f (lengths_low b r.target r.transaction is)
 
 abbrev pub IsLow : ℕ → Type 0
 IsLow ticks = (1 ≤ ticks) × (ticks ≤ 536870912)
@@ -143,13 +145,13 @@ other_low b (instr.Goto l) is f = (omega arith, omega arith)
 other_low b instr.End is f = (omega arith, omega arith)
 other_low b instr.Fail is f = (omega arith, omega arith)
 
-of_low : (b : Board) (i : Instr) (o : Option Sent) → IsBoard b → IsInstr i
-    → IfSome o (λ s. FitsBlocks s.request) → IsLow (ticks_of b i o)
+of_low : (b : Board) (i : Instr) (o : Option Request) → IsBoard b → IsInstr i
+    → IfSome o (λ s. FitsBlocks s.transaction) → IsLow (ticks_of b i o)
 of_low b i None is f f' = other_low b i is f
 of_low b i (Some s) is f f' =
     ticks_low b (longest_slots b s) (stretch_low b.targets (recursion_from_All IsTarget b.targets
     is.targets))
-    (slots_low b s.target s.request s.otherwise is f')
+    (slots_low b s is f')
 
 pub worst_low : (b : Board) (i : Instr) → IsBoard b → IsInstr i → IsLow (worst_ticks b i)
-worst_low b i is f = of_low b i (sent_in i) is f (fits_blocks i f)
+worst_low b i is f = of_low b i (request_in i) is f (fits_blocks i f)

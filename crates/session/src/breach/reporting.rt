@@ -16,7 +16,7 @@ ghost use Rattle.simulator.specs.StepDoes.{GoOut, MessageReports, MessageWithdra
 ghost use Rattle.session.specs.Telling.{TurnsOff, TellsAfter};
 
 use board::{Board, Rail, Target};
-use pmbus_table::code::{OPERATION, STATUS_WORD};
+use pmbus_table::code::{ALL_PAGES, OPERATION, STATUS_WORD};
 use pmbus_table::{enables, reported_good};
 use smbus::{Answer, Form, Message};
 use targets::{BusState, cut_of};
@@ -28,9 +28,6 @@ const READ_WORD_STOP: usize = 46;
 /// The slot in which a Write Byte's value is acknowledged: address and code have nine slots each,
 /// and the value eight before it.
 const VALUE_ACKNOWLEDGE: usize = 26;
-
-/// PAGE's value that stands for all pages.
-const ALL_PAGES: u8 = 0xFF;
 
 /// Whether a Read Word isn't cut before its STOP.
 fn is_cut_late(message: &Message, answer: &Answer) -> bool

@@ -7,13 +7,10 @@ ghost use Rattle.session.specs.AllDoubts.{lack_of, rail_lack, idle_doubts, idle_
 
 use crate::doubts::{Doubt, Lack};
 use board::{Allow, Board, Rail, Range, Target};
-use pmbus_table::code::{OPERATION, PAGE};
+use pmbus_table::code::{ALL_PAGES, OPERATION, PAGE};
 use pmbus_table::enables;
 use smbus::Form;
 use std::alloc::AllocError;
-
-/// The value of PAGE that stands for all pages (PMBus 1.3 Part II, 11.10).
-pub(crate) const ALL_PAGES: u8 = 0xFF;
 
 fn has(range: Range, value: u8) -> bool
     ensures { result ≡ has range value }

@@ -8,9 +8,9 @@ ghost use Rattle.session.specs.Doubts.{message_at, sent_by, is_write_of, is_forb
 ghost use Rattle.session.specs.Doubts.{is_read_of_page, starts_at_all_pages, starts_protected};
 
 use crate::doubts::Doubt;
-use crate::doubts::idle::{ALL_PAGES, is_among};
+use crate::doubts::idle::is_among;
 use board::{Board, Target};
-use pmbus_table::code::{PAGE, WRITE_PROTECT};
+use pmbus_table::code::{ALL_PAGES, PAGE, WRITE_PROTECT};
 use pmbus_table::{by_code, permits};
 use seq_program::{Program, message_of};
 use smbus::{Form, Message, carries_code};

@@ -17,7 +17,7 @@ use Rattle.facts.specs.declared.source.Source.TheVariants as source
 use Rattle.facts.specs.declared.span.Span.{Span}
 use Rattle.facts.specs.Sets.{Set, empty, only}
 use Rattle.facts.specs.Rows.{Row}
-use Rattle.facts.specs.Requests.{Write, Read}
+use Rattle.seq_program.specs.Requests.{write, read}
 use Rattle.facts.specs.Duties.{one, touches, is_touched, MayBeSent, HasNeeds}
 use Rattle.facts.specs.Edges.{edge, good_bits, bounds, loaded, status_source}
 use Rattle.facts.specs.Ticks.{frame_ticks}
@@ -34,7 +34,7 @@ use Rattle.table_check.proofs.SmallTables.Owed.{leads_on}
 pub turned : (row : Row) (i address value : ℕ)
     → slice_get two_rails.targets i ≡ Some (small_target address)
     → value ≤ 255 → IsTrue (is_operation_value value)
-    → MayBeSent two_rails row i (Write operation_code (written.Byte value))
+    → MayBeSent two_rails row i (write operation_code (written.Byte value))
 turned row i address value at small is = record {
   target = small_target address;
   at = at;
@@ -44,7 +44,7 @@ turned row i address value at small is = record {
   known = ((λ e. cc), (λ e. cc), (λ e. is));
 }
 
-pub asked : (row : Row) → MayBeSent two_rails row 0 (Read status_word_code width.Word 0)
+pub asked : (row : Row) → MayBeSent two_rails row 0 (read status_word_code width.Word 0)
 asked row = record {
   target = small_target 0x40;
   at = refl;
@@ -56,7 +56,7 @@ asked row = record {
 
 -- the first rail has no needs
 pub first_needs : (good : Set) (span : Span) (s : Source) (base : ℕ)
-    → HasNeeds two_rails (row_at good span s base) 0 (Write operation_code (written.Byte 0x80))
+    → HasNeeds two_rails (row_at good span s base) 0 (write operation_code (written.Byte 0x80))
 first_needs good span s base same on d r rail =
     each_rail
     (λ d r. IsTrue (touches (row_at good span s base) 0 r)
@@ -66,7 +66,7 @@ first_needs good span s base same on d r rail =
 
 -- the second one needs the first
 pub second_needs : (good : Set) (span : Span) (s : Source) (base : ℕ) → IsTrue (good 0)
-    → HasNeeds two_rails (row_at good span s base) 1 (Write operation_code (written.Byte 0x80))
+    → HasNeeds two_rails (row_at good span s base) 1 (write operation_code (written.Byte 0x80))
 second_needs good span s base first same on d r rail =
     each_rail
     (λ d r. IsTrue (touches (row_at good span s base) 1 r)

@@ -11,7 +11,7 @@ use Rattle.facts.specs.declared.rule.Rule.TheVariants.{K5}
 use Rattle.facts.specs.declared.source.Source.TheVariants as source
 use Rattle.facts.specs.Sets.{empty, only}
 use Rattle.facts.specs.Rows.{Row, IsRow, most_ticks}
-use Rattle.facts.specs.Requests.{Write}
+use Rattle.seq_program.specs.Requests.{write}
 use Rattle.facts.specs.Duties.{HasNeeds}
 use Rattle.facts.specs.Edges.{good_bits}
 use Rattle.table_check.specs.Tables.{Table}
@@ -100,7 +100,7 @@ Told place =
     IsFirstFault two_rails p t (of_places two_rails place (drop place p) (drop place t))
     (Some (5, K5))
 
-not_good : HasNeeds two_rails (any_row 300) 1 (Write operation_code (written.Byte 0x80)) → ⊥
+not_good : HasNeeds two_rails (any_row 300) 1 (write operation_code (written.Byte 0x80)) → ⊥
 not_good needs =
     absurd (false≢true (needs refl refl 1 (small_rail 1 3300000 (0 ∷ [])) refl refl 0 0 (lit< tt)))
 
@@ -108,9 +108,9 @@ told_at_five : Told 5
 told_at_five =
     let sent = turned (any_row 300) 1 0x41 0x80 refl (lit≤ tt) refl in
     let alone = reads_one_page empty a_word source.None 300 1
-    (Write operation_code (written.Byte 0x80)) in
+    (write operation_code (written.Byte 0x80)) in
     let free = is_unprotected empty a_word source.None 300 1
-    (Write operation_code (written.Byte 0x80)) in
+    (write operation_code (written.Byte 0x80)) in
     inl (sent, inl (alone, inl (free, inl (tt, inr (not_good, refl)))))
 
 further : (place : ℕ) (i : Instr) (is' : List Instr) (row : Row) (rows : Table)

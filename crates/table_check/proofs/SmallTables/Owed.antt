@@ -10,9 +10,10 @@ use Rattle.facts.specs.declared.source.Source.{Source}
 use Rattle.facts.specs.declared.span.Span.{Span}
 use Rattle.facts.specs.Sets.{Set}
 use Rattle.facts.specs.Rows.{Row}
-use Rattle.facts.specs.Requests.{Request, Sent, sent_in}
+use Rattle.seq_program.specs.Requests.{Transaction, Request, request_in}
 use Rattle.facts.specs.Duties.{ReadsOnePage, IsUnprotected, Meets, MeetsSent, duties}
 use Rattle.facts.specs.Edges.{Edge}
+use Rattle.facts.specs.TimedEdges.{timed}
 use Rattle.table_check.specs.Tables.{Table}
 use Rattle.table_check.specs.Obligations.{Obligation, Duty, AllHold, IsFirstFault, of_row}
 use Rattle.table_check.specs.Obligations.{of_edges, of_places}
@@ -21,28 +22,28 @@ use Rattle.table_check.proofs.SmallTables.KnownRows.{is_zero, Leads, pays_end}
 
 -- ---- duties that every message meets, since PAGE and WRITE_PROTECT are 0
 
-pub reads_one_page : (good : Set) (span : Span) (s : Source) (base i : ℕ) (r : Request)
+pub reads_one_page : (good : Set) (span : Span) (s : Source) (base i : ℕ) (r : Transaction)
     → ReadsOnePage (row_at good span s base) i r
 reads_one_page good span s base zero r paged reads = refl
 reads_one_page good span s base (suc zero) r paged reads = refl
 reads_one_page good span s base (suc (suc i)) r paged reads = refl
 
-pub is_unprotected : (good : Set) (span : Span) (s : Source) (base i : ℕ) (r : Request)
+pub is_unprotected : (good : Set) (span : Span) (s : Source) (base i : ℕ) (r : Transaction)
     → IsUnprotected (row_at good span s base) i r
 is_unprotected good span s base zero r writes protect stored = rw (is_zero protect stored) refl
 is_unprotected good span s base (suc zero) r writes protect stored =
     rw (is_zero protect stored) refl
 is_unprotected good span s base (suc (suc i)) r writes protect stored = absurd (false≢true stored)
 
-sends_alone : (good : Set) (span : Span) (s : Source) (base : ℕ) (o : Option Sent)
+sends_alone : (good : Set) (span : Span) (s : Source) (base : ℕ) (o : Option Request)
     → MeetsSent two_rails (row_at good span s base) o K2
 sends_alone good span s base None = tt
-sends_alone good span s base (Some m) = reads_one_page good span s base m.target m.request
+sends_alone good span s base (Some m) = reads_one_page good span s base m.target m.transaction
 
-sends_freely : (good : Set) (span : Span) (s : Source) (base : ℕ) (o : Option Sent)
+sends_freely : (good : Set) (span : Span) (s : Source) (base : ℕ) (o : Option Request)
     → MeetsSent two_rails (row_at good span s base) o K3
 sends_freely good span s base None = tt
-sends_freely good span s base (Some m) = is_unprotected good span s base m.target m.request
+sends_freely good span s base (Some m) = is_unprotected good span s base m.target m.transaction
 
 -- ---- places
 
@@ -53,10 +54,11 @@ pub leads_on : (p : List Instr) (t : Table) (place worst : ℕ) (i : Instr) (goo
     → Meets two_rails (row_at good span s base) i K4
     → Meets two_rails (row_at good span s base) i K5 → Leads t worst e → Leads t worst f
     → AllHold two_rails p t
-    (map (Duty place i (row_at good span s base)) duties ++ of_edges place worst (e ∷ f ∷ []))
+    (map (Duty place i (row_at good span s base)) duties
+    ++ of_edges place (timed worst (e ∷ f ∷ [])))
 leads_on p t place worst i good span s base e f k1 k4 k5 on off =
-    let k2 = sends_alone good span s base (sent_in i) in
-    let k3 = sends_freely good span s base (sent_in i) in
+    let k2 = sends_alone good span s base (request_in i) in
+    let k3 = sends_freely good span s base (request_in i) in
     (k1, (k2, (k3, (k4, (k5, (on.0, (on.1, (off.0, (off.1, tt)))))))))
 
 pub ends : (p : List Instr) (t : Table) (place : ℕ) (good : Set) (span : Span) (s : Source)

@@ -10,9 +10,10 @@ use Rattle.seq_program.specs.declared.instr.Instr.TheVariants as to
 use Rattle.seq_program.specs.declared.instr.Written.TheVariants as written
 use Rattle.facts.specs.declared.rule.Rule.TheVariants.{K4}
 use Rattle.facts.specs.declared.source.Source.TheVariants as source
-use Rattle.facts.specs.Sets.{empty, all_pages}
+use Rattle.facts.specs.Sets.{empty}
+use Rattle.pmbus_table.specs.Codes.{all_pages}
 use Rattle.facts.specs.Rows.{set_at}
-use Rattle.facts.specs.Requests.{Write}
+use Rattle.seq_program.specs.Requests.{write}
 use Rattle.facts.specs.Duties.{one, touches, MayBeSent, CommandsWithinLimits}
 use Rattle.facts.specs.Edges.{edge}
 use Rattle.facts.specs.Ticks.{frame_ticks}
@@ -29,7 +30,7 @@ use Rattle.table_check.proofs.SmallTables.Owed.{leads_on, ends, fails, and_then}
 
 -- the second rail isn't touched
 limits : (base : ℕ) → CommandsWithinLimits two_rails (known_row base) 0
-    (Write vout_command_code (written.Word 4505))
+    (write vout_command_code (written.Word 4505))
 limits base carries t d r at rail =
     each_rail
     (λ d r. IsTrue (touches (known_row base) 0 r) → IsWithin 4505 t.exponent r.limit_uv)
@@ -39,7 +40,7 @@ limits base carries t d r at rail =
     (λ touched. absurd (false≢true touched)) d r rail
 
 sent : (base : ℕ)
-    → MayBeSent two_rails (known_row base) 0 (Write vout_command_code (written.Word 4505))
+    → MayBeSent two_rails (known_row base) 0 (write vout_command_code (written.Word 4505))
 sent base = record {
   target = small_target 0x40;
   at = refl;

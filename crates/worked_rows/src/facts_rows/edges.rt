@@ -31,9 +31,10 @@ pub(super) type Reached = (usize, Known, Counted);
 
 /// Whether an edge leads to a place where this is known.
 fn reaches(alloc: Global, edge: &(usize, Row, u64), want: Reached) -> bool {
+    let (to, reached, _ticks) = edge;
     let (place, known, counted) = want;
     match row_of(alloc, known, counted) {
-        Some(row) => edge.0 == place && is_same(&edge.1, &row),
+        Some(row) => *to == place && is_same(reached, &row),
         None => false,
     }
 }

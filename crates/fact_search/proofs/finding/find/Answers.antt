@@ -3,8 +3,8 @@ use Rattle.std.specs.Prelude.{Option}
 use Rattle.board.specs.Boards.{Board}
 use Rattle.seq_program.specs.declared.instr.Instr.{Instr}
 use Rattle.facts.specs.declared.row.Row.{Row as CodeRow}
-use Rattle.table_check.specs.Looking.{HasRowsOf, rows_view}
-use Rattle.table_check.specs.Tables.{Table}
+use Rattle.table_check.specs.Looking.{HasRowsOf}
+use Rattle.table_check.specs.Tables.{rows_view, Table}
 use Rattle.fact_search.specs.Finds.{IsFound, TellsCause}
 use Rattle.fact_search.specs.Forward.{IsForward}
 use Rattle.fact_search.specs.Searching.{IsFollowedTable, Premises}

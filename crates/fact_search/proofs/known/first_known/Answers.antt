@@ -1,6 +1,6 @@
 use Rattle.std.proofs.Common.{◌≡◌, ◌∙◌, ◌++◌, ◌∷◌, [], ℕ, List, ap, length, subst, arith, true}
 use Rattle.std.proofs.Common.{Some, replicate}
-use Rattle.table_check.specs.Looking.{rows_view}
+use Rattle.table_check.specs.Tables.{rows_view}
 use Rattle.fact_search.proofs.Steps.First.{IsFirst, first_more, first_one, first_searched}
 use Rattle.fact_search.specs.Leading.{leads_view}
 use Rattle.fact_search.proofs.Steps.Leading.{led_first}
@@ -51,4 +51,5 @@ returns-clause-led c =
     led_first c.args.board.now c.args.program.now (rows_view c.loop-place.rows.items)
     c.loop-place.changed.items (leads_view c.in_ok-leads.leads.items)
     (subst P e c.loop-place.invariant)
-    (c.in_ok-leads.ensures ∙ ap (λ n. replicate {A = List (ℕ × ℕ)} n []) c.places-places.ensures.count)
+    (c.in_ok-leads.ensures
+    ∙ ap (λ n. replicate {A = List (ℕ × ℕ)} n []) c.places-places.ensures.count)

@@ -1,4 +1,4 @@
-use Rattle.table_check.specs.Looking.{rows_view}
+use Rattle.table_check.specs.Tables.{rows_view}
 use Rattle.fact_search.proofs.Steps.First.{IsFirst}
 use Rattle.fact_search.proofs.known.first_known.Given as goal
 

@@ -3,8 +3,7 @@ use Rattle.std.specs.Prelude.{Option, Some, None, nat_le, slice_set}
 use Rattle.facts.specs.declared.row.Row.{Row as CodeRow}
 use Rattle.facts.specs.Edges.{edge}
 use Rattle.facts.specs.Rows.{row_view}
-use Rattle.table_check.specs.Looking.{rows_view}
-use Rattle.table_check.specs.Tables.{row_of}
+use Rattle.table_check.specs.Tables.{rows_view, row_of}
 use Rattle.fact_search.specs.Searching.{IsLearnt}
 use Rattle.fact_search.proofs.Shared.Covers.{row_shaped, row_sized}
 use Rattle.fact_search.proofs.Steps.Learning.{taken, grows, known}

@@ -5,7 +5,8 @@ use Rattle.facts.specs.declared.row.Row.{Row as CodeRow}
 use Rattle.facts.specs.Edges.{edge}
 use Rattle.facts.specs.Rows.{row_view}
 use Rattle.facts.specs.Ways.{timed_view}
-use Rattle.table_check.specs.Looking.{HasRowsOf, rows_view}
+use Rattle.table_check.specs.Looking.{HasRowsOf}
+use Rattle.table_check.specs.Tables.{rows_view}
 use Rattle.fact_search.specs.Searching.{AreEdgesAt}
 use Rattle.fact_search.proofs.Shared.Tables.{view_length}
 use Rattle.fact_search.proofs.Steps.Visiting.{IsVisiting, edges_view}

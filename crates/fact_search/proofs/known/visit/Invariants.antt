@@ -1,6 +1,6 @@
 use Rattle.std.specs.Prelude.{map}
 use Rattle.facts.specs.Ways.{timed_view}
-use Rattle.table_check.specs.Looking.{rows_view}
+use Rattle.table_check.specs.Tables.{rows_view}
 use Rattle.fact_search.specs.Leading.{IsLed, leads_view}
 use Rattle.fact_search.specs.Searching.{AreEdgesAt}
 use Rattle.fact_search.proofs.Steps.Visiting.{IsVisiting, edges_view}

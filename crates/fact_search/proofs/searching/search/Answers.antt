@@ -1,6 +1,6 @@
 use Rattle.std.proofs.Common.{◌≡◌, ◌<◌, ◌≤◌, ◌+◌, ◌∙◌, ℕ, List, Bool, false, length, arith, subst}
 use Rattle.std.proofs.Common.{sym}
-use Rattle.table_check.specs.Looking.{rows_view}
+use Rattle.table_check.specs.Tables.{rows_view}
 use Rattle.fact_search.specs.Leading.{leads_view}
 use Rattle.fact_search.specs.Searching.{is_changed}
 use Rattle.fact_search.proofs.Shared.Tables.{length_set}

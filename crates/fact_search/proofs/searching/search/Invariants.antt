@@ -1,5 +1,5 @@
 use Rattle.std.proofs.Common.{◌≡◌, ◌<◌, ◌≤◌, ℕ, false, length}
-use Rattle.table_check.specs.Looking.{rows_view}
+use Rattle.table_check.specs.Tables.{rows_view}
 use Rattle.fact_search.specs.Forward.{IsForward}
 use Rattle.fact_search.specs.Leading.{IsLed, leads_view}
 use Rattle.fact_search.specs.Searching.{IsSearched, is_changed}

@@ -1,5 +1,5 @@
 use Rattle.std.proofs.Common.{◌≤◌, ◌+◌, ◌-◌, All, List, ℕ, ap, length, arith, subst, sym}
-use Rattle.table_check.specs.Looking.{rows_view}
+use Rattle.table_check.specs.Tables.{rows_view}
 use Rattle.fact_search.specs.Ticking.{PaysAt, most_worst}
 use Rattle.fact_search.proofs.Steps.Leading.{leads_here, view_length}
 use Rattle.fact_search.proofs.Ticks.Paying.{leads_inside, leads_low, leads_pay}

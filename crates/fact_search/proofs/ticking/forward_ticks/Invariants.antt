@@ -1,4 +1,4 @@
-use Rattle.table_check.specs.Looking.{rows_view}
+use Rattle.table_check.specs.Tables.{rows_view}
 use Rattle.fact_search.proofs.Ticks.Descending.{FitLast}
 use Rattle.fact_search.proofs.ticking.forward_ticks.Given as goal
 

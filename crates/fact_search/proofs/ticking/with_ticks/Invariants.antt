@@ -1,6 +1,6 @@
 use Rattle.std.proofs.Common.{◌≡◌, ◌++◌, All, drop, length}
 use Rattle.std.specs.Prelude.{IfSome}
-use Rattle.table_check.specs.Looking.{rows_view}
+use Rattle.table_check.specs.Tables.{rows_view}
 use Rattle.fact_search.specs.Ticking.{ticked}
 use Rattle.fact_search.proofs.ticking.with_ticks.Given as goal
 

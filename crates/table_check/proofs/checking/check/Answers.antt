@@ -1,4 +1,4 @@
-use Rattle.table_check.specs.Looking.{rows_view}
+use Rattle.table_check.specs.Tables.{rows_view}
 use Rattle.table_check.proofs.Broken.{ok_to}
 use Rattle.table_check.proofs.checking.check.Goals as goal
 

@@ -1,5 +1,6 @@
 use Rattle.std.proofs.Common.{Some, List, subst}
-use Rattle.table_check.specs.Looking.{of_form, rows_view}
+use Rattle.table_check.specs.Looking.{of_form}
+use Rattle.table_check.specs.Tables.{rows_view}
 use Rattle.table_check.specs.Obligations.{IsFirstFault, Obligation, of_places}
 use Rattle.table_check.proofs.Broken.{ok_to}
 use Rattle.table_check.proofs.Firsts.{back, front}

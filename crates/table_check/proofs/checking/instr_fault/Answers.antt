@@ -1,14 +1,13 @@
-use Rattle.std.proofs.Common.{◌≡◌, ◌++◌, ℕ, Some, None, List, map, subst, ap, ◌∙◌}
+use Rattle.std.proofs.Common.{◌≡◌, ◌++◌, ℕ, Some, None, List, map, subst, ap}
 use Rattle.facts.specs.declared.row.Row.{Row as CodeRow}
 use Rattle.facts.specs.Duties.{duties}
-use Rattle.facts.specs.Edges.{edges}
 use Rattle.facts.specs.Rows.{row_view}
-use Rattle.facts.specs.Ticks.{worst_ticks}
-use Rattle.table_check.specs.Looking.{of_code, of_timed, rows_view}
+use Rattle.facts.specs.TimedEdges.{timed_edges}
+use Rattle.table_check.specs.Looking.{of_code}
+use Rattle.table_check.specs.Tables.{rows_view}
 use Rattle.table_check.specs.Obligations.{Duty, IsFirstFault, Obligation, of_edges, of_end}
 use Rattle.table_check.proofs.Broken.{counters_are_spans, duties_met, duty_fails, first_met}
 use Rattle.table_check.proofs.Firsts.{back, front}
-use Rattle.table_check.proofs.Parts.{of_same_ticks}
 use Rattle.table_check.proofs.checking.instr_fault.Goals as goal
 
 pub returns-in-Some : goal.returns-in-Some
@@ -20,7 +19,7 @@ returns-in-Some c =
     let row = row_view c.args.row.now in
     let n = c.args.place in
     front b p t (map (Duty n i row) duties)
-    (of_edges n (worst_ticks b i) (edges b n i row) ++ of_end n row i) (n, c.in-Some.rule)
+    (of_edges n (timed_edges b n i row) ++ of_end n row i) (n, c.in-Some.rule)
     (duty_fails b p t n i row duties c.in-Some.rule c.in-Some.ensures)
 
 pub shaped_edges-requires-clause-met : goal.shaped_edges-requires-clause-met
@@ -36,16 +35,16 @@ returns-in-Some-edges_fault c =
     let row = row_view c.args.row.now in
     let n = c.args.place in
     let fault = c.in-Some-edges_fault.fault in
-    let es = edges b n i row in
-    let same : of_code n c.in_ok-edges.edges.items ≡ of_edges n (worst_ticks b i) es =
-    ap (of_timed n) c.in_ok-edges.ensures.edges ∙ of_same_ticks n (worst_ticks b i) es in
+    let es = timed_edges b n i row in
+    let same : of_code n c.in_ok-edges.edges.items ≡ of_edges n es =
+    ap (of_edges n) c.in_ok-edges.ensures.edges in
     let P : List Obligation → Type 0 = λ os. IsFirstFault b p t os (Some fault) in
     let Q : List (ℕ × CodeRow × ℕ) → Type 0 =
     λ items. IsFirstFault b p t (of_code n items) (Some fault) in
     back b p t (map (Duty n i row) duties)
-    (of_edges n (worst_ticks b i) es ++ of_end n row i) (Some fault)
+    (of_edges n es ++ of_end n row i) (Some fault)
     (duties_met b p t n i row duties c.in_default.ensures)
-    (front b p t (of_edges n (worst_ticks b i) es) (of_end n row i) fault
+    (front b p t (of_edges n es) (of_end n row i) fault
     (subst P same (subst Q c.deref.ensures.value (c.in-Some-edges_fault.ensures p))))
 
 pub end_fault-requires : goal.end_fault-requires
@@ -60,14 +59,14 @@ returns c =
     let i = c.args.instr.now in
     let row = row_view c.args.row.now in
     let n = c.args.place in
-    let es = edges b n i row in
-    let same : of_code n c.in_ok-edges.edges.items ≡ of_edges n (worst_ticks b i) es =
-    ap (of_timed n) c.in_ok-edges.ensures.edges ∙ of_same_ticks n (worst_ticks b i) es in
+    let es = timed_edges b n i row in
+    let same : of_code n c.in_ok-edges.edges.items ≡ of_edges n es =
+    ap (of_edges n) c.in_ok-edges.ensures.edges in
     let P : List Obligation → Type 0 = λ os. IsFirstFault b p t os None in
     let Q : List (ℕ × CodeRow × ℕ) → Type 0 = λ items. IsFirstFault b p t (of_code n items) None in
     back b p t (map (Duty n i row) duties)
-    (of_edges n (worst_ticks b i) es ++ of_end n row i) c.end_fault.result
+    (of_edges n es ++ of_end n row i) c.end_fault.result
     (duties_met b p t n i row duties c.in_default.ensures)
-    (back b p t (of_edges n (worst_ticks b i) es) (of_end n row i) c.end_fault.result
+    (back b p t (of_edges n es) (of_end n row i) c.end_fault.result
     (subst P same (subst Q c.deref.ensures.value (c.in-None.ensures p)))
     (c.end_fault.ensures b p t))

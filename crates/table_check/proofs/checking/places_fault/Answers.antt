@@ -1,7 +1,8 @@
 use Rattle.std.proofs.Common.{ℕ, ◌+◌, arith, subst}
 use Rattle.std.specs.Prelude.{Option}
 use Rattle.facts.specs.declared.rule.Rule.{Rule}
-use Rattle.table_check.specs.Looking.{at_place, rows_view}
+use Rattle.table_check.specs.Looking.{at_place}
+use Rattle.table_check.specs.Tables.{rows_view}
 use Rattle.table_check.specs.Obligations.{IsFirstFault, of_places}
 use Rattle.table_check.proofs.Firsts.{leaves_fault, leaves_none, leaves_rest}
 use Rattle.table_check.proofs.Parts.{places_end, places_from, places_next, view_length}

@@ -1,4 +1,4 @@
-use Rattle.table_check.specs.Looking.{rows_view}
+use Rattle.table_check.specs.Tables.{rows_view}
 use Rattle.table_check.specs.Obligations.{of_places}
 use Rattle.table_check.proofs.Firsts.{Leaves}
 use Rattle.table_check.proofs.Parts.{places_from}

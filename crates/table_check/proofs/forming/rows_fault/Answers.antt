@@ -1,5 +1,5 @@
 use Rattle.std.proofs.Common.{[], ◌∷◌}
-use Rattle.table_check.specs.Looking.{rows_view}
+use Rattle.table_check.specs.Tables.{rows_view}
 use Rattle.table_check.specs.Obligations.{Start, shapes}
 use Rattle.table_check.proofs.Firsts.{front, back}
 use Rattle.table_check.proofs.forming.rows_fault.Goals as goal

@@ -1,6 +1,6 @@
 use Rattle.std.proofs.Common.{◌+◌}
-use Rattle.table_check.specs.Tables.{row_of}
-use Rattle.table_check.specs.Looking.{rows_view, shape_at}
+use Rattle.table_check.specs.Tables.{row_of, rows_view}
+use Rattle.table_check.specs.Looking.{shape_at}
 use Rattle.table_check.specs.Obligations.{shapes}
 use Rattle.table_check.proofs.Firsts.{leaves_fault, leaves_rest}
 use Rattle.table_check.proofs.Parts.{shapes_from, shapes_next}

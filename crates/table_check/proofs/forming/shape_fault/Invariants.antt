@@ -1,6 +1,6 @@
 use Rattle.std.specs.Prelude.{List}
 use Rattle.seq_program.specs.declared.instr.Instr.{Instr}
-use Rattle.table_check.specs.Looking.{rows_view}
+use Rattle.table_check.specs.Tables.{rows_view}
 use Rattle.table_check.specs.Obligations.{shapes}
 use Rattle.table_check.proofs.Firsts.{Leaves}
 use Rattle.table_check.proofs.Parts.{shapes_from}

@@ -1,7 +1,7 @@
 use Rattle.std.proofs.Common.{◌∙◌, sym}
 use Rattle.facts.specs.Edges.{edge}
 use Rattle.facts.specs.Rows.{row_view}
-use Rattle.table_check.specs.Looking.{rows_view}
+use Rattle.table_check.specs.Tables.{rows_view}
 use Rattle.table_check.proofs.Broken.{row_sized, shaped_sized, shaped_counters, uncovered, unpaid}
 use Rattle.table_check.proofs.Broken.{kept, false_true}
 use Rattle.table_check.proofs.leading.edge_fault.Goals as goal

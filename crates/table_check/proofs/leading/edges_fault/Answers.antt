@@ -2,7 +2,8 @@ use Rattle.std.proofs.Common.{◌∷◌, ◌+◌, [], ℕ, sym, subst, arith}
 use Rattle.facts.specs.FactLaws.{IsShaped}
 use Rattle.facts.specs.Rows.{row_view}
 use Rattle.facts.specs.declared.row.Row.{Row as CodeRow}
-use Rattle.table_check.specs.Looking.{of_code, rows_view}
+use Rattle.table_check.specs.Looking.{of_code}
+use Rattle.table_check.specs.Tables.{rows_view}
 use Rattle.table_check.proofs.Firsts.{leaves_fault, leaves_rest}
 use Rattle.table_check.proofs.Parts.{edges_from, edges_next, item_at}
 use Rattle.table_check.proofs.leading.edges_fault.Goals as goal

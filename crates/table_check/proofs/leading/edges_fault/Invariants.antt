@@ -1,6 +1,7 @@
 use Rattle.std.specs.Prelude.{List}
 use Rattle.seq_program.specs.declared.instr.Instr.{Instr}
-use Rattle.table_check.specs.Looking.{of_code, rows_view}
+use Rattle.table_check.specs.Looking.{of_code}
+use Rattle.table_check.specs.Tables.{rows_view}
 use Rattle.table_check.proofs.Firsts.{Leaves}
 use Rattle.table_check.proofs.Parts.{edges_from}
 use Rattle.table_check.proofs.leading.edges_fault.Given as goal

@@ -7,7 +7,8 @@ use Rattle.facts.specs.Edges.{Edge, edges}
 use Rattle.facts.specs.FactLaws.{IsShaped}
 use Rattle.facts.specs.Rows.{row_view}
 use Rattle.facts.specs.Ticks.{worst_ticks}
-use Rattle.facts.specs.Ways.{timed, timed_view}
+use Rattle.facts.specs.TimedEdges.{timed}
+use Rattle.facts.specs.Ways.{timed_view}
 use Rattle.table_check.proofs.Broken.{all_have, ok_to, row_shaped}
 use Rattle.table_check.proofs.Places.{all_at}
 use Rattle.table_check.proofs.leading.shaped_edges.Goals as goal
