@@ -68,112 +68,77 @@ impl Transaction<'_> {
 }
 
 impl Instr {
-    ghost use Rattle.std.specs.Prelude.{◌≡◌, ◌≢◌, option_map, IfSome, None, false};
+    ghost use Rattle.std.specs.Prelude.{◌≡◌, ◌≢◌, option_map, option_and_then, IfSome, None};
+    ghost use Rattle.std.specs.Prelude.{false};
+    ghost use Rattle.std.specs.Option.{option_map_or};
     ghost use Rattle.smbus.specs.FormWords.{carries_code};
     ghost use Rattle.smbus.specs.declared.message.Form.TheVariants.{Alert};
-    ghost use Rattle.seq_program.specs.Requests.{Request as AnyRequest};
+    ghost use Rattle.seq_program.specs.Requests.{Request as AnyRequest, Nothing};
     ghost use Rattle.seq_program.specs.Requests.{request_in, target_in, else_in};
-    ghost use Rattle.seq_program.specs.RequestViews.{transaction_view, request_view};
+    ghost use Rattle.seq_program.specs.RequestViews.{content_view, request_view};
 
-    /// The transaction of what it sends.
-    fn transaction(&self) -> Option<Transaction<'_>>
-        ensures { option_map transaction_view result
-            ≡ option_map (λ (r : AnyRequest). r.transaction) (request_in self.now) }
+    /// The form of its transaction.
+    fn form(&self) -> Option<Form>
+        ensures { result
+            ≡ option_map (λ (r : AnyRequest). r.transaction.form) (request_in self.now) }
     {
         match self {
-            Instr::Quick { read, .. } => {
-                Some(Transaction {
-                    form: Form::Quick(*read),
-                    command: None,
-                    content: Content::Nothing,
-                    register: None,
-                })
+            Instr::Quick { read, .. } => Some(Form::Quick(*read)),
+            Instr::Send { .. } => Some(Form::SendByte),
+            Instr::Receive { .. } => Some(Form::ReceiveByte),
+            Instr::Write { value, .. } => Some(form_of(*value)),
+            Instr::Read { width, .. } => Some(read_form(*width)),
+            Instr::Call { .. } => Some(Form::ProcessCall),
+            Instr::BlockWrite { .. } => Some(Form::BlockWrite),
+            Instr::BlockRead { .. } => Some(Form::BlockRead),
+            Instr::BlockCall { .. } => Some(Form::BlockProcessCall),
+            _ => None,
+        }
+    }
+
+    /// The command of its transaction.
+    fn command(&self) -> Option<Command>
+        ensures { result
+            ≡ option_and_then (λ (r : AnyRequest). r.transaction.command) (request_in self.now) }
+    {
+        match self {
+            Instr::Send { command, .. }
+            | Instr::Write { command, .. }
+            | Instr::Read { command, .. }
+            | Instr::Call { command, .. }
+            | Instr::BlockWrite { command, .. }
+            | Instr::BlockRead { command, .. }
+            | Instr::BlockCall { command, .. } => Some(*command),
+            _ => None,
+        }
+    }
+
+    /// What its transaction writes.
+    fn content(&self) -> Content<'_>
+        ensures { content_view result ≡ option_map_or (λ (r : AnyRequest). r.transaction.content)
+            (request_in self.now) Nothing }
+    {
+        match self {
+            Instr::Write { value, .. } => Content::Value(*value),
+            Instr::Call { value, .. } => Content::Value(Written::Word(*value)),
+            Instr::BlockWrite { bytes, .. } | Instr::BlockCall { bytes, .. } => {
+                Content::Block(bytes)
             }
-            Instr::Send { command, .. } => {
-                Some(Transaction {
-                    form: Form::SendByte,
-                    command: Some(*command),
-                    content: Content::Nothing,
-                    register: None,
-                })
-            }
-            Instr::Receive { register, .. } => {
-                Some(Transaction {
-                    form: Form::ReceiveByte,
-                    command: None,
-                    content: Content::Nothing,
-                    register: Some(*register),
-                })
-            }
-            Instr::Write { command, value, .. } => {
-                Some(Transaction {
-                    form: form_of(*value),
-                    command: Some(*command),
-                    content: Content::Value(*value),
-                    register: None,
-                })
-            }
-            Instr::Read {
-                command,
-                width,
-                register,
-                ..
-            } => {
-                Some(Transaction {
-                    form: read_form(*width),
-                    command: Some(*command),
-                    content: Content::Nothing,
-                    register: Some(*register),
-                })
-            }
-            Instr::Call {
-                command,
-                value,
-                register,
-                ..
-            } => {
-                let content = Content::Value(Written::Word(*value));
-                Some(Transaction {
-                    form: Form::ProcessCall,
-                    command: Some(*command),
-                    content,
-                    register: Some(*register),
-                })
-            }
-            Instr::BlockWrite { command, bytes, .. } => {
-                Some(Transaction {
-                    form: Form::BlockWrite,
-                    command: Some(*command),
-                    content: Content::Block(bytes),
-                    register: None,
-                })
-            }
-            Instr::BlockRead {
-                command,
-                register,
-                ..
-            } => {
-                Some(Transaction {
-                    form: Form::BlockRead,
-                    command: Some(*command),
-                    content: Content::Nothing,
-                    register: Some(*register),
-                })
-            }
-            Instr::BlockCall {
-                command,
-                bytes,
-                register,
-                ..
-            } => {
-                let content = Content::Block(bytes);
-                Some(Transaction {
-                    form: Form::BlockProcessCall,
-                    command: Some(*command),
-                    content,
-                    register: Some(*register),
-                })
-            }
+            _ => Content::Nothing,
+        }
+    }
+
+    /// The register that what its transaction reads goes to.
+    fn register(&self) -> Option<Register>
+        ensures { result
+            ≡ option_and_then (λ (r : AnyRequest). r.transaction.register) (request_in self.now) }
+    {
+        match self {
+            Instr::Receive { register, .. }
+            | Instr::Read { register, .. }
+            | Instr::Call { register, .. }
+            | Instr::BlockRead { register, .. }
+            | Instr::BlockCall { register, .. } => Some(*register),
             _ => None,
         }
     }
@@ -224,12 +189,14 @@ impl Instr {
         ensures bare { IfSome result
             (λ r. r.transaction.command ≡ None → carries_code r.transaction.form ≡ false) }
     {
-        let Some(transaction) = self.transaction() else {
-            return None;
-        };
         Some(Request {
             target: self.target()?,
-            transaction,
+            transaction: Transaction {
+                form: self.form()?,
+                command: self.command(),
+                content: self.content(),
+                register: self.register(),
+            },
             otherwise: self.otherwise()?,
         })
     }
