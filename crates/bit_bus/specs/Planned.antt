@@ -2,6 +2,7 @@
 use Rattle.std.specs.Prelude.{ℕ, nat_le, Bool, true, false, not, ◌≡◌, ◌≢◌, ◌≤◌, List, [], ◌∷◌}
 use Rattle.std.specs.Prelude.{length, map, All}
 use Rattle.std.specs.List.{list_all}
+use Rattle.bit_bus.specs.declared.plan.TheConstants.{MOST_SLOTS, LONGEST_HOLD}
 use Rattle.bit_bus.specs.declared.plan.Slot.{Slot}
 use Rattle.bit_bus.specs.declared.plan.Slot.TheVariants.{Bit, Again, End}
 
@@ -21,7 +22,7 @@ abbrev pub are_inside : List Slot → Bool
 are_inside slots = list_all (λ (s : Slot). not (ends_frame s)) slots
 
 abbrev pub are_short : List ℕ → Bool
-are_short holds = list_all (λ (hold : ℕ). nat_le hold 6999) holds
+are_short holds = list_all (λ (hold : ℕ). nat_le hold LONGEST_HOLD) holds
 
 abbrev pub slots_in : List (Slot × ℕ) → List Slot
 slots_in plan = map (λ (s : Slot × ℕ). s.0) plan
@@ -34,6 +35,6 @@ EndsOnce (s ∷ t ∷ later) = (s ≢ End) × EndsOnce (t ∷ later)
 
 -- what can be driven
 pub record IsPlan (plan : List (Slot × ℕ)) : Type 0 where
-  pub few : length plan ≤ 4096
+  pub few : length plan ≤ MOST_SLOTS
   pub ends : EndsOnce (slots_in plan)
-  pub holds : All (λ (s : Slot × ℕ). s.1 ≤ 6999) plan
+  pub holds : All (λ (s : Slot × ℕ). s.1 ≤ LONGEST_HOLD) plan

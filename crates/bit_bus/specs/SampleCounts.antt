@@ -1,5 +1,6 @@
 -- How many samples a plan takes.
 use Rattle.std.specs.Prelude.{ℕ, ◌+◌, ◌*◌, ◌≤◌, Bool, List, length, All}
+use Rattle.bit_bus.specs.declared.plan.TheConstants.{MOST_SLOTS, LONGEST_HOLD}
 use Rattle.bit_bus.specs.declared.plan.Slot.{Slot}
 use Rattle.bit_bus.specs.Levels.{levels}
 
@@ -11,4 +12,4 @@ LevelsAreFew = (alert : Bool) (longest : ℕ) (plan : List (Slot × ℕ))
 
 -- what the longest plan with the longest holds takes
 abbrev pub most_driven : ℕ
-most_driven = 1 + 4096 * (3 + 6999)
+most_driven = 1 + MOST_SLOTS * (3 + LONGEST_HOLD)

@@ -28,7 +28,7 @@ const LOW: bool = false;
 
 /// The longest low period of the clock, in ticks, that isn't a timeout: 25 ms (SMBus 3.2,
 /// t_TIMEOUT).
-const LONGEST_LOW: u16 = 5000;
+pub const LONGEST_LOW: u16 = 5000;
 
 /// Whether a slot with this hold is cut: its low period, which has one tick more, is a timeout.
 pub fn is_cut(hold: u16) -> bool
@@ -88,6 +88,7 @@ fn push_whole(levels: &mut Appending, slot: Slot, hold: u16, alert: bool)
     requires few { length levels.old.samples + 3 + hold ≤ most_samples }
     requires room { 2 < levels.old.room }
     ensures samples { levels.new.samples ≡ levels.old.samples ++ whole_levels alert slot hold }
+    ensures count { length levels.new.samples ≤ length levels.old.samples + 3 + hold }
     ensures room { levels.old.room ≤ levels.new.room + 3 }
 {
     match slot {
@@ -120,6 +121,50 @@ fn push_cut(levels: &mut Appending, slot: Slot, hold: u16, alert: bool)
     push_low(levels, LOW, alert, hold - (LONGEST_LOW - 1));
     push_high(levels, LOW, alert);
     push_high(levels, HIGH, alert);
+}
+
+/// Appends the levels of bits that aren't held, four at a time, and gives the slots that are left.
+#[inline(always)]
+fn push_bits<'a>(levels: &mut Appending, slots: &'a [Slot], alert: bool) -> &'a [Slot]
+    requires few { length levels.old.samples + 3 * length slots.now ≤ most_samples }
+    requires room { 3 * length slots.now < levels.old.room }
+    ensures samples { levels.new.samples ++ slot_levels alert (planned result.now [])
+        ≡ levels.old.samples ++ slot_levels alert (planned slots.now []) }
+    ensures few { length levels.new.samples + 3 * length result.now ≤ most_samples }
+    ensures room { 3 * length result.now < levels.new.room }
+    ensures fewer { length result.now ≤ length slots.now }
+{
+    let mut rest = slots;
+    while let [
+        Slot::Bit(first),
+        Slot::Bit(second),
+        Slot::Bit(third),
+        Slot::Bit(fourth),
+        later @ ..,
+    ] = rest
+    {
+        push_clock(levels, *first, alert, 0);
+        push_clock(levels, *second, alert, 0);
+        push_clock(levels, *third, alert, 0);
+        push_clock(levels, *fourth, alert, 0);
+        rest = later;
+    }
+    rest
+}
+
+/// Appends the levels of slots that aren't held.
+#[inline(always)]
+fn push_unheld(levels: &mut Appending, slots: &[Slot], alert: bool)
+    requires few { length levels.old.samples + 3 * length slots.now ≤ most_samples }
+    requires room { 3 * length slots.now < levels.old.room }
+    ensures { levels.new.samples
+        ≡ levels.old.samples ++ slot_levels alert (planned slots.now []) }
+{
+    let mut rest = push_bits(levels, slots, alert);
+    while let [slot, later @ ..] = rest {
+        push_whole(levels, *slot, 0, alert);
+        rest = push_bits(levels, later, alert);
+    }
 }
 
 /// Appends the levels of slots with these holds, and tells the slot in which they are cut, if any.
@@ -158,9 +203,10 @@ pub fn drive_onto(samples: &mut Runs, plan: &Plan, alert: bool) -> Result<Option
     // Room for all runs is made first, so that nothing fails behind this.
     let mut levels = samples.take_with_room(3 * slots.len() + 2)?;
     push_high(&mut levels, LOW, alert);
-    // Most frames aren't held: the compiler makes a loop for them that looks at no holds.
+    // Most frames aren't held, and those are driven faster.
     let cut = if holds.is_empty() {
-        push_slots(&mut levels, slots, &[], alert)
+        push_unheld(&mut levels, slots, alert);
+        None
     } else {
         push_slots(&mut levels, slots, holds, alert)
     };

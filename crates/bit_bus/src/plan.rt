@@ -38,9 +38,11 @@ impl Model for Plan {
     ghost invariant = { λ p. IsPlan (planned p.slots.items p.holds.items) };
 }
 
-const MOST_SLOTS: usize = 4096;
+/// The most slots of a plan.
+pub const MOST_SLOTS: usize = 4096;
 
-const LONGEST_HOLD: u16 = 6999;
+/// The longest hold of a slot, in ticks.
+pub const LONGEST_HOLD: u16 = 6999;
 
 fn is_end(slot: Slot) -> bool
     ensures { result ≡ ends_frame slot }
@@ -51,10 +53,15 @@ fn is_end(slot: Slot) -> bool
     }
 }
 
+/// Whether none of the slots is the STOP. It looks at all of them, many at a time.
 fn are_inside(slots: &[Slot]) -> bool
     ensures { result ≡ are_inside slots.now }
 {
-    slots.iter().all(|slot| !is_end(*slot))
+    let mut inside = true;
+    for slot in slots {
+        inside &= !is_end(*slot);
+    }
+    inside
 }
 
 fn are_short(holds: &[u16]) -> bool

@@ -23,3 +23,4 @@ pub mod Observed
 pub mod CountedSlots
 pub mod Examples
 pub mod WholeBytes
+pub mod ReadClocks

@@ -25,7 +25,7 @@ number_from-push : (n : ℕ) (bits : List Bool) (b : Bool)
 number_from-push n [] b = refl
 number_from-push n (c ∷ bits) b = number_from-push (2 * n + (if c then 1 else 0)) bits b
 
-number_of-push : (bits : List Bool) (b : Bool)
+pub number_of-push : (bits : List Bool) (b : Bool)
     → number_of (bits ++ b ∷ []) ≡ 2 * number_of bits + bool_byte b
 number_of-push bits b =
     sym (number_from-zero (bits ++ b ∷ [])) ∙ number_from-push 0 bits b

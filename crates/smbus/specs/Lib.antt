@@ -14,6 +14,7 @@ pub mod Faults
 pub mod FormWords
 pub mod Parts
 pub mod Machine
+pub mod Clocks
 pub mod Control
 pub mod Observers
 pub mod Kept

@@ -1,17 +1,18 @@
 -- What an observer of a stream of events keeps, and what it says of each piece of the stream.
-use Rattle.std.specs.Prelude.{ℕ, ◌≡◌, ◌≢◌, ◌+◌, ◌-◌, ◌^◌, ◌<◌, ◌≤◌, Option, Some, None, List, ◌++◌}
+use Rattle.std.specs.Prelude.{ℕ, ◌≡◌, ◌≢◌, ◌+◌, ◌-◌, ◌<◌, ◌≤◌, Option, Some, None, List, ◌++◌}
 use Rattle.std.specs.Prelude.{[], length, take, All, ◌⊎◌}
 use Rattle.std.specs.List.{flat_map}
 use Rattle.wires.specs.declared.event.Event.{Event}
 use Rattle.wires.specs.declared.event.Event.TheVariants.{Stop}
+use Rattle.wires.specs.Runs.{most_samples}
 use Rattle.smbus.specs.Shown.{Shown}
 use Rattle.smbus.specs.Frames.{frame_word, IsFrame, Begins}
 use Rattle.smbus.specs.declared.fault.ObserveFault.{ObserveFault}
 use Rattle.smbus.specs.declared.fault.ObserveFault.TheVariants.{Memory, NotFrames}
 
--- the events that an observer may be fed
+-- the events that an observer may be fed: no more than there are samples
 abbrev pub most_events : ℕ
-most_events = 2 ^ 40
+most_events = most_samples
 
 pub record Observing : Type 0 where
   -- the events in pieces that were taken

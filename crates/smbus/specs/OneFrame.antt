@@ -1,6 +1,7 @@
 -- What is read back from the slots of a message and an answer.
 use Rattle.std.specs.Prelude.{ℕ, ◌≡◌, ◌≤◌, Bool, Some, None, List, [], ◌∷◌, length, All}
 use Rattle.wires.specs.declared.event.Event.{Event}
+use Rattle.bit_bus.specs.declared.plan.TheConstants.{LONGEST_HOLD}
 use Rattle.bit_bus.specs.Planned.{IsPlan}
 use Rattle.bit_bus.specs.Levels.{first_cut}
 use Rattle.bit_bus.specs.Word.{event_word}
@@ -16,7 +17,7 @@ use Rattle.smbus.specs.Whole.{IsWhole, IsRefused, IsBrokenOff}
 pub record CanBeSent (m : Asked) (a : Answered) : Type 0 where
   pub has_good_data : IsGoodData m a
   pub has_good_block : IsGoodBlock m a
-  pub holds : All (λ hold. hold ≤ 6999) a.holds
+  pub holds : All (λ hold. hold ≤ LONGEST_HOLD) a.holds
 
 -- these are the events of this frame, and of no other frames
 pub record IsOnlyFrame (events : List Event) (f : Shown) : Type 0 where

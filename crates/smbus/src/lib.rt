@@ -22,7 +22,7 @@ pub use law::{messages_have_one_frame, pieces_join, slots_are_one_frame};
 pub use message::{Answer, Form, Message};
 pub use observer::Observer;
 pub use observing::observe;
-pub use single::only_frame;
+pub use single::{only_frame, only_frame_in};
 pub use slots::{frame_slots, is_numbered};
 pub use text::frame_text;
 pub use word::{carries_code, form_named};

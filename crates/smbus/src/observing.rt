@@ -1,10 +1,12 @@
 ghost use Rattle.std.specs.Prelude.{◌≡◌, ◌≢◌, ◌≤◌, ◌++◌, ◌∷◌, [], Bool, List, length, IsTrue};
-ghost use Rattle.std.specs.Prelude.{IfOk, IfErr, OnOk, IfSome, MatchBool, MatchOption};
+ghost use Rattle.std.specs.Prelude.{IfOk, IfErr, OnOk, IfSome, IfNone, MatchBool, MatchOption};
 ghost use Rattle.wires.specs.declared.event.Event.TheVariants.{Rise};
+ghost use Rattle.wires.specs.Events.{events_between};
 ghost use Rattle.smbus.specs.Shown.{Shown};
 ghost use Rattle.smbus.specs.Frames.{AreFrames, FaultIs, rises};
 ghost use Rattle.smbus.specs.Machine.{byte_of, state_of, reading_of, opened, risen};
 ghost use Rattle.smbus.specs.Machine.{run, start, step, Leads};
+ghost use Rattle.smbus.specs.Clocks.{AreClocks, IsNextByte, events_in};
 ghost use Rattle.smbus.specs.Control.{control_after};
 ghost use Rattle.smbus.specs.declared.control.Control.TheVariants.{Free};
 ghost use Rattle.smbus.specs.declared.fault.ObserveFault.TheVariants.{Memory};
@@ -13,7 +15,7 @@ use crate::fault::ObserveFault;
 use crate::frame::{Frame, Segment};
 use std::alloc::{AllocError, Global};
 use std::mem;
-use wires::Event;
+use wires::{Event, Run, Sample, event_between};
 
 /// The beginning of a frame: its segments before the last, and of the last one the bytes and the
 /// bits after them.
@@ -60,6 +62,48 @@ fn byte_of_rises(nine: &[Event]) -> Option<(u8, bool)>
     Some(((number / 2) as u8, number % 2 == 0))
 }
 
+/// The number that the nine clocks behind the first of runs spell, where SCL falls and rises so.
+#[inline(always)]
+fn clocked_number(runs: &[Run]) -> Option<u16>
+    requires { 19 ≤ length runs.now }
+    ensures { IfSome result (AreClocks runs.now 9) }
+{
+    if !runs[0].sample.scl {
+        return None;
+    }
+    let mut number: u16 = 0;
+    for place in 0..9 {
+        let low = runs[2 * place + 1].sample;
+        let high = runs[2 * place + 2].sample;
+        if low.scl || !high.scl {
+            return None;
+        }
+        number = 2 * number + u16::from(high.sda);
+    }
+    Some(number)
+}
+
+/// The byte of nine clocks, and its acknowledge, where a clock follows them: the ninth may be the
+/// STOP's.
+#[inline(always)]
+fn byte_of_clocks(runs: &[Run]) -> Option<(u8, bool)>
+    ensures byte { IfSome result (IsNextByte runs.now) }
+    ensures long { IfSome result (λ byte. 18 ≤ length runs.now) }
+{
+    if runs.len() < 21 {
+        return None;
+    }
+    let Some(number) = clocked_number(runs) else {
+        return None;
+    };
+    let low = runs[19].sample;
+    let high = runs[20].sample;
+    if low.scl || !high.scl {
+        return None;
+    }
+    Some(((number / 2) as u8, number % 2 == 0))
+}
+
 fn is_rise(event: Event) -> bool
     ensures { IsTrue result → (bit : Bool) × (event ≡ Rise bit) }
 {
@@ -99,6 +143,7 @@ impl OpenFrame {
             (state_of frames (Some self.new)) rest.now) }
         ensures fewer { IfOk result (λ rest. length rest.now ≤ length events.now) }
     {
+        self.bytes.reserve(events.len() / 9)?;
         let mut rest = events;
         while rest.len() > 9 {
             let (nine, later) = rest.split_at(9);
@@ -110,6 +155,24 @@ impl OpenFrame {
             };
             self.bytes.push(byte)?;
             rest = later;
+        }
+        Ok(rest)
+    }
+
+    /// Takes the whole bytes that the clocks of runs begin with, behind no bits, and gives what is
+    /// left.
+    fn take_clocks<'a>(&mut self, runs: &'a [Run]) -> Result<&'a [Run], AllocError>
+        requires { self.old.bits.items ≡ [] }
+        ensures leads { IfOk result (λ rest. (frames : List Shown)
+            → Leads (state_of frames (Some self.old)) (events_in runs.now)
+            (state_of frames (Some self.new)) (events_in rest.now)) }
+        ensures fewer { IfOk result (λ rest. length rest.now ≤ length runs.now) }
+    {
+        self.bytes.reserve(runs.len() / 18)?;
+        let mut rest = runs;
+        while let Some(byte) = byte_of_clocks(rest) {
+            self.bytes.push(byte)?;
+            rest = &rest[18..];
         }
         Ok(rest)
     }
@@ -217,6 +280,33 @@ impl Reading {
         }
     }
 
+    /// Takes the whole bytes that the clocks of runs begin with, where no bits stand before them,
+    /// and gives what is left.
+    #[inline(always)]
+    fn take_clocks<'a>(&mut self, runs: &'a [Run]) -> Result<&'a [Run], AllocError>
+        ensures leads { IfOk result (λ rest. Leads (reading_of self.old) (events_in runs.now)
+            (reading_of self.new) (events_in rest.now)) }
+        ensures fewer { IfOk result (λ rest. length rest.now ≤ length runs.now) }
+    {
+        match &mut self.open_frame {
+            Some(frame) if frame.bits.is_empty() => frame.take_clocks(runs),
+            _ => Ok(runs),
+        }
+    }
+
+    /// Takes what happens between two samples, if anything, and answers whether that goes on.
+    fn advance(&mut self, alloc: Global, before: Sample, after: Sample) -> Result<bool, AllocError>
+        ensures { IfOk result (λ taken. MatchBool taken
+            (run (events_between before after) (reading_of self.old) ≡ Some (reading_of self.new))
+            (run (events_between before after) (reading_of self.old) ≡ None)) }
+    {
+        let Some(event) = event_between(before, after) else {
+            return Ok(true);
+        };
+        let taken = self.accept(alloc, event)?;
+        Ok(taken)
+    }
+
     /// Takes events in order, and answers whether all of them go on.
     fn read(&mut self, alloc: Global, events: &[Event]) -> Result<bool, AllocError>
         ensures { IfOk result (λ all. MatchBool all (run events.now (reading_of self.old)
@@ -272,4 +362,27 @@ pub fn observe(alloc: Global, events: &[Event]) -> Result<Vec<Frame>, ObserveFau
         return Err(ObserveFault::NotFrames(events.len()));
     }
     Ok(reading.frames)
+}
+
+/// The frames whose events happen in runs, if there are such. Fails only for want of memory.
+pub(crate) fn frames_in(alloc: Global, runs: &[Run]) -> Result<Option<Vec<Frame>>, AllocError>
+    ensures frames { IfOk result (λ found. IfSome found
+        (λ frames. AreFrames (events_in runs.now) frames.items)) }
+    ensures only { IfOk result (λ found. IfSome found (λ frames. (others : List Shown)
+        → AreFrames (events_in runs.now) others → others ≡ frames.items)) }
+    ensures none { IfOk result (λ found. IfNone found
+        ((frames : List Shown) → AreFrames (events_in runs.now) frames → ⊥)) }
+{
+    let mut reading = Reading::new(alloc);
+    let mut rest = runs;
+    while let [before, after, ..] = rest {
+        if !reading.advance(alloc, before.sample, after.sample)? {
+            return Ok(None);
+        }
+        rest = reading.take_clocks(&rest[1..])?;
+    }
+    if reading.open_frame.is_some() {
+        return Ok(None);
+    }
+    Ok(Some(reading.frames))
 }

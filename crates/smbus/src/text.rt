@@ -21,6 +21,7 @@ fn push_bytes(text: &mut String, bytes: &[(u8, bool)]) -> Result<(), AllocError>
     ensures { OnOk result
         (string_bytes text.new ≡ string_bytes text.old ++ spaced (bytes_words bytes.now)) }
 {
+    text.reserve(bytes.len().saturating_mul(4))?;
     for (byte, acknowledged) in bytes {
         push_byte(text, *byte, *acknowledged)?;
     }

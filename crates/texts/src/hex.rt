@@ -77,7 +77,7 @@ pub fn pairs_of(alloc: Global, text: &str) -> Result<Option<Vec<u8>>, AllocError
     ensures only { IfOk result (λ r. (bytes : List ℕ) → All (λ b. b < 256) bytes →
         text.now ≡ pairs_text bytes → option_map (λ v. v.items) r ≡ Some bytes) }
 {
-    let mut bytes = Vec::new(alloc);
+    let mut bytes = Vec::with_capacity(alloc, text.len() / 2)?;
     let mut rest = text.as_bytes();
     while let [high, low, more @ ..] = rest {
         let Some(byte) = byte_of(*high, *low) else {

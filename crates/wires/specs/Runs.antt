@@ -1,11 +1,12 @@
 -- A list of samples as runs of equal ones, each with the number of samples up to its end.
-use Rattle.std.specs.Prelude.{ℕ, ◌^◌, ◌-◌, ◌≢◌, ◌<◌, ◌≤◌, List, [], ◌∷◌, ◌++◌, length, map}
+use Rattle.std.specs.Prelude.{ℕ, ◌-◌, ◌≢◌, ◌<◌, ◌≤◌, List, [], ◌∷◌, ◌++◌, length, map}
 use Rattle.std.specs.Prelude.{replicate}
 use Rattle.wires.specs.declared.lines.Sample.{Sample}
+use Rattle.wires.specs.declared.runs.TheConstants.{MOST_SAMPLES}
 use Rattle.wires.specs.declared.runs.Run.{Run}
 
 abbrev pub most_samples : ℕ
-most_samples = 2 ^ 40
+most_samples = MOST_SAMPLES
 
 -- the samples of runs that follow so many samples
 abbrev pub samples_after : ℕ → List Run → List Sample

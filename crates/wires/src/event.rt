@@ -15,7 +15,8 @@ pub enum Event {
     Rise(bool),
 }
 
-pub(crate) fn event_between(before: Sample, after: Sample) -> Option<Event>
+/// What happens between a sample and the next, if anything.
+pub fn event_between(before: Sample, after: Sample) -> Option<Event>
     ensures { option_to_list result ≡ events_between before after }
 {
     match (before.scl, after.scl) {

@@ -10,8 +10,8 @@ mod runs;
 mod wave;
 
 pub use arbitration::arbitrate;
-pub use event::{Event, events};
+pub use event::{Event, event_between, events};
 pub use law::least_byte_wins;
 pub use lines::{Sample, wired};
-pub use runs::{Appending, Run, Runs, events_of};
+pub use runs::{Appending, MOST_SAMPLES, Run, Runs, events_of};
 pub use wave::Wave;

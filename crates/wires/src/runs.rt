@@ -13,6 +13,9 @@ pub use appending::Appending;
 use std::alloc::{AllocError, Global};
 use std::marker::Model;
 
+/// The most samples, one a tick: 2^40 ticks of 5 µs are 63 days.
+pub const MOST_SAMPLES: u64 = 1 << 40;
+
 /// Equal samples in a row.
 #[derive(Clone, Copy, Debug, PartialEq, Eq)]
 pub struct Run {
@@ -162,6 +165,7 @@ impl Runs {
     pub fn runs(&self) -> &[Run]
         ensures samples { samples_of result.now ≡ self.now }
         ensures runs { AreRuns result.now }
+        ensures events { events_of (levels_in result.now) ≡ events_of self.now }
     {
         &self.runs
     }

@@ -10,7 +10,7 @@ use Rattle.smbus.proofs.observing.OpenFrame.take_bytes.Goals as goal
 
 pub loop-rest-init : goal.loop-rest-init
 loop-rest-init c = record {
-  leads = λ frames. leads_none _ _;
+  leads = λ frames. rw c.in_ok-reserve.ensures.items (leads_none _ _);
   none = c.requires;
   fewer = omega arith;
 }
