@@ -5,6 +5,7 @@ use Rattle.std.specs.Prelude.{Ok, option_and_then, if◌then◌else◌}
 use Rattle.std.specs.List.{list_any, list_all}
 use Rattle.toml.specs.Data.{Items, no_items, item, Members, get_member, as_integer}
 use Rattle.texts.specs.Reading.{◌>>=◌, some_or, value_if}
+use Rattle.bit_bus.specs.declared.plan.TheConstants.{LONGEST_HOLD}
 use Rattle.pmbus_table.specs.Protect.{is_protection}
 use Rattle.board.specs.declared.fault.BoardFault.{BoardFault}
 use Rattle.board.specs.declared.fault.BoardFault.TheVariants.{SameName, BadAddress}
@@ -67,7 +68,7 @@ unfoldable pub numbers_of : Members → Result Numbers BoardFault
 numbers_of ms = do
   pages ← some_or TooMany (number_at 1 32 (codes "pages") ms)
   exponent ← some_or BadExponent (exponent_at ms)
-  stretch ← some_or BadStretch (number_at 0 6999 (codes "stretch") ms)
+  stretch ← some_or BadStretch (number_at 0 LONGEST_HOLD (codes "stretch") ms)
   Ok (record { pages = pages; exponent = exponent; stretch = stretch })
 
 -- the elements as bytes, after those that are done

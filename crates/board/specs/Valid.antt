@@ -3,6 +3,7 @@ use Rattle.std.specs.Prelude.{◌≡◌, ◌≢◌, ◌≤◌, ◌<◌, ◌≤�
 use Rattle.std.specs.Prelude.{true, false, ◌&&◌, ◌||◌, ◌==◌, not, nat_le, nat_lt, Some, IsTrue, All}
 use Rattle.std.specs.Prelude.{if◌then◌else◌}
 use Rattle.std.specs.List.{AllPairs, AllPass}
+use Rattle.bit_bus.specs.declared.plan.TheConstants.{LONGEST_HOLD}
 use Rattle.smbus.specs.declared.message.Form.{Form}
 use Rattle.smbus.specs.declared.message.Form.TheVariants as form
 use Rattle.smbus.specs.FormWords.{carries_code}
@@ -60,7 +61,7 @@ pub record IsTarget (t : Target) : Type 0 where
   pub few_pages : t.pages ≤ 32
   pub least_exponent : negsuc 15 ≤ℤ t.exponent
   pub most_exponent : t.exponent ≤ℤ pos 0
-  pub stretch : t.stretch ≤ 6999
+  pub stretch : t.stretch ≤ LONGEST_HOLD
   pub starts_paged : 0 < length t.start_pages
   pub start_pages : AllPass (is_page_value t.pages) t.start_pages
   pub starts_protected : 0 < length t.start_protects

@@ -21,6 +21,7 @@ use crate::keys::{Key, Kind, Sort, check_keys, value_at};
 use crate::named::Named;
 use crate::names::has_name;
 use crate::target::{Target, is_page_value};
+use bit_bus::LONGEST_HOLD;
 use indexmap::IndexSet;
 use pmbus_table::is_protection;
 use std::alloc::Global;
@@ -127,7 +128,7 @@ fn numbers_of(table: &Table) -> Result<Numbers, BoardFault>
 {
     let pages = byte_at(1, 32, "pages", table).ok_or(BoardFault::TooMany)?;
     let exponent = exponent_at(table).ok_or(BoardFault::BadExponent)?;
-    let stretch = word_at(0, 6999, "stretch", table).ok_or(BoardFault::BadStretch)?;
+    let stretch = word_at(0, LONGEST_HOLD, "stretch", table).ok_or(BoardFault::BadStretch)?;
     Ok(Numbers {
         pages,
         exponent,

@@ -6,12 +6,14 @@ use Rattle.std.specs.List.{list_all, slice_split, range_with_len}
 use Rattle.texts.specs.Decimal.{decimal_within}
 use Rattle.bundles.specs.Fields.{cut_at}
 use Rattle.texts.specs.Ascii as ascii
+use Rattle.bit_bus.specs.declared.plan.TheConstants.{LONGEST_HOLD}
 
 -- `SLOT:K`
 abbrev pub hold_of : List ℕ → Option (ℕ × ℕ)
 hold_of part =
     option_and_then (λ (sides : List ℕ × List ℕ). option_and_then (λ slot.
-    option_map (λ hold. (slot, hold)) (decimal_within 6999 sides.1)) (decimal_within 4095 sides.0))
+    option_map (λ hold. (slot, hold)) (decimal_within LONGEST_HOLD sides.1))
+    (decimal_within 4095 sides.0))
     (cut_at ascii.colon part)
 
 -- the slots and holds that some parts name, if each of them names one

@@ -4,6 +4,7 @@ ghost use Rattle.bundles.specs.AnswerLines.{took_of, without_dash, silence, answ
 ghost use Rattle.bundles.specs.AnswerLines.{answer_line_of};
 ghost use Rattle.bundles.specs.AnswerWords.{answer_of};
 ghost use Rattle.bundles.specs.Texts.{texts_of};
+ghost use Rattle.bit_bus.specs.declared.plan.TheConstants.{LONGEST_HOLD};
 
 use crate::answer_words::answer_of;
 use crate::fault::BundleFault;
@@ -40,7 +41,7 @@ fn answer_in(
     line: usize,
     words: &mut Fields<'_>,
 ) -> Result<Answer, ReadError<BundleFault>>
-    ensures held { IfOk result (λ answer. All (λ hold. hold ≤ 6999) answer.holds) }
+    ensures held { IfOk result (λ answer. All (λ hold. hold ≤ LONGEST_HOLD) answer.holds) }
     ensures value { Gives (λ a. a) result (answer_in line (texts_of words.old.words.now)) }
 {
     let fault = BundleFault::BadAnswer(line);
@@ -82,7 +83,7 @@ pub fn answer_line_of(
     number: usize,
     line: &str,
 ) -> Result<Answer, ReadError<BundleFault>>
-    ensures held { IfOk result (λ answer. All (λ hold. hold ≤ 6999) answer.holds) }
+    ensures held { IfOk result (λ answer. All (λ hold. hold ≤ LONGEST_HOLD) answer.holds) }
     ensures value { Gives (λ a. a) result (answer_line_of number line.now) }
 {
     // Most steps are answered so; the words needn't be looked at.

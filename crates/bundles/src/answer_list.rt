@@ -7,6 +7,7 @@ ghost use Rattle.bundles.specs.AnswerLines.{answer_line_of};
 ghost use Rattle.bundles.specs.Answers.{IsGoodAnswer, answer_said, answers_said, answer_lines_of};
 ghost use Rattle.bundles.specs.CountedLines.{counted_lines};
 ghost use Rattle.bundles.specs.Views.{section_view};
+ghost use Rattle.bit_bus.specs.declared.plan.TheConstants.{LONGEST_HOLD};
 
 use crate::answer_lines::answer_line_of;
 use crate::counted::first_counted;
@@ -42,7 +43,7 @@ impl<'a> Model for AnswerLines<'a> {
 fn check_line(alloc: Global, number: usize, line: &str) -> Result<(), ReadError<BundleFault>>
     ensures said { OnOk result (IsGoodAnswer (number, line.now)) }
     ensures held { OnOk result
-        (All (λ hold. hold ≤ 6999) (answer_said (number, line.now)).holds) }
+        (All (λ hold. hold ≤ LONGEST_HOLD) (answer_said (number, line.now)).holds) }
     ensures fault { IfErr result (λ e. Fails e (answer_line_of number line.now)) }
 {
     if line == "-" {
@@ -55,7 +56,7 @@ fn check_line(alloc: Global, number: usize, line: &str) -> Result<(), ReadError<
 /// Looks at each line that counts, up to the first that is no answer.
 fn check_lines(alloc: Global, section: &Section<'_>) -> Result<(), ReadError<BundleFault>>
     ensures all { OnOk result (All IsGoodAnswer (counted_lines (section_view section.now))) }
-    ensures held { OnOk result (All (λ answer. All (λ hold. hold ≤ 6999) answer.holds)
+    ensures held { OnOk result (All (λ answer. All (λ hold. hold ≤ LONGEST_HOLD) answer.holds)
         (answers_said (counted_lines (section_view section.now)))) }
     ensures value { Gives (λ _. answers_said (counted_lines (section_view section.now))) result
         (answer_lines_of (counted_lines (section_view section.now))) }
@@ -75,7 +76,7 @@ impl<'a> AnswerLines<'a> {
         section: &Section<'a>,
     ) -> Result<AnswerLines<'a>, ReadError<BundleFault>>
         ensures held { IfOk result
-            (λ answers. All (λ answer. All (λ hold. hold ≤ 6999) answer.holds) answers) }
+            (λ answers. All (λ answer. All (λ hold. hold ≤ LONGEST_HOLD) answer.holds) answers) }
         ensures value { Gives (λ a. a) result
             (answer_lines_of (counted_lines (section_view section.now))) }
     {
@@ -98,7 +99,7 @@ impl<'a> AnswerLines<'a> {
         ensures taken { IfOk result (λ next. MatchOption next ((self.old ≡ []) × (self.new ≡ []))
             (λ answer. self.old ≡ answer ∷ self.new)) }
         ensures held { IfOk result
-            (λ next. IfSome next (λ answer. All (λ hold. hold ≤ 6999) answer.holds)) }
+            (λ next. IfSome next (λ answer. All (λ hold. hold ≤ LONGEST_HOLD) answer.holds)) }
         ensures left { IfErr result (λ _. self.new ≡ self.old) }
     {
         let Some(first) = first_counted(&self.section) else {

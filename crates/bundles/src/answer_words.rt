@@ -2,6 +2,7 @@ ghost use Rattle.std.specs.Prelude.{◌≡◌, ◌≤◌, All, IfOk, OnOk};
 ghost use Rattle.texts.specs.Reading.{Gives};
 ghost use Rattle.bundles.specs.AnswerWords.{answer_of, past_bytes};
 ghost use Rattle.bundles.specs.Texts.{texts_of};
+ghost use Rattle.bit_bus.specs.declared.plan.TheConstants.{LONGEST_HOLD};
 
 use crate::fault::BundleFault;
 use crate::field::{Fields, bytes_of, holds_of, number_of, refuse_of};
@@ -16,7 +17,7 @@ pub fn answer_of(
     fault: BundleFault,
     words: &mut Fields<'_>,
 ) -> Result<Answer, ReadError<BundleFault>>
-    ensures held { IfOk result (λ answer. All (λ hold. hold ≤ 6999) answer.holds) }
+    ensures held { IfOk result (λ answer. All (λ hold. hold ≤ LONGEST_HOLD) answer.holds) }
     ensures value { Gives (λ a. a) result
         (answer_of fault (texts_of words.old.words.now)) }
     ensures rest { OnOk result

@@ -5,6 +5,7 @@ ghost use Rattle.texts.specs.Reading.{Gives};
 ghost use Rattle.bundles.specs.Answers.{bytes_in, listed_bytes, start_of, answers_of, answers_in};
 ghost use Rattle.bundles.specs.Texts.{texts_of};
 ghost use Rattle.bundles.specs.Views.{section_view};
+ghost use Rattle.bit_bus.specs.declared.plan.TheConstants.{LONGEST_HOLD};
 
 use crate::answer_list::AnswerLines;
 use crate::counted::first_counted;
@@ -98,7 +99,7 @@ pub fn answers_in<'a>(
     section: &Section<'a>,
 ) -> Result<Answers<'a>, ReadError<BundleFault>>
     ensures held { IfOk result
-        (λ a. All (λ answer. All (λ hold. hold ≤ 6999) answer.holds) a.answers) }
+        (λ a. All (λ answer. All (λ hold. hold ≤ LONGEST_HOLD) answer.holds) a.answers) }
     ensures value { Gives (λ a. a) result (answers_in (section_view section.now)) }
 {
     let Some(first) = first_counted(section) else {

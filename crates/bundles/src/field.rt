@@ -8,6 +8,7 @@ ghost use Rattle.bundles.specs.Fields.{bytes_of, cut_at};
 ghost use Rattle.bundles.specs.Holds.{hold_of, holds_of};
 ghost use Rattle.bundles.specs.HoldsRead.{with_hold, holds_from};
 
+use bit_bus::LONGEST_HOLD;
 use std::alloc::{AllocError, Global};
 use texts::{decimal_within, hex_number, pairs_of};
 
@@ -89,11 +90,11 @@ fn cut_at_colon(text: &str) -> Option<(&str, &str)>
 /// A slot and its hold.
 fn hold_of(part: &str) -> Option<(usize, u16)>
     ensures value { result ≡ hold_of part.now }
-    ensures held { IfSome result (λ hold. hold.1 ≤ 6999) }
+    ensures held { IfSome result (λ hold. hold.1 ≤ LONGEST_HOLD) }
 {
     let (slot, hold) = cut_at_colon(part)?;
     let slot = decimal_within(slot, 4095)?;
-    let hold = decimal_within(hold, 6999)?;
+    let hold = decimal_within(hold, u64::from(LONGEST_HOLD))?;
     Some((slot as usize, hold as u16))
 }
 

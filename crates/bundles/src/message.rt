@@ -8,6 +8,7 @@ ghost use Rattle.bundles.specs.AnswerWords.{answer_of};
 ghost use Rattle.bundles.specs.Texts.{texts_of};
 ghost use Rattle.bundles.specs.Views.{section_view};
 ghost use Rattle.bundles.specs.Fields.{value_of, rest_of, bytes_of};
+ghost use Rattle.bit_bus.specs.declared.plan.TheConstants.{LONGEST_HOLD};
 
 use crate::answer_words::answer_of;
 use crate::counted::first_counted;
@@ -131,7 +132,8 @@ fn asked_of(
 /// The message and the answer of a line.
 #[tactic(auto, unfolding(crate::specs::Messages::exchange_of))]
 fn exchange_of(alloc: Global, number: usize, line: &str) -> Result<Exchange, ReadError<BundleFault>>
-    ensures held { IfOk result (λ exchange. All (λ hold. hold ≤ 6999) exchange.answer.holds) }
+    ensures held { IfOk result
+        (λ exchange. All (λ hold. hold ≤ LONGEST_HOLD) exchange.answer.holds) }
     ensures value { Gives (λ e. e) result (exchange_of number line.now) }
 {
     let list = words_of(alloc, line)?;
@@ -150,7 +152,8 @@ fn exchange_of(alloc: Global, number: usize, line: &str) -> Result<Exchange, Rea
 /// refused.
 #[tactic(auto, unfolding(crate::specs::Messages::only_exchange))]
 pub fn exchange_in(alloc: Global, section: &Section<'_>) -> Result<Exchange, ReadError<BundleFault>>
-    ensures held { IfOk result (λ exchange. All (λ hold. hold ≤ 6999) exchange.answer.holds) }
+    ensures held { IfOk result
+        (λ exchange. All (λ hold. hold ≤ LONGEST_HOLD) exchange.answer.holds) }
     ensures value { Gives (λ e. e) result (exchange_in (section_view section.now)) }
 {
     let Some(first) = first_counted(section) else {

@@ -11,6 +11,7 @@ use Rattle.seq_program.specs.declared.pass.InstrsSoFar.{InstrsSoFar}
 use Rattle.seq_program.specs.Labels.{Label}
 use Rattle.seq_program.specs.Passes as specs
 use Rattle.seq_program.specs.Valid.{IsInstrOn, jump_in}
+use Rattle.seq_program.specs.declared.program.TheConstants.{MOST_PLACES}
 
 abbrev pub label_view : String Global × LabelAt → Label
 label_view e = record { name = string_bytes e.0; place = e.1.place; line = e.1.line }
@@ -37,6 +38,6 @@ Lands labels i = IfSome (jump_in i) (λ place. IsAmong labels place)
 -- their jumps land
 abbrev pub AreInstrsSoFar : ℕ → List Label → InstrsSoFar → Type 0
 AreInstrsSoFar targets labels pass =
-    (length pass.instrs.items ≤ 1024)
+    (length pass.instrs.items ≤ MOST_PLACES)
     × All (λ i. IsInstrOn targets i) pass.instrs.items
     × (pass.unknown ≡ None → All (λ i. Lands labels i) pass.instrs.items)

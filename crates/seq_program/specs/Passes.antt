@@ -9,6 +9,7 @@ use Rattle.seq_program.specs.declared.instr.Instr.{Instr}
 use Rattle.seq_program.specs.declared.line.LineInstr.{LineInstr}
 use Rattle.seq_program.specs.Labels.{Label, words_on, label_in, is_first}
 use Rattle.seq_program.specs.Lines.{instr_of}
+use Rattle.seq_program.specs.declared.program.TheConstants.{MOST_PLACES}
 
 -- the instructions so far, and the first line so far whose label stands nowhere
 pub record InstrsSoFar : Type 0 where
@@ -21,12 +22,12 @@ with_instr n pass found = record {
   unknown = if found.is_known then pass.unknown else Some (unwrap_or pass.unknown n);
 }
 
--- an instruction more, up to 1024
+-- an instruction more, up to the most that a program has
 unfoldable pub after_instr : Board → List Label → ℕ → InstrsSoFar → List ℕ → List (List ℕ)
     → Result InstrsSoFar ProgramFault
 after_instr board labels n pass word words = do
   found ← instr_of board labels n word words
-  few ← value_if (TooLong n) (nat_lt (length pass.instrs) 1024) found
+  few ← value_if (TooLong n) (nat_lt (length pass.instrs) MOST_PLACES) found
   Ok (with_instr n pass few)
 
 -- a label's line, which must be the first that has the label, or an instruction's

@@ -6,6 +6,7 @@ use Rattle.seq_program.specs.declared.instr.Instr.TheVariants as instr
 use Rattle.seq_program.specs.Operands.{counter_of}
 use Rattle.seq_program.specs.LineOperands.{register_in, number_in, word_in}
 use Rattle.seq_program.specs.MessageLines.{Parsed}
+use Rattle.seq_program.specs.declared.instr.TheConstants.{MOST_TURNS}
 
 -- `rN V`
 unfoldable pub set_of : ℕ → List (List ℕ) → Parsed
@@ -27,7 +28,7 @@ add_of n _ = Err (BadOperand n)
 unfoldable pub count_of : ℕ → List (List ℕ) → Parsed
 count_of n (c ∷ v ∷ []) = do
   counter ← some_or (BadOperand n) (counter_of c)
-  value ← number_in n 0 1000 v
+  value ← number_in n 0 MOST_TURNS v
   Ok (instr.Count counter value)
 count_of n _ = Err (BadOperand n)
 

@@ -11,6 +11,8 @@ use Rattle.seq_program.specs.declared.instr.Written.{Written}
 use Rattle.seq_program.specs.declared.instr.Written.TheVariants as written
 use Rattle.seq_program.specs.Programs.{is_end}
 use Rattle.seq_program.specs.Requests.{target_in, else_in, read_form}
+use Rattle.seq_program.specs.declared.program.TheConstants.{MOST_PLACES}
+use Rattle.seq_program.specs.declared.instr.TheConstants.{MOST_TURNS}
 
 -- where it may jump to
 abbrev pub jump_in : Instr → Option ℕ
@@ -60,7 +62,7 @@ IsInstr (instr.Set register value) = (register < 8) × (value ≤ 65535)
 IsInstr (instr.Add register value) = (register < 8) × (value ≤ 65535)
 IsInstr (instr.If register mask value jump) = (register < 8) × (mask ≤ 65535) × (value ≤ 65535)
 IsInstr (instr.Above register value jump) = (register < 8) × (value ≤ 65535)
-IsInstr (instr.Count counter value) = (counter < 4) × (value ≤ 1000)
+IsInstr (instr.Count counter value) = (counter < 4) × (value ≤ MOST_TURNS)
 IsInstr (instr.Again counter jump) = counter < 4
 IsInstr (instr.Wait ticks) = (1 ≤ ticks) × (ticks ≤ 10000000)
 IsInstr (instr.Goto jump) = Unit {0}
@@ -77,7 +79,7 @@ IsInstrOn targets i = IsInstr i × IsOnBoard targets i
 
 pub record IsProgram (instrs : List Instr) : Type 0 where
   pub some : 1 ≤ length instrs
-  pub few : length instrs ≤ 1024
+  pub few : length instrs ≤ MOST_PLACES
   pub each : All (λ i. IsInstr i) instrs
   -- every jump lands
   pub jumps : All (λ i. IfSome (jump_in i) (λ place. place < length instrs)) instrs

@@ -60,6 +60,9 @@ impl Counter {
     }
 }
 
+/// The greatest number that a counter is set to.
+pub const MOST_TURNS: u16 = 1000;
+
 /// The bytes of a block that is written, 1 to 255. Contracts see the list of them.
 #[derive(Drop)]
 pub struct Block {

@@ -9,12 +9,10 @@ use crate::fault::ProgramFault;
 use crate::instr::Instr;
 use crate::labels::{Labels, is_first, label_in, without_comment};
 use crate::line::instr_of;
+use crate::program::MOST_PLACES;
 use board::Board;
 use std::alloc::Global;
 use texts::words_of;
-
-/// How many instructions a program has, at most.
-const MOST_PLACES: usize = 1024;
 
 /// The instructions so far, and the first line so far whose label stands nowhere.
 #[derive(Drop)]

@@ -6,7 +6,7 @@ ghost use Rattle.seq_program.specs.Valid.{IsInstrOn, jump_in};
 ghost use Rattle.seq_program.specs.PlainLines.{set_of, add_of, count_of, wait_of, end_of, fail_of};
 
 use crate::fault::ProgramFault;
-use crate::instr::Instr;
+use crate::instr::{Instr, MOST_TURNS};
 use crate::line_operand::{number_in, register_in, word_between, word_in};
 use crate::message_line::Parsed;
 use crate::operand::counter_of;
@@ -52,7 +52,7 @@ pub(crate) fn count_of(line: usize, words: &[&str]) -> Parsed
         return Err(ProgramFault::BadOperand(line));
     };
     let counter = counter_of(counter).ok_or(ProgramFault::BadOperand(line))?;
-    let value = word_between(line, 0, 1000, value)?;
+    let value = word_between(line, 0, MOST_TURNS, value)?;
     Ok(Instr::Count { counter, value })
 }
 

@@ -18,6 +18,9 @@ use std::alloc::Global;
 use std::marker::Model;
 use texts::{first_by_feed, line_count};
 
+/// The most instructions of a program.
+pub const MOST_PLACES: usize = 1024;
+
 /// The instructions of a program, by their places: 1 to 1024, whose jumps land, and of which the
 /// last ends.
 #[derive(Drop)]

@@ -1,6 +1,7 @@
 -- The faults of runs: their numbers and names, and what each says.
 use Rattle.std.specs.Prelude.{◌≡◌, ◌≢◌, ◌<◌, ◌≤◌, ◌+◌, ℕ, List, slice_get, take, Option, Some, None}
-use Rattle.std.specs.Prelude.{codes, ◌^◌}
+use Rattle.std.specs.Prelude.{codes}
+use Rattle.wires.specs.declared.runs.TheConstants.{MOST_SAMPLES}
 use Rattle.smbus.specs.Answered.{Answered}
 use Rattle.board.specs.Boards.{Board}
 use Rattle.targets.specs.Fitting.{FitsStep}
@@ -33,7 +34,7 @@ index_of other = None
 
 -- the most ticks of a run, a sample each
 abbrev pub most_ticks : ℕ
-most_ticks = 2 ^ 40
+most_ticks = MOST_SAMPLES
 
 -- the targets can't answer so to the instruction at the machine's place
 pub record DoesNotFit (b : Board) (p : List Instr) (m : Machine) (a : Answered) : Type 0 where

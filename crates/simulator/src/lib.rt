@@ -20,6 +20,6 @@ pub use law::{
 pub use machine::{Ending, Entry, Machine};
 pub use running::{Trace, run};
 pub use starting::start;
-pub use stepping::{Stage, step};
+pub use stepping::{MOST_TICKS, Stage, step};
 pub use trace::{WriteFault, write_trace};
 pub use trace_text::{last_line, outcome_text, push_line};

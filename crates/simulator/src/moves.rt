@@ -3,6 +3,7 @@
 ghost use Rattle.std.specs.Prelude.{◌≡◌, ◌<◌, ◌+◌, if◌then◌else◌};
 ghost use Rattle.seq_program.specs.Requests.{other_result, result_in};
 ghost use Rattle.simulator.specs.Moves.{after_message, silently};
+ghost use Rattle.seq_program.specs.declared.program.TheConstants.{MOST_PLACES};
 
 use crate::machine::{Ending, Machine};
 use seq_program::{Instr, Register};
@@ -30,7 +31,7 @@ fn result_in(instr: &Instr) -> Option<Register>
 
 /// Moves a machine on behind a message that ended so.
 pub(crate) fn after_message(instr: &Instr, outcome: Outcome, machine: &mut Machine)
-    requires { machine.old.place < 1024 }
+    requires { machine.old.place < MOST_PLACES }
     ensures machine { machine.new ≡ after_message instr.now outcome machine.old }
     ensures bus { machine.new.bus ≡ machine.old.bus }
 {
@@ -49,7 +50,7 @@ pub(crate) fn after_message(instr: &Instr, outcome: Outcome, machine: &mut Machi
 
 /// The jump where it is taken, else the next place.
 fn jump_if(jumps: bool, jump: usize, place: usize) -> usize
-    requires { place < 1024 }
+    requires { place < MOST_PLACES }
     ensures { result ≡ (if jumps then jump else place + 1) }
 {
     if jumps { jump } else { place + 1 }
@@ -57,7 +58,7 @@ fn jump_if(jumps: bool, jump: usize, place: usize) -> usize
 
 /// Moves a machine on behind an instruction that sends nothing.
 pub(crate) fn silently(instr: &Instr, machine: &mut Machine)
-    requires { machine.old.place < 1024 }
+    requires { machine.old.place < MOST_PLACES }
     ensures machine { machine.new ≡ silently instr.now machine.old }
     ensures bus { machine.new.bus ≡ machine.old.bus }
 {

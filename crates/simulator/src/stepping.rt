@@ -12,6 +12,7 @@ ghost use Rattle.simulator.specs.Traces.{HasItsFrame};
 ghost use Rattle.simulator.specs.declared.fault.RunFault.{RunFault};
 ghost use Rattle.simulator.specs.declared.fault.RunFault.TheVariants.{Memory};
 ghost use Rattle.simulator.specs.declared.machine.Ending.TheVariants.{Running};
+ghost use Rattle.seq_program.specs.declared.program.TheConstants.{MOST_PLACES};
 
 use crate::fault::RunFault;
 use crate::lines::step_samples;
@@ -24,9 +25,10 @@ use smbus::{Answer, Message, slots_are_one_frame};
 use std::alloc::{AllocError, Global};
 use std::mem::swap;
 use targets::{Outcome, after_into, fits, ranges_are_of_forms, states_belong};
+use wires::MOST_SAMPLES;
 
-/// The most ticks of a run.
-pub(crate) const MOST_TICKS: u64 = 1 << 40;
+/// The most ticks of a run, a sample each.
+pub const MOST_TICKS: u64 = MOST_SAMPLES;
 
 fn is_running(machine: &Machine) -> bool
     ensures { IsTrue result ↔ (machine.now.ended ≡ Running) }
@@ -39,7 +41,7 @@ fn instr_of<'a>(program: &'a Program, machine: &Machine) -> &'a Instr
     requires { machine.now.place < length program.now }
     ensures at { slice_get program.now machine.now.place ≡ Some result.now }
     ensures instr { IsInstr result.now }
-    ensures few { machine.now.place < 1024 }
+    ensures few { machine.now.place < MOST_PLACES }
     ensures program { IsProgram program.now }
 {
     program_is_valid(program);
@@ -52,7 +54,7 @@ fn instr_of<'a>(program: &'a Program, machine: &Machine) -> &'a Instr
 /// Moves a machine on behind an instruction that sent this message, or none, and leaves the
 /// targets' state as it is.
 fn move_on(instr: &Instr, message: Option<&Message>, outcome: Outcome, machine: &mut Machine)
-    requires { machine.old.place < 1024 }
+    requires { machine.old.place < MOST_PLACES }
     ensures machine { (bus : AnyState) → record machine.new { bus = bus }
         ≡ moved instr.now (option_map (λ m. m.now) message.entry) outcome bus machine.old }
     ensures bus { machine.new.bus ≡ machine.old.bus }
@@ -86,7 +88,7 @@ fn step_by(
     requires instr { IsInstr instr.now }
     requires asked { option_map (λ m. m.now) message
         ≡ message_of board.now instr.now machine.old.regs }
-    requires few { machine.old.place < 1024 }
+    requires few { machine.old.place < MOST_PLACES }
     requires fits { FitsStep board.now machine.old.bus
         (option_map (λ m. m.now) message) answer.now }
     ensures step { OnOk result

@@ -5,11 +5,10 @@ ghost use Rattle.simulator.specs.Traces.{HasItsFrame};
 ghost use Rattle.simulator.specs.TraceTexts.{outcome_text, ending_text, last_line, IsLineMore};
 
 use crate::machine::{Ending, Entry};
-use smbus::{frame_text, only_frame};
+use smbus::{frame_text, only_frame_in};
 use std::alloc::{AllocError, Global};
 use targets::Outcome;
 use texts::push_word;
-use wires::events_of;
 
 /// How a message ended, as text: `done` with what it returned, `nak` or `timeout`. Fails only for
 /// want of memory.
@@ -39,8 +38,7 @@ pub fn push_line(alloc: Global, text: &mut String, entry: &Entry) -> Result<(), 
     let Some(outcome) = entry.outcome else {
         return write!(text, "{place} {ticks} - -\n");
     };
-    let events = events_of(alloc, &entry.samples)?;
-    let Some(frame) = only_frame(alloc, &events)? else {
+    let Some(frame) = only_frame_in(alloc, &entry.samples)? else {
         unreachable!()
     };
     let frame = frame_text(alloc, &frame)?;

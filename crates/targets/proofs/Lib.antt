@@ -4,6 +4,7 @@ pub mod Cuts
 pub mod Places
 pub mod SlotsOut
 pub mod ValueOut
+pub mod ValueBytes
 pub mod Addresses
 pub mod Written
 pub mod Winner

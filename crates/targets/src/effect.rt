@@ -1,7 +1,8 @@
 //! What a message does to PAGE and WRITE_PROTECT of the target that it goes to.
 
 ghost use Rattle.std.specs.Prelude.{◌≡◌, ◌↔◌, ◌&&◌, ℕ, Some, IfSome, IfNone, IsTrue};
-ghost use Rattle.std.specs.Prelude.{option_map};
+ghost use Rattle.std.specs.Prelude.{option_map, length, ◌≤◌};
+ghost use Rattle.smbus.specs.FirstSegment.{bytes_out};
 ghost use Rattle.board.specs.Boards.{Target};
 ghost use Rattle.board.specs.Valid.{IsBoard};
 ghost use Rattle.targets.specs.States.{IsTargetAt};
@@ -55,10 +56,13 @@ fn goes_past_value(message: &Message, answer: &Answer) -> bool
     reaches_value(answer.refuse) && cuts_after_value(cut_of(message, answer))
 }
 
-/// Whether all eight bits of a Write Byte's value go out.
-fn value_goes_out(message: &Message, answer: &Answer) -> bool
-    ensures { (address code value : ℕ) → IsByteWrite address code value message.now
+/// Whether all eight bits of a Write Byte's value go out, its third byte: neither the address nor
+/// the code is refused, and no slot before the value's acknowledge is cut (SMBus 3.2, 6.5.4).
+pub fn value_goes_out(message: &Message, answer: &Answer) -> bool
+    ensures marks { (address code value : ℕ) → IsByteWrite address code value message.now
         → IsTrue result ↔ ValueWentOut value message.now answer.now }
+    ensures bytes { (address code value : ℕ) → IsByteWrite address code value message.now
+        → IsTrue result ↔ (3 ≤ length (bytes_out message.now answer.now)) }
 {
     goes_past_value(message, answer)
 }

@@ -10,6 +10,7 @@ mod start;
 mod state;
 mod step;
 
+pub use effect::value_goes_out;
 pub use fitting::fits;
 pub use law::{
     answers_have_states, fitting_bytes_are_on_wire, lowest_address_wins, ranges_are_of_forms,

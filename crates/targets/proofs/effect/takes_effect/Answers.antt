@@ -4,7 +4,7 @@ use Rattle.targets.proofs.effect.takes_effect.Goals as goal
 
 pub returns-then-answer : goal.returns-then-answer
 returns-then-answer c address code value w =
-    let goes = c.value_goes_out.ensures address code value w in
+    let goes = c.value_goes_out.ensures.marks address code value w in
     let took : IsTrue c.args.answer.now.took =
     ap (λ (a : Answered). a.took) (sym c.answer.view_is) ∙ c.if-answer.true in (
       λ t. inr (goes.0 t, took),
