@@ -17,11 +17,11 @@ use Rattle.session.specs.declared.sequence.Sequence.{Sequence}
 use Rattle.session.specs.Scenarios.{IsRunOf, IsFaultOf}
 use Rattle.session.specs.Trials.{Trial}
 use Rattle.session.specs.SectionTexts.{section_text}
-use Rattle.table_check.specs.declared.verdict.Verdict.{Verdict}
-use Rattle.table_check.specs.declared.verdict.Verdict.TheVariants as verdicts
-use Rattle.table_check.specs.Obligations.{IsVerdict}
+use Rattle.table_check.specs.declared.checker.verdict.Verdict.{Verdict}
+use Rattle.table_check.specs.declared.checker.verdict.Verdict.TheVariants as verdicts
+use Rattle.table_check.specs.checker.Obligations.{IsVerdict}
 use Rattle.table_check.specs.Tables.{Table}
-use Rattle.table_check.specs.Texts.{IsFirstBadLine, IsTextOf}
+use Rattle.table_check.specs.text.Texts.{IsFirstBadLine, IsTextOf}
 use Rattle.diagnostics.specs.AnswerPlaces.{run_line}
 use Rattle.session.specs.Parts.{section_in}
 use Rattle.diagnostics.specs.BundlePlaces.{IsOnFault}

@@ -1,5 +1,6 @@
 //! The instructions of a program, and what stands behind their first words.
 
+use seq_program::MOST_TURNS;
 use smbus::Form;
 use std::alloc::{AllocError, Global};
 
@@ -32,6 +33,8 @@ use Operand::{Bytes, Counter, Direction, Else, Label, Mask, Number, Register, Ta
 type Instruction = (&'static str, &'static [Operand]);
 
 const WORD: Operand = Number(0, 65_535);
+
+const TURNS: Operand = Number(0, MOST_TURNS as u32);
 
 const INSTRUCTIONS: [Instruction; 21] = [
     ("quick", &[Target, Direction, Else, Label]),
@@ -108,7 +111,7 @@ const INSTRUCTIONS: [Instruction; 21] = [
     ("add", &[Register, WORD]),
     ("if", &[Register, Mask, WORD, Label]),
     ("above", &[Register, WORD, Label]),
-    ("count", &[Counter, Number(0, 1000)]),
+    ("count", &[Counter, TURNS]),
     ("again", &[Counter, Label]),
     ("wait", &[Number(1, 10_000_000)]),
     ("goto", &[Label]),

@@ -1,9 +1,9 @@
 //! Where a place leads.
 
 ghost use Rattle.std.specs.Prelude.{IsTrue};
-ghost use Rattle.facts.specs.Duties.{Meets};
-ghost use Rattle.facts.specs.Rows.{row_view};
-ghost use Rattle.facts.specs.declared.rule.Rule.TheVariants.{K1};
+ghost use Rattle.facts.specs.duties.Duties.{Meets};
+ghost use Rattle.facts.specs.domain.Rows.{row_view};
+ghost use Rattle.facts.specs.declared.duties.rule.Rule.TheVariants.{K1};
 
 use board::Board;
 use facts::{Row, Rule, duty, edges};

@@ -2,7 +2,7 @@
 
 use crate::roads::Edge;
 use board::{Board, Target};
-use facts::{ByteSet, GoodSet, PageSet, ProtectSet, Row, Source, Span};
+use facts::{GoodSet, PageSet, ProtectSet, Row, Source, Span};
 use std::alloc::{AllocError, Global};
 
 /// So many starts at most are told apart.

@@ -5,12 +5,9 @@ use crate::roads::Judged;
 use crate::sentence::{Sentence, Word, told};
 use board::{Board, Target};
 use facts::{Row, Source, Span};
+use seq_program::MOST_TURNS;
+use simulator::MOST_TICKS;
 use std::alloc::{AllocError, Global};
-
-/// The greatest counter, and the most ticks of a row.
-const MOST_TURNS: u16 = 1000;
-
-const MOST_TICKS: u64 = 1 << 40;
 
 /// The first span that has no numbers.
 fn empty_span(letter: &'static str, spans: &[Span]) -> Option<Sentence<'static>> {

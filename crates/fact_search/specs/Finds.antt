@@ -2,10 +2,10 @@
 use Rattle.std.specs.Prelude.{List}
 use Rattle.board.specs.Boards.{Board}
 use Rattle.seq_program.specs.declared.instr.Instr.{Instr}
-use Rattle.table_check.specs.ByPlace.{TellsDuty}
-use Rattle.table_check.specs.Obligations.{IsInductive, IsVerdict}
+use Rattle.table_check.specs.checker.ByPlace.{TellsDuty}
+use Rattle.table_check.specs.checker.Obligations.{IsInductive, IsVerdict}
 use Rattle.table_check.specs.Tables.{Table}
-use Rattle.table_check.specs.declared.verdict.Verdict.{Verdict}
+use Rattle.table_check.specs.declared.checker.verdict.Verdict.{Verdict}
 
 -- the table keeps the rule book if any table does
 abbrev pub IsFound : Board → List Instr → Table → Type 0

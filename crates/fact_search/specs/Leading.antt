@@ -3,7 +3,7 @@ use Rattle.std.specs.Prelude.{◌≡◌, ℕ, List, [], Bool, false, length, map
 use Rattle.std.specs.declared.alloc.Global.{Global}
 use Rattle.board.specs.Boards.{Board}
 use Rattle.seq_program.specs.declared.instr.Instr.{Instr}
-use Rattle.facts.specs.Edges.{Edge}
+use Rattle.facts.specs.transfer.Edges.{Edge}
 use Rattle.table_check.specs.Tables.{Table}
 use Rattle.fact_search.specs.Searching.{AreEdgesAt, is_changed}
 

@@ -6,15 +6,15 @@ use Rattle.board.specs.Boards.{Board}
 use Rattle.board.specs.Valid.{IsBoard}
 use Rattle.seq_program.specs.declared.instr.Instr.{Instr}
 use Rattle.seq_program.specs.Valid.{IsProgram, jump_in}
-use Rattle.facts.specs.Edges.{Edge, edges}
+use Rattle.facts.specs.transfer.Edges.{Edge, edges}
 use Rattle.facts.specs.FactLaws.{DutiesAreKept, EdgesFollow, EdgesStayShaped}
-use Rattle.facts.specs.Rows.{Row, IsRow, RowCovers}
+use Rattle.facts.specs.domain.Rows.{Row, IsRow, RowCovers}
 use Rattle.facts.specs.Steps.{HasEdge}
-use Rattle.facts.specs.TimedEdges.{timed_edges}
-use Rattle.table_check.specs.ByPlace.{FollowingTablesTellDuties, InductiveByPlace, MeetsAll}
-use Rattle.table_check.specs.Looking.{HasRowsOf}
-use Rattle.table_check.specs.Obligations.{IsInductive}
-use Rattle.table_check.specs.Rules.{IsCovered, Starts}
+use Rattle.facts.specs.transfer.TimedEdges.{timed_edges}
+use Rattle.table_check.specs.checker.ByPlace.{FollowingTablesTellDuties, InductiveByPlace, MeetsAll}
+use Rattle.table_check.specs.checker.Looking.{HasRowsOf}
+use Rattle.table_check.specs.checker.Obligations.{IsInductive}
+use Rattle.table_check.specs.checker.Rules.{IsCovered, Starts}
 use Rattle.table_check.specs.Tables.{Table, row_of}
 use Rattle.fact_search.specs.Forward.{IsForward}
 

@@ -1,9 +1,9 @@
 -- The code's words for the row of the start. No public contract cites this.
 use Rattle.std.specs.Prelude.{ℕ, List, [], ◌∷◌, IsTrue, All, Contains}
 use Rattle.board.specs.Boards.{Board, Target}
-use Rattle.facts.specs.Rows.{Row, IsRow, RowCovers}
-use Rattle.facts.specs.Sets.{Set}
-use Rattle.facts.specs.Starts.{HoldsStarts}
+use Rattle.facts.specs.domain.Rows.{Row, IsRow, RowCovers}
+use Rattle.facts.specs.domain.Sets.{Set}
+use Rattle.facts.specs.well_formed.Starts.{HoldsStarts}
 
 -- a set of these values and no others
 abbrev pub HoldsJust : Set → List ℕ → Type 0

@@ -4,11 +4,11 @@ use Rattle.std.specs.Prelude.{Option}
 use Rattle.std.specs.Prelude.{Some, None, All, replicate}
 use Rattle.board.specs.Boards.{Board}
 use Rattle.seq_program.specs.declared.instr.Instr.{Instr}
-use Rattle.facts.specs.Edges.{Edge, edges}
-use Rattle.facts.specs.Rows.{Row, most_ticks}
+use Rattle.facts.specs.transfer.Edges.{Edge, edges}
+use Rattle.facts.specs.domain.Rows.{Row, most_ticks}
 use Rattle.facts.specs.Steps.{HasEdge}
-use Rattle.facts.specs.Ticks.{worst_ticks}
-use Rattle.table_check.specs.ByPlace.{MeetsAll}
+use Rattle.facts.specs.transfer.Ticks.{worst_ticks}
+use Rattle.table_check.specs.checker.ByPlace.{MeetsAll}
 use Rattle.table_check.specs.Tables.{Table, row_of}
 use Rattle.fact_search.specs.declared.loops.Ticks.{Ticks}
 

@@ -5,7 +5,7 @@ ghost use Rattle.fact_search.specs.Finds.{IsFound, TellsCause};
 ghost use Rattle.fact_search.specs.Forward.{IsForward};
 ghost use Rattle.fact_search.specs.declared.fault.FindFault.TheVariants.{Memory};
 ghost use Rattle.table_check.specs.Tables.{table_view};
-ghost use Rattle.table_check.specs.Writable.{IsShaped};
+ghost use Rattle.table_check.specs.text.Writable.{IsShaped};
 
 use crate::fault::FindFault;
 use crate::forward::is_forward;

@@ -1,6 +1,6 @@
 //! Where a program leads, by what is known at its places.
 
-ghost use Rattle.table_check.specs.Looking.{HasRowsOf};
+ghost use Rattle.table_check.specs.checker.Looking.{HasRowsOf};
 ghost use Rattle.table_check.specs.Tables.{rows_view};
 
 use crate::leading::edges_at;

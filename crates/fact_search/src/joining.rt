@@ -2,12 +2,13 @@
 
 ghost use Rattle.std.specs.Prelude.{◌≡◌, ◌<◌, ◌≤◌, IfOk, All, length};
 ghost use Rattle.facts.specs.FactLaws.{IsShaped, without_ticks};
-ghost use Rattle.facts.specs.Rows.{IsRow, RowCovers, SpansCover, row_view};
+ghost use Rattle.facts.specs.domain.Rows.{IsRow, RowCovers, SpansCover, row_view};
 ghost use Rattle.fact_search.specs.Searching.{IsJoined};
 
 use crate::widening::Stops;
 use board::{Board, board_is_valid};
 use facts::{Part, Row, Span};
+use seq_program::MOST_TURNS;
 use std::alloc::{AllocError, Global};
 
 /// A row without ticks.
@@ -63,7 +64,7 @@ pub(crate) fn widened(board: &Board, stops: &Stops, old: &Row, mut row: Row) -> 
     let mut regs = row.regs;
     widen(stops, &old.regs, &mut regs, u16::MAX);
     let mut counters = row.counters;
-    widen(stops, &old.counters, &mut counters, 1000);
+    widen(stops, &old.counters, &mut counters, MOST_TURNS);
     row.regs = regs;
     row.counters = counters;
     row

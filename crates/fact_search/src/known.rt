@@ -2,11 +2,11 @@
 
 ghost use Rattle.std.specs.Prelude.{◌≡◌, ◌+◌, ◌<◌, ◌≤◌, ℕ, IfOk, MatchOption, false, length, Some};
 ghost use Rattle.std.specs.Prelude.{[], map, replicate};
-ghost use Rattle.facts.specs.Edges.{edge};
+ghost use Rattle.facts.specs.transfer.Edges.{edge};
 ghost use Rattle.facts.specs.FactLaws.{IsShaped};
-ghost use Rattle.facts.specs.Rows.{IsRow, row_view};
-ghost use Rattle.facts.specs.Ways.{timed_view};
-ghost use Rattle.table_check.specs.Looking.{HasRowsOf};
+ghost use Rattle.facts.specs.domain.Rows.{IsRow, row_view};
+ghost use Rattle.facts.specs.transfer.Ways.{timed_view};
+ghost use Rattle.table_check.specs.checker.Looking.{HasRowsOf};
 ghost use Rattle.table_check.specs.Tables.{rows_view};
 ghost use Rattle.fact_search.specs.Forward.{IsForward};
 ghost use Rattle.fact_search.specs.Leading.{IsLed, leads_of, leads_view};

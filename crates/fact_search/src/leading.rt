@@ -1,8 +1,8 @@
 //! Where a place leads.
 
 ghost use Rattle.std.specs.Prelude.{IfOk, map};
-ghost use Rattle.facts.specs.Ways.{timed_view};
-ghost use Rattle.table_check.specs.Looking.{HasRowsOf};
+ghost use Rattle.facts.specs.transfer.Ways.{timed_view};
+ghost use Rattle.table_check.specs.checker.Looking.{HasRowsOf};
 ghost use Rattle.table_check.specs.Tables.{rows_view};
 ghost use Rattle.fact_search.specs.Searching.{AreEdgesAt};
 

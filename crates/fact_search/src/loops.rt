@@ -1,6 +1,6 @@
 //! The ticks that are left at the places of a program with loops.
 
-ghost use Rattle.table_check.specs.Looking.{HasRowsOf};
+ghost use Rattle.table_check.specs.checker.Looking.{HasRowsOf};
 ghost use Rattle.table_check.specs.Tables.{rows_view};
 
 use crate::carrying::carry;
@@ -11,10 +11,8 @@ use crate::turning::{Aim, Measure, TURN, value_at};
 use board::Board;
 use facts::Row;
 use seq_program::Program;
+use simulator::MOST_TICKS;
 use std::alloc::{AllocError, Global};
-
-/// No base and no coefficient of a row is greater.
-const MOST_TICKS: u64 = 1 << 40;
 
 /// The ticks that are left at a place, at most: a base, and a coefficient for each counter.
 #[derive(Clone, Copy)]

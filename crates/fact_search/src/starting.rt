@@ -3,8 +3,8 @@
 ghost use Rattle.std.specs.Prelude.{◌<◌, ℕ, IfOk, IsTrue, All};
 ghost use Rattle.board.specs.Boards.{Target};
 ghost use Rattle.board.specs.Valid.{IsTarget};
-ghost use Rattle.facts.specs.Rows.{row_view};
-ghost use Rattle.facts.specs.Sets.{is_page, is_protect, pages_in, protects_in, rails_in};
+ghost use Rattle.facts.specs.domain.Rows.{row_view};
+ghost use Rattle.facts.specs.domain.Sets.{is_page, is_protect, pages_in, protects_in, rails_in};
 ghost use Rattle.fact_search.specs.Starting.{HoldsJust, HoldEachStart, IsStartRow};
 
 use board::{Board, Target};

@@ -1,9 +1,9 @@
 //! Ticks for programs that only lead on, and rows with ticks.
 
-ghost use Rattle.std.specs.Prelude.{◌≡◌, ◌≤◌, ◌<◌, ◌+◌, ◌^◌, ℕ, All, IfOk, IfSome, length, map};
+ghost use Rattle.std.specs.Prelude.{◌≡◌, ◌≤◌, ◌<◌, ◌+◌, ℕ, All, IfOk, IfSome, length, map};
 ghost use Rattle.std.specs.Prelude.{option_map};
 ghost use Rattle.std.specs.Prelude.{slice_get, slice_index};
-ghost use Rattle.facts.specs.Rows.{row_view};
+ghost use Rattle.facts.specs.domain.Rows.{most_ticks, row_view};
 ghost use Rattle.table_check.specs.Tables.{rows_view};
 ghost use Rattle.fact_search.specs.Forward.{IsForward};
 ghost use Rattle.fact_search.specs.Leading.{IsLedTable, leads_view};
@@ -22,7 +22,7 @@ use std::alloc::{AllocError, Global};
 fn longest(leads: &[(usize, u64)], ticks: &[u64]) -> u64
     requires inside { All (λ l. l.0 < length ticks.now) leads.now }
     requires worst { All (λ l. l.1 ≤ most_worst) leads.now }
-    requires most { All (λ n. n ≤ 2 ^ 40) ticks.now }
+    requires most { All (λ n. n ≤ most_ticks) ticks.now }
     ensures some { 1 ≤ result }
     ensures pays { All (λ l. l.1 + slice_index ticks.now l.0 ≤ result) leads.now }
     ensures most { (bound : ℕ) → 1 ≤ bound → All (λ n. n ≤ bound) ticks.now

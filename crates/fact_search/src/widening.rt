@@ -1,7 +1,7 @@
 //! How far a span goes that grows along a jump back.
 
 ghost use Rattle.std.specs.Prelude.{◌≤◌};
-ghost use Rattle.facts.specs.Rows.{SpanCovers};
+ghost use Rattle.facts.specs.domain.Rows.{SpanCovers};
 
 use crate::forward::is_forward;
 use facts::Span;

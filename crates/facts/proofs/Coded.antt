@@ -1,6 +1,7 @@
 -- Lemmas of the code: bits of masks, headings of requests, rails, rows and edges.
 pub mod Words
 pub mod Placed
+pub mod Passing
 pub mod Ends
 pub mod Covering
 pub mod Joining

@@ -4,12 +4,12 @@ use Rattle.board.specs.Boards.{Board}
 use Rattle.board.specs.Valid.{IsBoard}
 use Rattle.seq_program.specs.declared.instr.Instr.{Instr}
 use Rattle.seq_program.specs.Valid.{IsInstr, IsInstrOn}
-use Rattle.facts.specs.declared.rule.Rule.{Rule}
-use Rattle.facts.specs.declared.rule.Rule.TheVariants.{K1}
+use Rattle.facts.specs.declared.duties.rule.Rule.{Rule}
+use Rattle.facts.specs.declared.duties.rule.Rule.TheVariants.{K1}
 use Rattle.simulator.specs.Machines.{Machine, Entry}
-use Rattle.facts.specs.Rows.{Row, RowCovers, IsRow, Admits}
-use Rattle.facts.specs.Duties.{Meets}
-use Rattle.facts.specs.Edges.{Edge, edges}
+use Rattle.facts.specs.domain.Rows.{Row, RowCovers, IsRow, Admits}
+use Rattle.facts.specs.duties.Duties.{Meets}
+use Rattle.facts.specs.transfer.Edges.{Edge, edges}
 use Rattle.facts.specs.Steps.{HasEdge}
 
 -- a row but for its ticks

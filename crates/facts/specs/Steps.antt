@@ -13,11 +13,11 @@ use Rattle.simulator.specs.Machines.{Machine, Entry}
 use Rattle.simulator.specs.Safe.{IsSafe}
 use Rattle.simulator.specs.StepLaws.{IsReady}
 use Rattle.simulator.specs.Steps.{IsStepOf}
-use Rattle.facts.specs.declared.rule.Rule.{Rule}
-use Rattle.facts.specs.Rows.{Row, Admits, IsRow, rank}
-use Rattle.facts.specs.Duties.{Meets}
-use Rattle.facts.specs.Edges.{Edge, edges}
-use Rattle.facts.specs.Ticks.{worst_ticks}
+use Rattle.facts.specs.declared.duties.rule.Rule.{Rule}
+use Rattle.facts.specs.domain.Rows.{Row, Admits, IsRow, rank}
+use Rattle.facts.specs.duties.Duties.{Meets}
+use Rattle.facts.specs.transfer.Edges.{Edge, edges}
+use Rattle.facts.specs.transfer.Ticks.{worst_ticks}
 
 -- the edge is among them
 abbrev pub HasEdge : List Edge → Edge → Type 0

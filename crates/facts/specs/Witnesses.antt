@@ -6,12 +6,12 @@ use Rattle.board.specs.Valid.{IsBoard, is_page_value}
 use Rattle.seq_program.specs.declared.instr.Instr.{Instr}
 use Rattle.seq_program.specs.Valid.{IsInstrOn}
 use Rattle.simulator.specs.Machines.{Machine, Entry}
-use Rattle.facts.specs.declared.rule.Rule.{Rule}
-use Rattle.facts.specs.declared.source.Source.TheVariants as source
-use Rattle.facts.specs.Sets.{empty}
-use Rattle.facts.specs.Rows.{Row, RowCovers}
+use Rattle.facts.specs.declared.duties.rule.Rule.{Rule}
+use Rattle.facts.specs.declared.domain.source.Source.TheVariants as source
+use Rattle.facts.specs.domain.Sets.{empty}
+use Rattle.facts.specs.domain.Rows.{Row, RowCovers}
 use Rattle.seq_program.specs.Requests.{request_in}
-use Rattle.facts.specs.Duties.{one, Meets}
+use Rattle.facts.specs.duties.Duties.{one, Meets}
 use Rattle.facts.specs.Steps.{Stands}
 use Rattle.facts.specs.FactLaws.{Wider}
 

@@ -18,13 +18,13 @@ use Rattle.simulator.specs.Faults.{most_ticks, IsStepFault}
 use Rattle.simulator.specs.Machines.{Machine, Entry, start_at}
 use Rattle.simulator.specs.RunLaws.{RunsAreOne, StepsAreOne}
 use Rattle.simulator.specs.Steps.{IsStep, IsRun, total_ticks}
-use Rattle.facts.specs.declared.rule.Rule.{Rule}
-use Rattle.facts.specs.Duties.{Meets, IsFirstFailing, duties}
-use Rattle.facts.specs.Rows.{Row}
-use Rattle.facts.specs.Sets.{Set}
+use Rattle.facts.specs.declared.duties.rule.Rule.{Rule}
+use Rattle.facts.specs.duties.Duties.{Meets, IsFirstFailing, duties}
+use Rattle.facts.specs.domain.Rows.{Row}
+use Rattle.facts.specs.domain.Sets.{Set}
 use Rattle.session.specs.declared.scenario.Scenario.{Scenario}
 use Rattle.session.specs.Scenarios.{start_of}
-use Rattle.table_check.specs.Obligations.{IsInductive}
+use Rattle.table_check.specs.checker.Obligations.{IsInductive}
 use Rattle.table_check.specs.Tables.{Table}
 use Rattle.session.specs.Accepted.{AdmittedKeepRules}
 use Rattle.session.specs.Breaches.{ComesTo, KeepsRulesAt, IsKnownAt, IsFirstBreach}

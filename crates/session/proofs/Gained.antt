@@ -5,7 +5,7 @@ use Rattle.std.proofs.Common.{inl, inr, sym, subst, arith}
 use Rattle.std.specs.Prelude.{IsTrue, ◌==◌}
 use Rattle.std.proofs.lemmas.Bool.{cases_eq}
 use Rattle.std.proofs.lemmas.Bool.Decides.{nat_tests}
-use Rattle.facts.specs.Sets.{Set}
+use Rattle.facts.specs.domain.Sets.{Set}
 
 -- the old set, and the place where that is good
 abbrev pub Gains : Set → Set → ℕ → Bool → Type 0

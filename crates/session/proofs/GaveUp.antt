@@ -4,10 +4,10 @@ use Rattle.std.proofs.Common.{inl, inr, slice_index, arith}
 use Rattle.std.specs.Prelude.{Option, Result, IfSome}
 use Rattle.std.specs.Io.KnownBytes.{Appends}
 use Rattle.board.specs.Boards.{Board}
-use Rattle.table_check.specs.Lines.{table_text}
+use Rattle.table_check.specs.text.Lines.{table_text}
 use Rattle.table_check.specs.Tables.{Table}
-use Rattle.table_check.specs.declared.verdict.Verdict.{Verdict}
-use Rattle.table_check.specs.declared.verdict.Verdict.TheVariants as verdicts
+use Rattle.table_check.specs.declared.checker.verdict.Verdict.{Verdict}
+use Rattle.table_check.specs.declared.checker.verdict.Verdict.TheVariants as verdicts
 use Rattle.fact_search.specs.Forward.{IsForward}
 use Rattle.session.specs.declared.fault.InputFault.{InputFault}
 use Rattle.session.specs.declared.sequence.Sequence.{Sequence}

@@ -11,12 +11,12 @@ use Rattle.simulator.specs.Machines.{Machine, Entry}
 use Rattle.simulator.specs.Reports.{LastReport, IsReportedGood}
 use Rattle.simulator.specs.StepDoes.{StepDoes}
 use Rattle.simulator.specs.StepLaws.{StepIsSeen}
-use Rattle.facts.specs.declared.rule.Rule.{Rule}
-use Rattle.facts.specs.declared.rule.Rule.TheVariants.{K1, K2, K3, K4, K5}
-use Rattle.facts.specs.Duties.{IsFirstFailing, Meets, MeetsSent, duties}
+use Rattle.facts.specs.declared.duties.rule.Rule.{Rule}
+use Rattle.facts.specs.declared.duties.rule.Rule.TheVariants.{K1, K2, K3, K4, K5}
+use Rattle.facts.specs.duties.Duties.{IsFirstFailing, Meets, MeetsSent, duties}
 use Rattle.seq_program.specs.Requests.{Request, request_in}
-use Rattle.facts.specs.Rows.{Row}
-use Rattle.facts.specs.Sets.{Set, empty}
+use Rattle.facts.specs.domain.Rows.{Row}
+use Rattle.facts.specs.domain.Sets.{Set, empty}
 use Rattle.session.specs.Known.{Knows}
 use Rattle.session.specs.Telling.{TellsAfter}
 

@@ -17,16 +17,16 @@ use Rattle.simulator.specs.Machines.{Machine, Entry, start_at}
 use Rattle.simulator.specs.RunLaws.{RunsAreOne, RunsGoOn, TicksAddUp}
 use Rattle.simulator.specs.StepLaws.{IsReady, StartsAreReady, StepsAreSeen}
 use Rattle.simulator.specs.Steps.{IsStep}
-use Rattle.facts.specs.declared.rule.Rule.{Rule}
-use Rattle.facts.specs.declared.rule.Rule.TheVariants.{K1, K2, K3, K4, K5, K6, K7, K8, K9}
-use Rattle.facts.specs.Duties.{Meets, MeetsSent, IsFirstFailing, duties}
+use Rattle.facts.specs.declared.duties.rule.Rule.{Rule}
+use Rattle.facts.specs.declared.duties.rule.Rule.TheVariants.{K1, K2, K3, K4, K5, K6, K7, K8, K9}
+use Rattle.facts.specs.duties.Duties.{Meets, MeetsSent, IsFirstFailing, duties}
 use Rattle.seq_program.specs.Requests.{Request, request_in}
-use Rattle.facts.specs.Rows.{Row}
-use Rattle.facts.specs.Sets.{Set}
+use Rattle.facts.specs.domain.Rows.{Row}
+use Rattle.facts.specs.domain.Sets.{Set}
 use Rattle.session.specs.declared.scenario.Scenario.{Scenario}
 use Rattle.session.specs.Scenarios.{start_of}
-use Rattle.table_check.specs.Admitted.{IsAdmitted, StartsAreAdmitted, StepsStayAdmitted}
-use Rattle.table_check.specs.Obligations.{IsInductive}
+use Rattle.table_check.specs.checker.Admitted.{IsAdmitted, StartsAreAdmitted, StepsStayAdmitted}
+use Rattle.table_check.specs.checker.Obligations.{IsInductive}
 use Rattle.table_check.specs.Tables.{Table}
 use Rattle.session.specs.Breaches.{ComesTo, KeepsRulesAt}
 use Rattle.session.specs.Known.{Knows, KeepsRules, IsBreach, known_row}

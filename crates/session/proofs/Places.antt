@@ -3,10 +3,10 @@ use Rattle.std.proofs.Common.{◌≡◌, ◌<◌, ℕ, zero, suc, List, [], ◌�
 use Rattle.std.proofs.Common.{slice_index, slice_index_or, Some, All, refl, ap, subst, arith}
 use Rattle.std.specs.Prelude.{IsTrue}
 use Rattle.std.proofs.lemmas.Bool.Decides.{nat_tests}
-use Rattle.facts.specs.declared.span.Span.{Span}
-use Rattle.facts.specs.Duties.{one}
-use Rattle.facts.specs.Rows.{set_at, span_at, InSpan, InSpans, SpansCover}
-use Rattle.facts.specs.Sets.{only}
+use Rattle.facts.specs.declared.domain.span.Span.{Span}
+use Rattle.facts.specs.duties.Duties.{one}
+use Rattle.facts.specs.domain.Rows.{set_at, span_at, InSpan, InSpans, SpansCover}
+use Rattle.facts.specs.domain.Sets.{only}
 
 -- what stands at a place before the end
 pub found : {A : Type 0} → (xs : List A) (i : ℕ) → i < length xs

@@ -2,9 +2,9 @@
 use Rattle.std.proofs.Common.{◌≡◌, ℕ, List, sym, ap, subst, ◌∙◌, inl, inr}
 use Rattle.std.specs.Prelude.{Option, Result, IfSome}
 use Rattle.std.specs.Io.KnownBytes.{Appends}
-use Rattle.table_check.specs.declared.verdict.Verdict.{Verdict}
-use Rattle.table_check.specs.declared.verdict.Verdict.TheVariants as verdicts
-use Rattle.table_check.specs.SafeTables.{IsSafeVerdict}
+use Rattle.table_check.specs.declared.checker.verdict.Verdict.{Verdict}
+use Rattle.table_check.specs.declared.checker.verdict.Verdict.TheVariants as verdicts
+use Rattle.table_check.specs.checker.SafeTables.{IsSafeVerdict}
 use Rattle.session.specs.declared.fault.InputFault.{InputFault}
 use Rattle.session.specs.declared.reply.Status.{Status}
 use Rattle.session.specs.declared.reply.Status.TheVariants as statuses

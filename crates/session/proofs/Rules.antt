@@ -13,14 +13,15 @@ use Rattle.seq_program.specs.Valid.{IsInstr, IsOnBoard, IsInstrOn}
 use Rattle.simulator.specs.declared.machine.Ending.TheVariants.{Running}
 use Rattle.simulator.specs.Machines.{Machine, Entry}
 use Rattle.simulator.specs.StepLaws.{IsReady}
-use Rattle.facts.specs.declared.span.Span.{Span}
-use Rattle.facts.specs.Duties.{one, Meets}
+use Rattle.facts.specs.declared.domain.span.Span.{Span}
+use Rattle.facts.specs.duties.Duties.{one, Meets}
 use Rattle.facts.specs.FactLaws.{IsShaped, DutiesAreKept}
-use Rattle.facts.specs.Rows.{Row, Admits, IsRow, IsSetOf, IsSource, IsSpan, RowCovers, SetCovers}
-use Rattle.facts.specs.Rows.{set_at, most_ticks}
-use Rattle.facts.specs.Sets.{Set, only}
-use Rattle.table_check.specs.Admitted.{HasRow}
-use Rattle.table_check.specs.ByPlace.{InductiveByPlace}
+use Rattle.facts.specs.domain.Rows.{Row, Admits, IsRow, IsSetOf, IsSource, IsSpan, RowCovers}
+use Rattle.facts.specs.domain.Rows.{SetCovers}
+use Rattle.facts.specs.domain.Rows.{set_at, most_ticks}
+use Rattle.facts.specs.domain.Sets.{Set, only}
+use Rattle.table_check.specs.checker.Admitted.{HasRow}
+use Rattle.table_check.specs.checker.ByPlace.{InductiveByPlace}
 use Rattle.session.specs.Accepted.{AdmittedKeepRules}
 use Rattle.session.specs.Known.{known_row, Knows}
 use Rattle.session.proofs.Places.{found, within, each_at, all_index, only_at, one_at, is_only}

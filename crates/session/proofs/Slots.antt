@@ -1,4 +1,4 @@
--- The slots of a Read Word and of a Write Byte.
+-- The slots of a Read Word.
 use Rattle.std.proofs.Common.{◌≡◌, ◌≤◌, ◌+◌, inl, inr, ◌/◌, ◌∙◌, ℕ, Option, Some, None}
 use Rattle.std.proofs.Common.{List}
 use Rattle.std.proofs.Common.{length, take, min, refl, ap, sym, arith}
@@ -27,77 +27,6 @@ pub marks_before_stop : (m : Asked) (value : ℕ) (block : List ℕ) → m.form 
 marks_before_stop m value block form =
     ap (λ (x : Form). length (marks_of (whole_of x m.address m.code m.out value block))) form
     ∙ word_marks m.address m.code value m.out block
-
--- of three bytes the last goes out
-reaches : (refuse : Option ℕ) (bytes : List ℕ) → length bytes ≡ 3
-    → IfSome refuse (λ n. 2 ≤ n) → length (bytes_to refuse bytes) ≡ 3
-reaches None bytes three k = three
-reaches (Some n) bytes three k =
-    let l : length (take (n + 1) bytes) ≡ min (n + 1) (length bytes) = length-take (n + 1) bytes in
-    omega (arith, l, three, k)
-
-reached : (refuse : Option ℕ) (bytes : List ℕ) → length bytes ≡ 3
-    → 3 ≤ length (bytes_to refuse bytes) → IfSome refuse (λ n. 2 ≤ n)
-reached None bytes three k = tt
-reached (Some n) bytes three k =
-    let l : length (take (n + 1) bytes) ≡ min (n + 1) (length bytes) = length-take (n + 1) bytes in
-    omega (arith, l, three, k)
-
-before : (cut : Option ℕ) (bytes : List ℕ) → length bytes ≡ 3
-    → IfSome cut (λ slot. 26 ≤ slot) → 3 ≤ length (bytes_before cut bytes)
-before None bytes three k = omega (arith, three)
-before (Some slot) bytes three k =
-    let l : length (take ((slot + 1) / 9) bytes) ≡ min ((slot + 1) / 9) (length bytes) =
-    length-take ((slot + 1) / 9) bytes in
-    omega (arith, l, three, k)
-
-cut_behind : (cut : Option ℕ) (bytes : List ℕ) → length bytes ≤ 3
-    → 3 ≤ length (bytes_before cut bytes) → IfSome cut (λ slot. 26 ≤ slot)
-cut_behind None bytes few k = tt
-cut_behind (Some slot) bytes few k =
-    let l : length (take ((slot + 1) / 9) bytes) ≡ min ((slot + 1) / 9) (length bytes) =
-    length-take ((slot + 1) / 9) bytes in
-    omega (arith, l, few, k)
-
-fewer : (cut : Option ℕ) (bytes : List ℕ) → length (bytes_before cut bytes) ≤ length bytes
-fewer None bytes = omega arith
-fewer (Some slot) bytes =
-    let l : length (take ((slot + 1) / 9) bytes) ≡ min ((slot + 1) / 9) (length bytes) =
-    length-take ((slot + 1) / 9) bytes in
-    omega (arith, l)
-
-at_most : (refuse : Option ℕ) (bytes : List ℕ) → length (bytes_to refuse bytes) ≤ length bytes
-at_most None bytes = omega arith
-at_most (Some n) bytes =
-    let l : length (take (n + 1) bytes) ≡ min (n + 1) (length bytes) = length-take (n + 1) bytes in
-    omega (arith, l)
-
-three_bytes : (address code value : ℕ) (m : Asked) (a : Answered) → IsByteWrite address code value m
-    → length (message_bytes m a) ≡ 3
-three_bytes address code value m a k =
-    ap (λ (x : Form). length (bytes_in (whole_of x m.address m.code m.out a.value a.bytes))) k.form
-    ∙ ap (λ (out : List ℕ). length (bytes_in (whole_of WriteByte m.address m.code out a.value
-    a.bytes))) k.content
-
-pub goes_out : (address code value : ℕ) (m : Asked) (a : Answered)
-    → IsByteWrite address code value m
-    → IfSome a.refuse (λ n. 2 ≤ n) → IfSome (first_cut (plan_of m a)) (λ slot. 26 ≤ slot)
-    → 3 ≤ length (bytes_out m a)
-goes_out address code value m a k reach cut =
-    before (first_cut (plan_of m a)) (bytes_to a.refuse (message_bytes m a))
-    (reaches a.refuse (message_bytes m a) (three_bytes address code value m a k) reach) cut
-
-pub went_out : (address code value : ℕ) (m : Asked) (a : Answered)
-    → IsByteWrite address code value m → 3 ≤ length (bytes_out m a)
-    → IfSome a.refuse (λ n. 2 ≤ n) × IfSome (first_cut (plan_of m a)) (λ slot. 26 ≤ slot)
-went_out address code value m a k out =
-    let three = three_bytes address code value m a k in
-    let most = at_most a.refuse (message_bytes m a) in
-    let few = fewer (first_cut (plan_of m a)) (bytes_to a.refuse (message_bytes m a)) in (
-      reached a.refuse (message_bytes m a) three (omega (arith, out, few)),
-      cut_behind (first_cut (plan_of m a)) (bytes_to a.refuse (message_bytes m a))
-          (omega (arith, most, three)) out,
-    )
 
 is_at : (slot n : ℕ) → IsTrue (slot == n) → slot ≡ n
 is_at slot n t = Prim.grind (arith, nat_tests)

@@ -4,14 +4,14 @@ use Rattle.std.specs.Prelude.{slice_index_or}
 use Rattle.board.specs.Boards.{Allow, Board}
 use Rattle.seq_program.specs.declared.instr.Instr.{Instr}
 use Rattle.seq_program.specs.declared.instr.Written.TheVariants as written
-use Rattle.facts.specs.declared.rule.Rule.{Rule}
-use Rattle.facts.specs.declared.rule.Rule.TheVariants.{K1, K2, K3, K4, K5, K6, K7, K8, K9}
-use Rattle.facts.specs.declared.source.Source.TheVariants as source
-use Rattle.facts.specs.Duties.{Meets, MeetsSent, MeetsAt, MayBeSent, IsTaken, LimitsOf}
-use Rattle.facts.specs.Duties.{EnablesInOrder}
+use Rattle.facts.specs.declared.duties.rule.Rule.{Rule}
+use Rattle.facts.specs.declared.duties.rule.Rule.TheVariants.{K1, K2, K3, K4, K5, K6, K7, K8, K9}
+use Rattle.facts.specs.declared.domain.source.Source.TheVariants as source
+use Rattle.facts.specs.duties.Duties.{Meets, MeetsSent, MeetsAt, MayBeSent, IsTaken, LimitsOf}
+use Rattle.facts.specs.duties.Duties.{EnablesInOrder}
 use Rattle.seq_program.specs.Requests.{Content, Nothing, Value, Block, Transaction, Request}
 use Rattle.seq_program.specs.Requests.{request_in, code_in}
-use Rattle.facts.specs.Rows.{Row}
+use Rattle.facts.specs.domain.Rows.{Row}
 
 abbrev pub from_nowhere : Row → Row
 from_nowhere row = record row { sources = replicate 8 source.None }

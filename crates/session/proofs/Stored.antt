@@ -8,8 +8,8 @@ use Rattle.std.proofs.Math.Seq.{drop-cons}
 use Rattle.pmbus_table.specs.Protect.{is_protection}
 use Rattle.board.specs.Boards.{Target, Board}
 use Rattle.board.specs.Valid.{IsBoard, IsTarget, is_page_value}
-use Rattle.facts.specs.Duties.{one}
-use Rattle.facts.specs.Sets.{Set, only, is_page, is_protect}
+use Rattle.facts.specs.duties.Duties.{one}
+use Rattle.facts.specs.domain.Sets.{Set, only, is_page, is_protect}
 use Rattle.targets.specs.States.{BusState, Belongs}
 use Rattle.session.proofs.Places.{found, each_at}
 

@@ -14,9 +14,9 @@ use Rattle.simulator.specs.Faults.{IsStepFault}
 use Rattle.simulator.specs.Machines.{Machine, Entry, start_at}
 use Rattle.simulator.specs.RunLaws.{RunsAreOne, StepsAreOne, RunsGoOn, TicksAddUp}
 use Rattle.simulator.specs.StepLaws.{StartsAreReady, StepsAreSeen}
-use Rattle.facts.specs.declared.rule.Rule.{Rule}
-use Rattle.facts.specs.Rows.{row_view}
-use Rattle.table_check.specs.Admitted.{StartsAreAdmitted, StepsStayAdmitted}
+use Rattle.facts.specs.declared.duties.rule.Rule.{Rule}
+use Rattle.facts.specs.domain.Rows.{row_view}
+use Rattle.table_check.specs.checker.Admitted.{StartsAreAdmitted, StepsStayAdmitted}
 use Rattle.session.specs.declared.breach.Breach.{Breach}
 use Rattle.session.specs.declared.breach.Reached.{Reached}
 use Rattle.session.specs.declared.breach.watch.Watch.{Watch}

@@ -6,10 +6,10 @@ use Rattle.seq_program.specs.declared.instr.Instr.{Instr}
 use Rattle.seq_program.specs.Valid.{IsProgram, IsOnBoard}
 use Rattle.simulator.specs.declared.machine.Ending.TheVariants.{Running}
 use Rattle.simulator.specs.Machines.{Machine, Entry}
-use Rattle.facts.specs.Sets.{Set}
-use Rattle.table_check.specs.Admitted.{IsAdmitted}
+use Rattle.facts.specs.domain.Sets.{Set}
+use Rattle.table_check.specs.checker.Admitted.{IsAdmitted}
 use Rattle.table_check.specs.Tables.{Table}
-use Rattle.table_check.specs.Obligations.{IsInductive}
+use Rattle.table_check.specs.checker.Obligations.{IsInductive}
 use Rattle.session.specs.Known.{Knows, KeepsRules}
 
 -- where a row of such a table admits a machine, its instruction keeps the rules, with all that is

@@ -7,8 +7,8 @@ use Rattle.simulator.specs.declared.machine.Ending.TheVariants.{Running}
 use Rattle.simulator.specs.Faults.{most_ticks}
 use Rattle.simulator.specs.Machines.{Machine, Entry, start_at}
 use Rattle.simulator.specs.Steps.{IsRun, total_ticks}
-use Rattle.facts.specs.Rows.{Row}
-use Rattle.facts.specs.Sets.{Set}
+use Rattle.facts.specs.domain.Rows.{Row}
+use Rattle.facts.specs.domain.Sets.{Set}
 use Rattle.session.specs.declared.scenario.Scenario.{Scenario}
 use Rattle.session.specs.Scenarios.{start_of}
 use Rattle.session.specs.declared.breach.Breach.{Breach}

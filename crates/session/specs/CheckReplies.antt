@@ -2,15 +2,15 @@
 use Rattle.std.specs.Prelude.{◌≡◌, ◌⊎◌, ℕ, List, ◌++◌, codes}
 use Rattle.std.specs.Fmt.{decimal}
 use Rattle.texts.specs.Words.{lines_by_feed}
-use Rattle.facts.specs.declared.rule.Rule.{Rule}
-use Rattle.facts.specs.declared.rule.Rule.TheVariants.{K1, K2, K3, K4, K5, K6, K7, K8, K9}
-use Rattle.table_check.specs.declared.fault.TableFault.TheVariants.{BadLine}
+use Rattle.facts.specs.declared.duties.rule.Rule.{Rule}
+use Rattle.facts.specs.declared.duties.rule.Rule.TheVariants.{K1, K2, K3, K4, K5, K6, K7, K8, K9}
+use Rattle.table_check.specs.declared.text.fault.TableFault.TheVariants.{BadLine}
 use Rattle.table_check.specs.Tables.{Table}
-use Rattle.table_check.specs.Texts.{IsFirstBadLine, IsTextOf}
-use Rattle.table_check.specs.declared.verdict.Verdict.{Verdict}
-use Rattle.table_check.specs.declared.verdict.Verdict.TheVariants as verdicts
-use Rattle.table_check.specs.Obligations.{IsVerdict}
-use Rattle.table_check.specs.SafeTables.{IsSafeVerdict}
+use Rattle.table_check.specs.text.Texts.{IsFirstBadLine, IsTextOf}
+use Rattle.table_check.specs.declared.checker.verdict.Verdict.{Verdict}
+use Rattle.table_check.specs.declared.checker.verdict.Verdict.TheVariants as verdicts
+use Rattle.table_check.specs.checker.Obligations.{IsVerdict}
+use Rattle.table_check.specs.checker.SafeTables.{IsSafeVerdict}
 use Rattle.session.specs.declared.fault.InputFault.TheVariants as faults
 use Rattle.session.specs.declared.reply.Status.{Status}
 use Rattle.session.specs.declared.reply.Status.TheVariants.{Accepted, Refused}

@@ -23,6 +23,7 @@ use Rattle.session.specs.SearchReplies.{IsFindReply, IsVerifyReply}
 use Rattle.session.specs.Scenarios.{scenario_in, IsOnItsBoard}
 use Rattle.session.specs.Sequences.{sequence_in}
 use Rattle.session.specs.Trials.{Trial, trial_in, trial_view}
+use Rattle.bit_bus.specs.declared.plan.TheConstants.{LONGEST_HOLD}
 
 -- a message with its answer, a program with answers, whose run or whose levels are told, a program
 -- with a table, or a program alone
@@ -81,7 +82,7 @@ task_in text = task_in_lines (lines text)
 
 -- the holds of a message can be driven, and a program is on its board
 abbrev pub IsReady : Task → Type 0
-IsReady (Frame exchange) = All (λ hold. hold ≤ 6999) exchange.answer.holds
+IsReady (Frame exchange) = All (λ hold. hold ≤ LONGEST_HOLD) exchange.answer.holds
 IsReady (Run scenario) = IsOnItsBoard scenario
 IsReady (Wave scenario) = IsOnItsBoard scenario
 IsReady (Check trial) = Unit {0}

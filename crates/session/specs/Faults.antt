@@ -7,8 +7,8 @@ use Rattle.smbus.specs.Faults.{number_of as frame_number_of, name_of as frame_na
 use Rattle.board.specs.Faults.{number_of as board_number_of, name_of as board_name_of}
 use Rattle.seq_program.specs.Faults.{number_of as program_number_of, name_of as program_name_of}
 use Rattle.seq_program.specs.Faults.{line_of}
-use Rattle.table_check.specs.Faults.{number_of as table_number_of, name_of as table_name_of}
-use Rattle.table_check.specs.Faults.{line_of as table_line_of}
+use Rattle.table_check.specs.text.Faults.{number_of as table_number_of, name_of as table_name_of}
+use Rattle.table_check.specs.text.Faults.{line_of as table_line_of}
 use Rattle.simulator.specs.Faults.{number_of as run_number_of, name_of as run_name_of, index_of}
 use Rattle.bundles.specs.Bundles.{header_text}
 use Rattle.bundles.specs.Faults.{number_of, name_of}

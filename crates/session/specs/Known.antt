@@ -4,11 +4,11 @@ use Rattle.board.specs.Boards.{Board}
 use Rattle.seq_program.specs.declared.instr.Instr.{Instr}
 use Rattle.simulator.specs.Machines.{Machine, Entry}
 use Rattle.simulator.specs.Reports.{IsReportedGood}
-use Rattle.facts.specs.declared.rule.Rule.{Rule}
-use Rattle.facts.specs.declared.source.Source.TheVariants as source
-use Rattle.facts.specs.Duties.{one, duties, Meets, IsFirstFailing}
-use Rattle.facts.specs.Rows.{Row}
-use Rattle.facts.specs.Sets.{Set, only}
+use Rattle.facts.specs.declared.duties.rule.Rule.{Rule}
+use Rattle.facts.specs.declared.domain.source.Source.TheVariants as source
+use Rattle.facts.specs.duties.Duties.{one, duties, Meets, IsFirstFailing}
+use Rattle.facts.specs.domain.Rows.{Row}
+use Rattle.facts.specs.domain.Sets.{Set, only}
 
 -- the row of this machine and of no other, where these rails are good; where its values come from
 -- isn't told

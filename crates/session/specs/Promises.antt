@@ -2,7 +2,7 @@
 use Rattle.std.specs.Prelude.{◌≡◌, ◌≢◌, ℕ, List, Option, Some, None, IfSome, Ok}
 use Rattle.std.specs.Io.KnownBytes.{Appends}
 use Rattle.simulator.specs.Headline.{RunsAreSafe}
-use Rattle.table_check.specs.declared.verdict.Verdict.TheVariants.{Accepted}
+use Rattle.table_check.specs.declared.checker.verdict.Verdict.TheVariants.{Accepted}
 use Rattle.fact_search.specs.Forward.{IsForward}
 use Rattle.session.specs.declared.reply.Status.{Status}
 use Rattle.session.specs.declared.reply.Status.TheVariants as statuses

@@ -2,13 +2,13 @@
 -- up.
 use Rattle.std.specs.Prelude.{◌≡◌, ◌⊎◌, ℕ, List, ◌++◌, codes, length}
 use Rattle.std.specs.Fmt.{decimal}
-use Rattle.table_check.specs.Obligations.{IsVerdict}
-use Rattle.table_check.specs.SafeTables.{IsSafeVerdict}
+use Rattle.table_check.specs.checker.Obligations.{IsVerdict}
+use Rattle.table_check.specs.checker.SafeTables.{IsSafeVerdict}
 use Rattle.table_check.specs.Tables.{Table}
-use Rattle.table_check.specs.Lines.{table_text}
-use Rattle.table_check.specs.Texts.{IsTextOf}
-use Rattle.table_check.specs.Writable.{IsShaped}
-use Rattle.table_check.specs.declared.verdict.Verdict.{Verdict}
+use Rattle.table_check.specs.text.Lines.{table_text}
+use Rattle.table_check.specs.text.Texts.{IsTextOf}
+use Rattle.table_check.specs.text.Writable.{IsShaped}
+use Rattle.table_check.specs.declared.checker.verdict.Verdict.{Verdict}
 use Rattle.fact_search.specs.Finds.{IsFound, TellsCause}
 use Rattle.fact_search.specs.Forward.{IsForward}
 use Rattle.session.specs.declared.reply.Status.TheVariants.{Accepted, Refused}

@@ -8,10 +8,10 @@ use Rattle.simulator.specs.declared.machine.Ending.TheVariants.{Running}
 use Rattle.simulator.specs.Machines.{Machine, Entry}
 use Rattle.simulator.specs.StepLaws.{IsReady}
 use Rattle.simulator.specs.Steps.{IsStep}
-use Rattle.facts.specs.declared.rule.Rule.{Rule}
-use Rattle.facts.specs.Rows.{row_view}
-use Rattle.facts.specs.Sets.{Set, rails_in}
-use Rattle.table_check.specs.Obligations.{IsInductive}
+use Rattle.facts.specs.declared.duties.rule.Rule.{Rule}
+use Rattle.facts.specs.domain.Rows.{row_view}
+use Rattle.facts.specs.domain.Sets.{Set, rails_in}
+use Rattle.table_check.specs.checker.Obligations.{IsInductive}
 use Rattle.table_check.specs.Tables.{Table}
 use Rattle.session.specs.declared.breach.Reached.{Reached}
 use Rattle.session.specs.declared.breach.watch.Watch.{Watch}

@@ -1,7 +1,7 @@
 //! The first step of a run that breaks a rule.
 
 ghost use Rattle.std.specs.Prelude.{◌≡◌, Some, IfOk, IfSome, slice_get};
-ghost use Rattle.facts.specs.Sets.{rails_in};
+ghost use Rattle.facts.specs.domain.Sets.{rails_in};
 ghost use Rattle.seq_program.specs.declared.instr.Instr.{Instr as AnyInstr};
 ghost use Rattle.simulator.specs.Machines.{IsMachine};
 ghost use Rattle.simulator.specs.declared.machine.Ending.TheVariants.{Running};

@@ -11,6 +11,7 @@ ghost use Rattle.session.specs.Scenarios.{IsOnItsBoard};
 ghost use Rattle.session.specs.SearchReplies.{IsFindReply, IsVerifyReply};
 ghost use Rattle.session.specs.Seen.{IsStillSeen, IsRunSeen, IsSeenOf};
 ghost use Rattle.session.specs.Trials.{trial_view};
+ghost use Rattle.bit_bus.specs.declared.plan.TheConstants.{LONGEST_HOLD};
 
 use crate::checking::check_reply;
 use crate::fault::{InputFault, of_bundle};
@@ -90,7 +91,7 @@ pub fn read_task<'a>(alloc: Global, text: &'a str) -> Result<Task<'a>, ReadError
 
 /// The reply to a message, of which nothing else is seen.
 fn framed(alloc: Global, exchange: Exchange) -> Result<Made, AllocError>
-    requires { All (λ hold. hold ≤ 6999) exchange.answer.holds }
+    requires { All (λ hold. hold ≤ LONGEST_HOLD) exchange.answer.holds }
     ensures whole { IfOk result (λ made. made.reply.status ≢ Status.DeviceFault) }
     ensures replies { IfOk result
         (λ made. IsFrameReply exchange.message exchange.answer (reply_view made.reply)) }

@@ -10,16 +10,17 @@ ghost use Rattle.smbus.specs.Shown.{Shown};
 ghost use Rattle.smbus.specs.Text.{text_of};
 ghost use Rattle.session.specs.Replies.{reply_view};
 ghost use Rattle.session.specs.FrameReplies.{IsFrameText, IsFrameReply};
+ghost use Rattle.bit_bus.specs.declared.plan.TheConstants.{LONGEST_HOLD};
 
 use crate::fault::InputFault;
 use crate::outcome::outcome_line;
 use crate::reply::{Reply, Status, refused};
 use bit_bus::{Plan, Slot, drive};
 use smbus::{
-    Answer, Message, SmbusFault, frame_slots, frame_text, only_frame, slots_are_one_frame,
+    Answer, Message, SmbusFault, frame_slots, frame_text, only_frame_in, slots_are_one_frame,
 };
 use std::alloc::{AllocError, Global};
-use wires::{Event, Runs, Sample, events_of};
+use wires::{Runs, Sample};
 
 /// The lines of a free bus.
 const IDLE: Sample = Sample {
@@ -28,14 +29,14 @@ const IDLE: Sample = Sample {
     alert: true,
 };
 
-/// The events of these samples behind an idle one.
-fn events_behind_idle(alloc: Global, samples: &Runs) -> Result<Vec<Event>, AllocError>
+/// These samples behind an idle one.
+fn behind_idle(alloc: Global, samples: &Runs) -> Result<Runs, AllocError>
     requires { length samples.now < most_samples }
-    ensures { IfOk result (λ events. events.items ≡ events_of (idle true ∷ samples.now)) }
+    ensures { IfOk result (λ all. all ≡ idle true ∷ samples.now) }
 {
     let mut before = Runs::new(alloc);
     before.push(IDLE, 1)?;
-    events_of(alloc, &Runs::joined(alloc, &before, samples)?)
+    Runs::joined(alloc, &before, samples)
 }
 
 /// The text of the one frame that is read from these samples behind an idle one.
@@ -46,8 +47,8 @@ fn seen_text(alloc: Global, samples: &Runs) -> Result<String, AllocError>
         × AreFrames (events_of (idle true ∷ samples.now)) (f ∷ [])
         × (string_bytes text ≡ text_of f)) }
 {
-    let events = events_behind_idle(alloc, samples)?;
-    let Some(frame) = only_frame(alloc, &events)? else {
+    let samples = behind_idle(alloc, samples)?;
+    let Some(frame) = only_frame_in(alloc, &samples)? else {
         unreachable!()
     };
     frame_text(alloc, &frame)
@@ -77,7 +78,7 @@ fn shown(
 
 /// The reply to a message and its answer: what is seen on the wire.
 pub fn frame_reply(alloc: Global, message: &Message, answer: &Answer) -> Result<Reply, AllocError>
-    requires { All (λ hold. hold ≤ 6999) answer.now.holds }
+    requires { All (λ hold. hold ≤ LONGEST_HOLD) answer.now.holds }
     ensures whole { IfOk result (λ reply. reply.status ≢ Status.DeviceFault) }
     ensures replies { IfOk result
         (λ reply. IsFrameReply message.now answer.now (reply_view reply)) }

@@ -4,10 +4,11 @@ use Rattle.board.specs.Boards.{Board}
 use Rattle.seq_program.specs.declared.instr.Instr.{Instr}
 use Rattle.simulator.specs.declared.machine.Ending.TheVariants.{Running}
 use Rattle.simulator.specs.Machines.{Machine, Entry}
-use Rattle.facts.specs.Rows.{rank}
+use Rattle.facts.specs.domain.Rows.{rank}
 use Rattle.table_check.specs.Tables.{Table}
-use Rattle.table_check.specs.Admitted.{HasRow, IsAdmitted, StartsAreAdmitted, StepsStayAdmitted}
-use Rattle.table_check.specs.Obligations.{bound_of}
+use Rattle.table_check.specs.checker.Admitted.{HasRow, IsAdmitted, StartsAreAdmitted}
+use Rattle.table_check.specs.checker.Admitted.{StepsStayAdmitted}
+use Rattle.table_check.specs.checker.Obligations.{bound_of}
 use Rattle.table_check.proofs.Whole.{Laws, Lasts, Kept, started, stepped}
 
 -- but for the ticks that are left

@@ -3,7 +3,7 @@ use Rattle.std.proofs.Common.{◌≡◌, ◌+◌, ◌≤◌, ◌<◌, ◌++◌, 
 use Rattle.std.proofs.Common.{Option, Some, None, slice_index_or, refl, sym}
 use Rattle.std.proofs.lemmas.Bool.{le-ltb, lt-ltb}
 use Rattle.std.proofs.lemmas.List.{at_drop_more, at_drop_all}
-use Rattle.table_check.specs.Saying.{ascending}
+use Rattle.table_check.specs.text.Saying.{ascending}
 
 -- a word with a value that isn't too small, before others
 one_more : (value_of : List ℕ → Option ℕ) (done : List ℕ) (least value : ℕ) (word : List ℕ)

@@ -9,22 +9,22 @@ use Rattle.std.proofs.lemmas.List.{length-map}
 use Rattle.std.proofs.lemmas.List.Elements.{All-from_recursion}
 use Rattle.board.specs.Boards.{Board}
 use Rattle.seq_program.specs.declared.instr.Instr.{Instr}
-use Rattle.facts.specs.declared.row.Row.{Row as CodeRow}
-use Rattle.facts.specs.declared.rule.Rule.{Rule}
-use Rattle.facts.specs.declared.rule.Rule.TheVariants.{K1, K6, K7}
-use Rattle.facts.specs.declared.span.Span.{Span}
-use Rattle.facts.specs.Covering.{IsSized}
-use Rattle.facts.specs.Duties.{IsFirstFailing, Meets, duties}
-use Rattle.facts.specs.Edges.{Edge, edge}
+use Rattle.facts.specs.declared.domain.row.Row.{Row as CodeRow}
+use Rattle.facts.specs.declared.duties.rule.Rule.{Rule}
+use Rattle.facts.specs.declared.duties.rule.Rule.TheVariants.{K1, K6, K7}
+use Rattle.facts.specs.declared.domain.span.Span.{Span}
+use Rattle.facts.specs.domain.Covering.{IsSized}
+use Rattle.facts.specs.duties.Duties.{IsFirstFailing, Meets, duties}
+use Rattle.facts.specs.transfer.Edges.{Edge, edge}
 use Rattle.facts.specs.FactLaws.{IsShaped}
-use Rattle.facts.specs.Rows.{Row, InSpans, IsRow, RowCovers, most_ticks, no_span}
-use Rattle.facts.specs.Rows.{rank, row_view}
-use Rattle.facts.specs.Sets.{pages_in, protects_in}
+use Rattle.facts.specs.domain.Rows.{Row, InSpans, IsRow, RowCovers, most_ticks, no_span}
+use Rattle.facts.specs.domain.Rows.{rank, row_view}
+use Rattle.facts.specs.domain.Sets.{pages_in, protects_in}
 use Rattle.facts.specs.Steps.{HasEdge}
-use Rattle.facts.specs.TimedEdges.{timed}
-use Rattle.facts.specs.Ways.{timed_view}
+use Rattle.facts.specs.transfer.TimedEdges.{timed}
+use Rattle.facts.specs.transfer.Ways.{timed_view}
 use Rattle.table_check.specs.Tables.{Table, row_of}
-use Rattle.table_check.specs.Obligations.{Obligation, Covered, Duty, Falls, IsFirstFault}
+use Rattle.table_check.specs.checker.Obligations.{Obligation, Covered, Duty, Falls, IsFirstFault}
 use Rattle.table_check.proofs.Places.{none_some, some_same}
 
 -- duties

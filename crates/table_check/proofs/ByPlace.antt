@@ -6,25 +6,26 @@ use Rattle.board.specs.Boards.{Board}
 use Rattle.seq_program.specs.declared.instr.Instr.{Instr}
 use Rattle.seq_program.specs.declared.instr.Instr.TheVariants as instr
 use Rattle.seq_program.specs.Programs.{is_end}
-use Rattle.facts.specs.declared.rule.Rule.{Rule}
-use Rattle.facts.specs.declared.rule.Rule.TheVariants.{K1, K2, K3, K4, K5, K6, K7, K8, K9}
-use Rattle.facts.specs.Rows.{Row, IsRow}
+use Rattle.facts.specs.declared.duties.rule.Rule.{Rule}
+use Rattle.facts.specs.declared.duties.rule.Rule.TheVariants.{K1, K2, K3, K4, K5, K6, K7, K8, K9}
+use Rattle.facts.specs.domain.Rows.{Row, IsRow}
 use Rattle.seq_program.specs.Requests.{request_in}
-use Rattle.facts.specs.Duties.{Meets, duties}
-use Rattle.facts.specs.Edges.{Edge, edges}
+use Rattle.facts.specs.duties.Duties.{Meets, duties}
+use Rattle.facts.specs.transfer.Edges.{Edge, edges}
 use Rattle.facts.specs.Steps.{HasEdge}
-use Rattle.facts.specs.Ticks.{worst_ticks}
-use Rattle.facts.specs.TimedEdges.{timed, timed_edges}
+use Rattle.facts.specs.transfer.Ticks.{worst_ticks}
+use Rattle.facts.specs.transfer.TimedEdges.{timed, timed_edges}
 use Rattle.table_check.specs.Tables.{Table, row_of}
-use Rattle.table_check.specs.Rules.{IsCovered, Pays, PaysEnd, Starts}
-use Rattle.table_check.specs.Obligations.{Obligation, Start, Length, shapes, of_edges, of_end}
-use Rattle.table_check.specs.Obligations.{of_row, of_places, AllHold, IsInductive}
-use Rattle.table_check.specs.Obligations.{IsFirstFault, IsVerdict, verdict_on}
-use Rattle.table_check.specs.declared.verdict.Verdict.{Verdict}
-use Rattle.table_check.specs.declared.verdict.Verdict.TheVariants as verdict
-use Rattle.table_check.specs.ByPlace.{Follows, EdgesHold, MeetsAll, KeepsDuties}
-use Rattle.table_check.specs.ByPlace.{InductiveByPlace, FollowingTablesTellDuties}
-use Rattle.table_check.specs.ByPlace.{ClosedTablesTellDutiesOrTicks}
+use Rattle.table_check.specs.checker.Rules.{IsCovered, Pays, PaysEnd, Starts}
+use Rattle.table_check.specs.checker.Obligations.{Obligation, Start, Length, shapes, of_edges}
+use Rattle.table_check.specs.checker.Obligations.{of_end}
+use Rattle.table_check.specs.checker.Obligations.{of_row, of_places, AllHold, IsInductive}
+use Rattle.table_check.specs.checker.Obligations.{IsFirstFault, IsVerdict, verdict_on}
+use Rattle.table_check.specs.declared.checker.verdict.Verdict.{Verdict}
+use Rattle.table_check.specs.declared.checker.verdict.Verdict.TheVariants as verdict
+use Rattle.table_check.specs.checker.ByPlace.{Follows, EdgesHold, MeetsAll, KeepsDuties}
+use Rattle.table_check.specs.checker.ByPlace.{InductiveByPlace, FollowingTablesTellDuties}
+use Rattle.table_check.specs.checker.ByPlace.{ClosedTablesTellDutiesOrTicks}
 use Rattle.table_check.proofs.Obligations.{hold_front, hold_back, hold_edge, hold_place, hold_shape}
 use Rattle.table_check.proofs.Obligations.{met_duties, at_end, ends_by, others}
 

@@ -4,9 +4,9 @@ use Rattle.std.proofs.Common.{inl, inr}
 use Rattle.std.specs.Prelude.{Option}
 use Rattle.board.specs.Boards.{Board}
 use Rattle.seq_program.specs.declared.instr.Instr.{Instr}
-use Rattle.facts.specs.declared.rule.Rule.{Rule}
+use Rattle.facts.specs.declared.duties.rule.Rule.{Rule}
 use Rattle.table_check.specs.Tables.{Table}
-use Rattle.table_check.specs.Obligations.{Obligation, IsFirstFault}
+use Rattle.table_check.specs.checker.Obligations.{Obligation, IsFirstFault}
 use Rattle.table_check.proofs.Places.{none_some}
 
 -- a fault of the first list is one of both

@@ -5,8 +5,8 @@ use Rattle.std.proofs.Math.Nat.{mul-le-mul_left}
 use Rattle.std.proofs.lemmas.Bool.{cases_lt, cond-true, cond-false, lt-ltb, le-ltb, cond_both}
 use Rattle.std.specs.Prelude.{nat_lt}
 use Rattle.std.specs.List.{AllByRecursion}
-use Rattle.facts.specs.declared.span.Span.{Span}
-use Rattle.facts.specs.Rows.{InSpan, InSpans, weight}
+use Rattle.facts.specs.declared.domain.span.Span.{Span}
+use Rattle.facts.specs.domain.Rows.{InSpan, InSpans, weight}
 
 -- what the rank before is greater by, at least, where its coefficient is the greater one
 abbrev pub gain : List Span → List ℕ → List ℕ → ℕ

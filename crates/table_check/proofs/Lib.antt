@@ -9,5 +9,5 @@ pub mod Parts
 pub mod Gains
 pub mod Broken
 pub mod TypedRows
-pub mod Text
+pub mod Texts
 pub mod SmallTables

@@ -7,19 +7,19 @@ use Rattle.board.specs.Boards.{Board}
 use Rattle.seq_program.specs.declared.instr.Instr.{Instr}
 use Rattle.seq_program.specs.declared.instr.Instr.TheVariants as instr
 use Rattle.seq_program.specs.Programs.{is_end}
-use Rattle.facts.specs.declared.rule.Rule.{Rule}
-use Rattle.facts.specs.declared.rule.Rule.TheVariants.{K1, K2, K3, K4, K5, K6, K7, K8, K9}
-use Rattle.facts.specs.Rows.{Row, IsRow}
+use Rattle.facts.specs.declared.duties.rule.Rule.{Rule}
+use Rattle.facts.specs.declared.duties.rule.Rule.TheVariants.{K1, K2, K3, K4, K5, K6, K7, K8, K9}
+use Rattle.facts.specs.domain.Rows.{Row, IsRow}
 use Rattle.seq_program.specs.Requests.{Request, request_in}
-use Rattle.facts.specs.Duties.{Meets, MeetsSent}
-use Rattle.facts.specs.Edges.{Edge}
-use Rattle.facts.specs.TimedEdges.{timed}
+use Rattle.facts.specs.duties.Duties.{Meets, MeetsSent}
+use Rattle.facts.specs.transfer.Edges.{Edge}
+use Rattle.facts.specs.transfer.TimedEdges.{timed}
 use Rattle.facts.specs.Steps.{HasEdge}
-use Rattle.facts.specs.Ticks.{worst_ticks}
+use Rattle.facts.specs.transfer.Ticks.{worst_ticks}
 use Rattle.table_check.specs.Tables.{Table, row_of}
-use Rattle.table_check.specs.Rules.{IsCovered, Pays, PaysEnd}
-use Rattle.table_check.specs.Obligations.{Obligation, fault_of, shapes, of_edges, of_end}
-use Rattle.table_check.specs.Obligations.{of_row, of_places, AllHold, IsFirstFault}
+use Rattle.table_check.specs.checker.Rules.{IsCovered, Pays, PaysEnd}
+use Rattle.table_check.specs.checker.Obligations.{Obligation, fault_of, shapes, of_edges, of_end}
+use Rattle.table_check.specs.checker.Obligations.{of_row, of_places, AllHold, IsFirstFault}
 use Rattle.table_check.proofs.Places.{some_same, none_some}
 
 pub hold_front : (b : Board) (p : List Instr) (t : Table) (xs ys : List Obligation)

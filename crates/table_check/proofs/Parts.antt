@@ -7,13 +7,13 @@ use Rattle.std.proofs.lemmas.Option.{slice_get-get_or}
 use Rattle.std.proofs.lemmas.List.{length-map}
 use Rattle.board.specs.Boards.{Board}
 use Rattle.seq_program.specs.declared.instr.Instr.{Instr}
-use Rattle.facts.specs.declared.row.Row.{Row as CodeRow}
-use Rattle.facts.specs.Rows.{row_view}
+use Rattle.facts.specs.declared.domain.row.Row.{Row as CodeRow}
+use Rattle.facts.specs.domain.Rows.{row_view}
 use Rattle.table_check.specs.Tables.{Table, row_of, rows_view}
-use Rattle.table_check.specs.Obligations.{Obligation, IsFirstFault, Length, Start}
-use Rattle.table_check.specs.Obligations.{obligations, of_places, shapes}
-use Rattle.table_check.specs.Looking.{HasRowsOf, at_both, at_place, of_code, of_form}
-use Rattle.table_check.specs.Looking.{shape_at}
+use Rattle.table_check.specs.checker.Obligations.{Obligation, IsFirstFault, Length, Start}
+use Rattle.table_check.specs.checker.Obligations.{obligations, of_places, shapes}
+use Rattle.table_check.specs.checker.Looking.{HasRowsOf, at_both, at_place, of_code, of_form}
+use Rattle.table_check.specs.checker.Looking.{shape_at}
 use Rattle.table_check.proofs.Obligations.{hold_front, hold_shape, no_fault}
 use Rattle.table_check.proofs.Places.{none_some, some_same}
 

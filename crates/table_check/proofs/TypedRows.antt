@@ -3,10 +3,10 @@ use Rattle.std.proofs.Common.{ℕ, zero, suc, ◌≡◌, ◌<◌, ◌+◌, List,
 use Rattle.std.proofs.Common.{Option, refl, sym, ap, subst, ◌∙◌, inl, inr, arith}
 use Rattle.std.proofs.lemmas.Bool.{cases_lt}
 use Rattle.std.specs.Prelude.{IfSome, option_map}
-use Rattle.facts.specs.declared.row.Row.{Row as CodeRow}
-use Rattle.facts.specs.Rows.{Row, row_view}
+use Rattle.facts.specs.declared.domain.row.Row.{Row as CodeRow}
+use Rattle.facts.specs.domain.Rows.{Row, row_view}
 use Rattle.table_check.specs.Tables.{rows_view}
-use Rattle.table_check.specs.Writable.{IsTypedRow}
+use Rattle.table_check.specs.text.Writable.{IsTypedRow}
 
 at_map : (rows : List (Option CodeRow)) (i : ℕ) (x : Option CodeRow) (d : Option Row)
     → i < length rows

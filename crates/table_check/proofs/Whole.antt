@@ -19,20 +19,22 @@ use Rattle.simulator.specs.Safe.{AreSafe, IsSafe as IsSafeEntry}
 use Rattle.simulator.specs.SafeLaws.{SendsMessage, SafeStepsAreSafeRuns}
 use Rattle.simulator.specs.StepLaws.{IsReady, StartsAreReady, StepsAreSeen}
 use Rattle.simulator.specs.Steps.{IsStep, IsRun, total_ticks}
-use Rattle.facts.specs.declared.rule.Rule.{Rule}
-use Rattle.facts.specs.declared.source.Source.{Source}
-use Rattle.facts.specs.Rows.{Row, Admits, IsRow, IsFrom, rank, weight, set_at}
-use Rattle.facts.specs.Edges.{Edge, edges}
+use Rattle.facts.specs.declared.duties.rule.Rule.{Rule}
+use Rattle.facts.specs.declared.domain.source.Source.{Source}
+use Rattle.facts.specs.domain.Rows.{Row, Admits, IsRow, IsFrom, rank, weight, set_at}
+use Rattle.facts.specs.transfer.Edges.{Edge, edges}
 use Rattle.facts.specs.FactLaws.{CoveringRowsAdmit}
-use Rattle.facts.specs.Starts.{HoldsStarts}
+use Rattle.facts.specs.well_formed.Starts.{HoldsStarts}
 use Rattle.facts.specs.Steps.{Leads, IsSoundStep, StepsAreSound, MetDutiesSend}
-use Rattle.facts.specs.Ticks.{worst_ticks}
-use Rattle.facts.specs.TimedEdges.{timed_edges}
+use Rattle.facts.specs.transfer.Ticks.{worst_ticks}
+use Rattle.facts.specs.transfer.TimedEdges.{timed_edges}
 use Rattle.table_check.specs.Tables.{Table, row_of}
-use Rattle.table_check.specs.Obligations.{Start, shapes, of_edges, of_end}
-use Rattle.table_check.specs.Obligations.{of_row, of_places, obligations, AllHold, IsInductive}
-use Rattle.table_check.specs.Obligations.{IsFirstFault, base_of, bound_of, verdict_on}
-use Rattle.table_check.specs.SafeTables.{InductiveRunsAreSafe, IsSafeVerdict, VerdictsAreSafe}
+use Rattle.table_check.specs.checker.Obligations.{Start, shapes, of_edges, of_end}
+use Rattle.table_check.specs.checker.Obligations.{of_row, of_places, obligations, AllHold}
+use Rattle.table_check.specs.checker.Obligations.{IsInductive}
+use Rattle.table_check.specs.checker.Obligations.{IsFirstFault, base_of, bound_of, verdict_on}
+use Rattle.table_check.specs.checker.SafeTables.{InductiveRunsAreSafe, IsSafeVerdict}
+use Rattle.table_check.specs.checker.SafeTables.{VerdictsAreSafe}
 use Rattle.table_check.proofs.Places.{all_at, found}
 use Rattle.table_check.proofs.Obligations.{hold_front, hold_back, hold_edge, hold_place, hold_shape}
 use Rattle.table_check.proofs.Obligations.{met_duties, at_end, worst_of_end, no_fault}

@@ -1,7 +1,7 @@
 -- A table of facts: for each place of a program what is known there, or nothing.
 use Rattle.std.specs.Prelude.{ℕ, List, Option, Some, None, map, option_map, slice_get}
-use Rattle.facts.specs.Rows.{Row, row_view}
-use Rattle.facts.specs.declared.row.Row.{Row as CodeRow}
+use Rattle.facts.specs.domain.Rows.{Row, row_view}
+use Rattle.facts.specs.declared.domain.row.Row.{Row as CodeRow}
 use Rattle.table_check.specs.declared.table.Table.{Table as CodeTable}
 
 abbrev pub Table : Type 0

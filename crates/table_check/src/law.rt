@@ -1,17 +1,18 @@
 //! What holds of all tables: of their texts, and of the runs of a program with one.
 
-ghost use Rattle.facts.specs.declared.rule.Rule.TheVariants.{K5};
-ghost use Rattle.table_check.specs.Admitted.{StartsAreAdmitted, StepsStayAdmitted};
-ghost use Rattle.table_check.specs.ByPlace.{FollowingTablesTellDuties, InductiveByPlace};
-ghost use Rattle.table_check.specs.ByPlace.{ClosedTablesTellDutiesOrTicks};
-ghost use Rattle.table_check.specs.Obligations.{IsInductive, IsVerdict};
-ghost use Rattle.table_check.specs.SafeTables.{InductiveRunsAreSafe, VerdictsAreSafe};
-ghost use Rattle.table_check.specs.SmallTables.{two_rails, voltage_program, voltage_table};
-ghost use Rattle.table_check.specs.SmallTables.{ordered_program, ordered_table};
-ghost use Rattle.table_check.specs.SmallTables.{withdrawn_program, withdrawn_table};
+ghost use Rattle.facts.specs.declared.duties.rule.Rule.TheVariants.{K5};
+ghost use Rattle.table_check.specs.checker.Admitted.{StartsAreAdmitted, StepsStayAdmitted};
+ghost use Rattle.table_check.specs.checker.ByPlace.{FollowingTablesTellDuties, InductiveByPlace};
+ghost use Rattle.table_check.specs.checker.ByPlace.{ClosedTablesTellDutiesOrTicks};
+ghost use Rattle.table_check.specs.checker.Obligations.{IsInductive, IsVerdict};
+ghost use Rattle.table_check.specs.checker.SafeTables.{InductiveRunsAreSafe, VerdictsAreSafe};
+ghost use Rattle.table_check.specs.checker.SmallTables.{two_rails, voltage_program, voltage_table};
+ghost use Rattle.table_check.specs.checker.SmallTables.{ordered_program, ordered_table};
+ghost use Rattle.table_check.specs.checker.SmallTables.{withdrawn_program, withdrawn_table};
 ghost use Rattle.table_check.specs.Tables.{Table};
-ghost use Rattle.table_check.specs.TextLaws.{TextsHaveOneTable, TablesHaveTexts, BoardsHaveTables};
-ghost use Rattle.table_check.specs.declared.verdict.Verdict.TheVariants.{Refused};
+ghost use Rattle.table_check.specs.text.TextLaws.{TextsHaveOneTable, TablesHaveTexts};
+ghost use Rattle.table_check.specs.text.TextLaws.{BoardsHaveTables};
+ghost use Rattle.table_check.specs.declared.checker.verdict.Verdict.TheVariants.{Refused};
 
 use facts::{covered_rows_follow, steps_are_sound};
 use seq_program::lines_read_back;

@@ -1,5 +1,5 @@
 ghost use Rattle.std.specs.Prelude.{◌≡◌, option_map};
-ghost use Rattle.facts.specs.Rows.{row_view};
+ghost use Rattle.facts.specs.domain.Rows.{row_view};
 ghost use Rattle.table_check.specs.Tables.{rows_view, row_of};
 
 use facts::Row;

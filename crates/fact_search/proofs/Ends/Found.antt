@@ -4,15 +4,15 @@ use Rattle.std.proofs.Common.{subst, arith}
 use Rattle.std.specs.Prelude.{Some, replicate, slice_get, slice_index}
 use Rattle.board.specs.Boards.{Board}
 use Rattle.seq_program.specs.declared.instr.Instr.{Instr}
-use Rattle.facts.specs.declared.rule.Rule.TheVariants.{K1}
-use Rattle.facts.specs.Edges.{Edge, edges}
+use Rattle.facts.specs.declared.duties.rule.Rule.TheVariants.{K1}
+use Rattle.facts.specs.transfer.Edges.{Edge, edges}
 use Rattle.facts.specs.FactLaws.{IsShaped}
-use Rattle.facts.specs.Rows.{Row, IsRow, RowCovers, most_ticks, rank}
-use Rattle.facts.specs.Starts.{HoldsStarts}
+use Rattle.facts.specs.domain.Rows.{Row, IsRow, RowCovers, most_ticks, rank}
+use Rattle.facts.specs.well_formed.Starts.{HoldsStarts}
 use Rattle.facts.specs.Steps.{HasEdge}
-use Rattle.facts.specs.Ticks.{worst_ticks}
-use Rattle.table_check.specs.ByPlace.{Follows, EdgesHold, KeepsDuties, MeetsAll}
-use Rattle.table_check.specs.Obligations.{IsInductive}
+use Rattle.facts.specs.transfer.Ticks.{worst_ticks}
+use Rattle.table_check.specs.checker.ByPlace.{Follows, EdgesHold, KeepsDuties, MeetsAll}
+use Rattle.table_check.specs.checker.Obligations.{IsInductive}
 use Rattle.table_check.specs.Tables.{Table, row_of}
 use Rattle.fact_search.specs.Finds.{IsFound, TellsCause}
 use Rattle.fact_search.specs.Forward.{IsForward}

@@ -5,13 +5,13 @@ use Rattle.std.specs.Prelude.{Option, Some, None, IfSome, option_map}
 use Rattle.std.specs.List.{AllByRecursion}
 use Rattle.std.proofs.lemmas.List.Elements.{All-from_recursion, recursion_from_All}
 use Rattle.board.specs.Boards.{Board}
-use Rattle.facts.specs.declared.row.Row.{Row as CodeRow}
-use Rattle.facts.specs.declared.source.Source.TheVariants as source
-use Rattle.facts.specs.Rows.{Row, IsRow, IsSource, row_view}
-use Rattle.facts.specs.Sets.{empty, HasValue}
-use Rattle.table_check.specs.Looking.{HasRowsOf}
+use Rattle.facts.specs.declared.domain.row.Row.{Row as CodeRow}
+use Rattle.facts.specs.declared.domain.source.Source.TheVariants as source
+use Rattle.facts.specs.domain.Rows.{Row, IsRow, IsSource, row_view}
+use Rattle.facts.specs.domain.Sets.{empty, HasValue}
+use Rattle.table_check.specs.checker.Looking.{HasRowsOf}
 use Rattle.table_check.specs.Tables.{rows_view, Table, row_of}
-use Rattle.table_check.specs.Writable.{IsShaped, IsShapedRow}
+use Rattle.table_check.specs.text.Writable.{IsShaped, IsShapedRow}
 use Rattle.fact_search.specs.declared.loops.Ticks.{Ticks}
 use Rattle.fact_search.specs.Ticking.{ticked, ticked_row, with_left}
 use Rattle.fact_search.proofs.Shared.Places.{found, none_some, some_same}

@@ -6,8 +6,8 @@ use Rattle.std.specs.List.{AllByRecursion}
 use Rattle.std.proofs.lemmas.List.{length-append}
 use Rattle.std.proofs.lemmas.List.Elements.{All-from_recursion, recursion_from_All}
 use Rattle.std.specs.Prelude.{Option, Some, None, option_map, slice_get, slice_index}
-use Rattle.facts.specs.declared.row.Row.{Row as CodeRow}
-use Rattle.facts.specs.Rows.{Row, row_view}
+use Rattle.facts.specs.declared.domain.row.Row.{Row as CodeRow}
+use Rattle.facts.specs.domain.Rows.{Row, row_view}
 use Rattle.table_check.specs.Tables.{rows_view, Table, row_of}
 use Rattle.fact_search.specs.declared.loops.Ticks.{Ticks}
 use Rattle.fact_search.specs.Ticking.{plain, ticked, ticked_row, with_left}

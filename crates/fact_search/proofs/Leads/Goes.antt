@@ -8,10 +8,10 @@ use Rattle.seq_program.specs.declared.instr.Instr.{Instr}
 use Rattle.seq_program.specs.declared.instr.Instr.TheVariants as instr
 use Rattle.seq_program.specs.Programs.{is_end}
 use Rattle.seq_program.specs.Valid.{IsProgram, jump_in}
-use Rattle.facts.specs.declared.span.Span.{Span}
-use Rattle.facts.specs.Rows.{Row, span_at}
-use Rattle.facts.specs.Edges.{Edge, edges, edge_if, if_may_jump, if_jump_row, if_may_go_on}
-use Rattle.facts.specs.Edges.{if_next_row}
+use Rattle.facts.specs.declared.domain.span.Span.{Span}
+use Rattle.facts.specs.domain.Rows.{Row, span_at}
+use Rattle.facts.specs.transfer.Edges.{Edge, edges, edge_if, if_may_jump, if_jump_row, if_may_go_on}
+use Rattle.facts.specs.transfer.Edges.{if_next_row}
 use Rattle.facts.specs.Steps.{HasEdge}
 use Rattle.fact_search.specs.Forward.{IsForward}
 use Rattle.fact_search.proofs.Shared.Places.{all_at, within}

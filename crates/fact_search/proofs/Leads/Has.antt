@@ -2,8 +2,8 @@
 use Rattle.std.proofs.Common.{◌≡◌, ℕ, ◌⊎◌, List, [], ◌∷◌, ◌++◌, refl, sym, subst, inl, inr}
 use Rattle.std.proofs.Common.{Bool, true, false}
 use Rattle.std.proofs.lemmas.Bool.{cases_Bool, cond-true, cond-false}
-use Rattle.facts.specs.Rows.{Row, source_at}
-use Rattle.facts.specs.Edges.{Edge, edge, edge_if, possible, is_possible}
+use Rattle.facts.specs.domain.Rows.{Row, source_at}
+use Rattle.facts.specs.transfer.Edges.{Edge, edge, edge_if, possible, is_possible}
 use Rattle.facts.specs.Steps.{HasEdge}
 
 edge_same : (e : Edge) (P : Edge → Type 0) (x : Edge) → x ≡ e → P e → P x

@@ -9,17 +9,20 @@ use Rattle.seq_program.specs.declared.instr.Instr.{Instr}
 use Rattle.seq_program.specs.declared.instr.Instr.TheVariants as instr
 use Rattle.seq_program.specs.Valid.{IsInstr}
 use Rattle.simulator.specs.Moves.{passes}
-use Rattle.facts.specs.declared.source.Source.{Source}
-use Rattle.facts.specs.declared.source.Source.TheVariants as source
-use Rattle.facts.specs.declared.span.Span.{Span}
-use Rattle.facts.specs.Rows.{Row, source_at, span_at, weight, rank}
+use Rattle.facts.specs.declared.domain.source.Source.{Source}
+use Rattle.facts.specs.declared.domain.source.Source.TheVariants as source
+use Rattle.facts.specs.declared.domain.span.Span.{Span}
+use Rattle.facts.specs.domain.Rows.{Row, source_at, span_at, weight, rank}
 use Rattle.seq_program.specs.Requests.{Transaction, Request, request_in}
-use Rattle.facts.specs.Edges.{Edge, edges, edges_of, other_edges, edge_if, Effect, SetsPage}
-use Rattle.facts.specs.Edges.{SetsProtect, TurnsOff, ReadsStatus, ReadsPage, ReadsProtect, Loads}
-use Rattle.facts.specs.Edges.{Nothing, effect_of, done_row, else_row, keep, learn_good}
-use Rattle.facts.specs.Edges.{if_may_jump, if_jump_row, if_may_go_on, if_next_row, all_bits}
-use Rattle.facts.specs.Edges.{good_bits, with_counter, taken_off, counter_in}
-use Rattle.facts.specs.Duties.{one}
+use Rattle.facts.specs.transfer.Edges.{Edge, edges, edges_of, other_edges, edge_if, Effect}
+use Rattle.facts.specs.transfer.Edges.{SetsPage}
+use Rattle.facts.specs.transfer.Edges.{SetsProtect, TurnsOff, ReadsStatus, ReadsPage, ReadsProtect}
+use Rattle.facts.specs.transfer.Edges.{Loads}
+use Rattle.facts.specs.transfer.Edges.{Nothing, effect_of, done_row, else_row, keep, learn_good}
+use Rattle.facts.specs.transfer.Edges.{if_may_jump, if_jump_row, if_may_go_on, if_next_row}
+use Rattle.facts.specs.transfer.Edges.{all_bits}
+use Rattle.facts.specs.transfer.Edges.{good_bits, with_counter, taken_off, counter_in}
+use Rattle.facts.specs.duties.Duties.{one}
 use Rattle.facts.specs.Steps.{HasEdge}
 use Rattle.fact_search.proofs.Leads.Has.{has_possible}
 use Rattle.fact_search.proofs.Leads.Has.{one_has, two_have, ifs_have}

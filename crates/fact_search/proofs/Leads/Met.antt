@@ -4,15 +4,15 @@ use Rattle.std.proofs.Common.{subst}
 use Rattle.std.specs.Prelude.{Option, slice_get, IfSome}
 use Rattle.board.specs.Boards.{Board}
 use Rattle.seq_program.specs.declared.instr.Instr.{Instr}
-use Rattle.facts.specs.declared.rule.Rule.{Rule}
-use Rattle.facts.specs.declared.rule.Rule.TheVariants.{K1, K2, K3, K4, K5, K6, K7, K8, K9}
-use Rattle.facts.specs.Duties.{IsFirstFailing, Meets, MeetsSent, duties}
-use Rattle.facts.specs.Edges.{Edge, edges}
+use Rattle.facts.specs.declared.duties.rule.Rule.{Rule}
+use Rattle.facts.specs.declared.duties.rule.Rule.TheVariants.{K1, K2, K3, K4, K5, K6, K7, K8, K9}
+use Rattle.facts.specs.duties.Duties.{IsFirstFailing, Meets, MeetsSent, duties}
+use Rattle.facts.specs.transfer.Edges.{Edge, edges}
 use Rattle.seq_program.specs.Requests.{Request, request_in}
-use Rattle.facts.specs.Rows.{Row}
-use Rattle.facts.specs.Ticks.{worst_ticks}
-use Rattle.facts.specs.TimedEdges.{timed}
-use Rattle.table_check.specs.ByPlace.{MeetsAll}
+use Rattle.facts.specs.domain.Rows.{Row}
+use Rattle.facts.specs.transfer.Ticks.{worst_ticks}
+use Rattle.facts.specs.transfer.TimedEdges.{timed}
+use Rattle.table_check.specs.checker.ByPlace.{MeetsAll}
 use Rattle.table_check.specs.Tables.{Table, row_of}
 use Rattle.fact_search.specs.Searching.{AreEdgesAt}
 use Rattle.fact_search.proofs.Shared.Places.{none_some, some_same}

@@ -5,9 +5,9 @@ use Rattle.board.specs.Boards.{Board}
 use Rattle.seq_program.specs.declared.instr.Instr.{Instr}
 use Rattle.seq_program.specs.declared.instr.Instr.TheVariants as instr
 use Rattle.seq_program.specs.Valid.{IsInstr, IsProgram, IsOnBoard, IsInstrOn}
-use Rattle.facts.specs.declared.rule.Rule.TheVariants.{K1}
-use Rattle.facts.specs.Rows.{Row}
-use Rattle.facts.specs.Duties.{Meets}
+use Rattle.facts.specs.declared.duties.rule.Rule.TheVariants.{K1}
+use Rattle.facts.specs.domain.Rows.{Row}
+use Rattle.facts.specs.duties.Duties.{Meets}
 use Rattle.fact_search.proofs.Shared.Places.{all_at, within}
 
 on_board : (b : Board) (row : Row) (i : Instr) → Meets b row i K1

@@ -9,17 +9,17 @@ use Rattle.pmbus_table.specs.Protect.{is_protection}
 use Rattle.board.specs.Boards.{Board, Target}
 use Rattle.board.specs.Valid.{is_page_value}
 use Rattle.targets.specs.States.{IsTargetAt}
-use Rattle.facts.specs.declared.row.Row.{Row as CodeRow}
-use Rattle.facts.specs.declared.source.Source.{Source}
-use Rattle.facts.specs.declared.source.Source.TheVariants as source
-use Rattle.facts.specs.declared.span.Span.{Span}
-use Rattle.facts.specs.Covering.{CoversByPart, PagesCover, ProtectsCover}
+use Rattle.facts.specs.declared.domain.row.Row.{Row as CodeRow}
+use Rattle.facts.specs.declared.domain.source.Source.{Source}
+use Rattle.facts.specs.declared.domain.source.Source.TheVariants as source
+use Rattle.facts.specs.declared.domain.span.Span.{Span}
+use Rattle.facts.specs.domain.Covering.{CoversByPart, PagesCover, ProtectsCover}
 use Rattle.facts.specs.FactLaws.{IsShaped}
-use Rattle.facts.specs.Rows.{Row, IsRow, IsSource, AllCover, SetCovers, SpanCovers}
-use Rattle.facts.specs.Rows.{SourceCovers, SpansCover, RowCovers, most_ticks, row_view}
-use Rattle.facts.specs.Rows.{set_at, source_at, span_at}
-use Rattle.facts.specs.Sets.{Set, empty, is_page, is_protect, is_rail, page_bit, pages_in}
-use Rattle.facts.specs.Sets.{protect_bit, protects_in, rails_in}
+use Rattle.facts.specs.domain.Rows.{Row, IsRow, IsSource, AllCover, SetCovers, SpanCovers}
+use Rattle.facts.specs.domain.Rows.{SourceCovers, SpansCover, RowCovers, most_ticks, row_view}
+use Rattle.facts.specs.domain.Rows.{set_at, source_at, span_at}
+use Rattle.facts.specs.domain.Sets.{Set, empty, is_page, is_protect, is_rail, page_bit, pages_in}
+use Rattle.facts.specs.domain.Sets.{protect_bit, protects_in, rails_in}
 use Rattle.fact_search.specs.Searching.{IsJoined}
 use Rattle.fact_search.proofs.Shared.Places.{found, within, some_same, none_some}
 use Rattle.fact_search.proofs.Shared.Covers.{rows_cover, spans_from}

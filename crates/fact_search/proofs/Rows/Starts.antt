@@ -14,15 +14,15 @@ use Rattle.std.specs.Prelude.{slice_index, slice_index_or, ◌==◌}
 use Rattle.pmbus_table.specs.Protect.{is_protection}
 use Rattle.board.specs.Boards.{Board, Target}
 use Rattle.board.specs.Valid.{IsBoard, IsTarget, is_page_value}
-use Rattle.facts.specs.declared.row.Row.{Row as CodeRow}
-use Rattle.facts.specs.declared.source.Source.{Source}
-use Rattle.facts.specs.declared.source.Source.TheVariants as source
-use Rattle.facts.specs.declared.span.Span.{Span}
-use Rattle.facts.specs.Duties.{one}
-use Rattle.facts.specs.Rows.{IsRow, IsSetOf, IsSource, IsSpan, InSpans, SpansCover}
-use Rattle.facts.specs.Rows.{no_span, row_view, set_at, source_at}
-use Rattle.facts.specs.Sets.{Set, empty, gains, is_page, is_protect, pages_in, protects_in}
-use Rattle.facts.specs.Sets.{rails_in, set_of, with_values}
+use Rattle.facts.specs.declared.domain.row.Row.{Row as CodeRow}
+use Rattle.facts.specs.declared.domain.source.Source.{Source}
+use Rattle.facts.specs.declared.domain.source.Source.TheVariants as source
+use Rattle.facts.specs.declared.domain.span.Span.{Span}
+use Rattle.facts.specs.duties.Duties.{one}
+use Rattle.facts.specs.domain.Rows.{IsRow, IsSetOf, IsSource, IsSpan, InSpans, SpansCover}
+use Rattle.facts.specs.domain.Rows.{no_span, row_view, set_at, source_at}
+use Rattle.facts.specs.domain.Sets.{Set, empty, gains, is_page, is_protect, pages_in, protects_in}
+use Rattle.facts.specs.domain.Sets.{rails_in, set_of, with_values}
 use Rattle.fact_search.specs.Starting.{HoldsJust, HoldEachStart, IsStartRow}
 use Rattle.fact_search.proofs.Shared.Places.{at_replicate, found, is_target, none_some, some_same}
 

@@ -6,8 +6,8 @@ use Rattle.std.proofs.lemmas.Bool.{or_left, or_right, or_cases, and_from, and_pa
 use Rattle.std.proofs.lemmas.Bool.Decides.{nat_tests}
 use Rattle.std.proofs.lemmas.Nat.Bits.{bit_at_and, bit_at_or, bit_at-lt}
 use Rattle.wires.specs.Bits.{bit}
-use Rattle.facts.specs.Rows.{AllCover, SetCovers, set_at}
-use Rattle.facts.specs.Sets.{Set}
+use Rattle.facts.specs.domain.Rows.{AllCover, SetCovers, set_at}
+use Rattle.facts.specs.domain.Sets.{Set}
 
 -- the values of a kind whose places are in a word
 abbrev pub placed : (ℕ → Bool) → (ℕ → ℕ) → ℕ → Set

@@ -5,8 +5,8 @@ use Rattle.std.specs.Prelude.{slice_index_or, slice_set}
 use Rattle.std.specs.List.{AllByRecursion}
 use Rattle.std.proofs.lemmas.List.Elements.{All-from_recursion, recursion_from_All}
 use Rattle.board.specs.Boards.{Board}
-use Rattle.facts.specs.declared.span.Span.{Span}
-use Rattle.facts.specs.Rows.{Row, IsRow, RowCovers, SpanCovers, SpansCover, no_span}
+use Rattle.facts.specs.declared.domain.span.Span.{Span}
+use Rattle.facts.specs.domain.Rows.{Row, IsRow, RowCovers, SpanCovers, SpansCover, no_span}
 use Rattle.fact_search.proofs.Rows.Joined.{spans_length, span_at_covers}
 
 -- one span more

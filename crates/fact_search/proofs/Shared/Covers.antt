@@ -4,14 +4,15 @@ use Rattle.std.proofs.Common.{arith, map, sym}
 use Rattle.std.specs.Prelude.{replicate, slice_index}
 use Rattle.std.proofs.lemmas.List.{length-map}
 use Rattle.board.specs.Boards.{Board}
-use Rattle.facts.specs.declared.row.Row.{Row as CodeRow}
-use Rattle.facts.specs.declared.source.Source.{Source}
-use Rattle.facts.specs.declared.span.Span.{Span}
-use Rattle.facts.specs.Covering.{CoversByPart, IsSized}
+use Rattle.facts.specs.declared.domain.row.Row.{Row as CodeRow}
+use Rattle.facts.specs.declared.domain.source.Source.{Source}
+use Rattle.facts.specs.declared.domain.span.Span.{Span}
+use Rattle.facts.specs.domain.Covering.{CoversByPart, IsSized}
 use Rattle.facts.specs.FactLaws.{IsShaped, Wider, without_ticks}
-use Rattle.facts.specs.Rows.{Row, IsRow, AllCover, SetCovers, SpanCovers, SpansCover, SourceCovers}
-use Rattle.facts.specs.Rows.{RowCovers, most_ticks, row_view, set_at, source_at}
-use Rattle.facts.specs.Sets.{Set, pages_in, protects_in}
+use Rattle.facts.specs.domain.Rows.{Row, IsRow, AllCover, SetCovers, SpanCovers, SpansCover}
+use Rattle.facts.specs.domain.Rows.{SourceCovers}
+use Rattle.facts.specs.domain.Rows.{RowCovers, most_ticks, row_view, set_at, source_at}
+use Rattle.facts.specs.domain.Sets.{Set, pages_in, protects_in}
 
 pub spans_self : (ss : List Span) → SpansCover ss ss
 spans_self [] = tt

@@ -2,8 +2,8 @@
 use Rattle.std.proofs.Common.{◌≡◌, ◌<◌, ℕ, zero, suc, List, [], ◌∷◌, ◌++◌, length, refl, ap}
 use Rattle.std.proofs.Common.{arith}
 use Rattle.std.specs.Prelude.{slice_set, Option, Some, None, option_map}
-use Rattle.facts.specs.declared.row.Row.{Row as CodeRow}
-use Rattle.facts.specs.Rows.{Row, row_view}
+use Rattle.facts.specs.declared.domain.row.Row.{Row as CodeRow}
+use Rattle.facts.specs.domain.Rows.{Row, row_view}
 use Rattle.table_check.specs.Tables.{rows_view, Table, row_of}
 use Rattle.fact_search.proofs.Shared.Places.{none_some}
 

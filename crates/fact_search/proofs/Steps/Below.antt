@@ -3,15 +3,15 @@ use Rattle.std.proofs.Common.{◌≡◌, ◌<◌, ℕ, List, length, ap, sym, �
 use Rattle.std.specs.Prelude.{slice_get, Some}
 use Rattle.board.specs.Boards.{Board}
 use Rattle.seq_program.specs.declared.instr.Instr.{Instr}
-use Rattle.facts.specs.declared.rule.Rule.TheVariants.{K1}
-use Rattle.facts.specs.Duties.{Meets}
-use Rattle.facts.specs.Edges.{Edge, edges}
+use Rattle.facts.specs.declared.duties.rule.Rule.TheVariants.{K1}
+use Rattle.facts.specs.duties.Duties.{Meets}
+use Rattle.facts.specs.transfer.Edges.{Edge, edges}
 use Rattle.facts.specs.FactLaws.{IsShaped}
-use Rattle.facts.specs.Rows.{Row, IsRow}
+use Rattle.facts.specs.domain.Rows.{Row, IsRow}
 use Rattle.facts.specs.Steps.{HasEdge}
-use Rattle.table_check.specs.ByPlace.{MeetsAll}
-use Rattle.table_check.specs.Obligations.{IsInductive}
-use Rattle.table_check.specs.Rules.{IsCovered}
+use Rattle.table_check.specs.checker.ByPlace.{MeetsAll}
+use Rattle.table_check.specs.checker.Obligations.{IsInductive}
+use Rattle.table_check.specs.checker.Rules.{IsCovered}
 use Rattle.table_check.specs.Tables.{Table, row_of}
 use Rattle.fact_search.specs.Forward.{IsForward}
 use Rattle.fact_search.specs.Searching.{IsBelow, Premises}

@@ -6,8 +6,8 @@ use Rattle.std.proofs.lemmas.List.{length-append}
 use Rattle.std.specs.Prelude.{Option, Some, None}
 use Rattle.board.specs.Boards.{Board}
 use Rattle.seq_program.specs.declared.instr.Instr.{Instr}
-use Rattle.facts.specs.declared.row.Row.{Row as CodeRow}
-use Rattle.facts.specs.Rows.{Row, IsRow, RowCovers, row_view}
+use Rattle.facts.specs.declared.domain.row.Row.{Row as CodeRow}
+use Rattle.facts.specs.domain.Rows.{Row, IsRow, RowCovers, row_view}
 use Rattle.table_check.specs.Tables.{rows_view, Table, row_of}
 use Rattle.fact_search.specs.Starting.{IsStartRow}
 use Rattle.fact_search.specs.Searching.{IsSearched, Premises, is_changed}

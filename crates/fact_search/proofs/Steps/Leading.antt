@@ -8,7 +8,7 @@ use Rattle.std.specs.Prelude.{slice_set, replicate, Vec}
 use Rattle.std.specs.declared.alloc.Global.{Global}
 use Rattle.board.specs.Boards.{Board}
 use Rattle.seq_program.specs.declared.instr.Instr.{Instr}
-use Rattle.facts.specs.Edges.{Edge}
+use Rattle.facts.specs.transfer.Edges.{Edge}
 use Rattle.table_check.specs.Tables.{Table, row_of}
 use Rattle.fact_search.specs.Leading.{AreLeadsAt, IsLed, IsLedTable, leads_at, leads_of}
 use Rattle.fact_search.specs.Leading.{leads_view}

@@ -5,11 +5,11 @@ use Rattle.std.proofs.lemmas.Bool.{cases_eq}
 use Rattle.std.proofs.lemmas.Bool.Decides.{nat_tests}
 use Rattle.std.specs.Prelude.{slice_set, nat_le, Option, Some, None}
 use Rattle.board.specs.Boards.{Board}
-use Rattle.facts.specs.declared.row.Row.{Row as CodeRow}
-use Rattle.facts.specs.Edges.{edge}
+use Rattle.facts.specs.declared.domain.row.Row.{Row as CodeRow}
+use Rattle.facts.specs.transfer.Edges.{edge}
 use Rattle.facts.specs.FactLaws.{without_ticks}
-use Rattle.facts.specs.Rows.{Row, IsRow, RowCovers, row_view}
-use Rattle.table_check.specs.Looking.{HasRowsOf}
+use Rattle.facts.specs.domain.Rows.{Row, IsRow, RowCovers, row_view}
+use Rattle.table_check.specs.checker.Looking.{HasRowsOf}
 use Rattle.table_check.specs.Tables.{rows_view, Table, row_of}
 use Rattle.fact_search.specs.Searching.{IsGrown, IsLearnt}
 use Rattle.fact_search.proofs.Shared.Covers.{covers_self, no_ticks_cover}

@@ -6,20 +6,21 @@ use Rattle.std.proofs.lemmas.List.{get_or-set_same, get_or-set_other}
 use Rattle.std.specs.Prelude.{min, slice_set, replicate, Some}
 use Rattle.board.specs.Boards.{Board}
 use Rattle.seq_program.specs.declared.instr.Instr.{Instr}
-use Rattle.facts.specs.declared.row.Row.{Row as CodeRow}
-use Rattle.facts.specs.declared.rule.Rule.TheVariants.{K1}
-use Rattle.facts.specs.declared.source.Source.{Source}
-use Rattle.facts.specs.declared.source.Source.TheVariants as source
-use Rattle.facts.specs.declared.span.Span.{Span}
-use Rattle.facts.specs.Edges.{Edge, edge, edges}
-use Rattle.facts.specs.Rows.{Row, RowCovers, InSpans, SpansCover, SourceCovers, row_view, source_at}
-use Rattle.facts.specs.Starts.{HoldsStarts}
+use Rattle.facts.specs.declared.domain.row.Row.{Row as CodeRow}
+use Rattle.facts.specs.declared.duties.rule.Rule.TheVariants.{K1}
+use Rattle.facts.specs.declared.domain.source.Source.{Source}
+use Rattle.facts.specs.declared.domain.source.Source.TheVariants as source
+use Rattle.facts.specs.declared.domain.span.Span.{Span}
+use Rattle.facts.specs.transfer.Edges.{Edge, edge, edges}
+use Rattle.facts.specs.domain.Rows.{Row, RowCovers, InSpans, SpansCover, SourceCovers, row_view}
+use Rattle.facts.specs.domain.Rows.{source_at}
+use Rattle.facts.specs.well_formed.Starts.{HoldsStarts}
 use Rattle.facts.specs.Steps.{HasEdge}
-use Rattle.facts.specs.Ticks.{worst_ticks}
-use Rattle.facts.specs.TimedEdges.{timed}
-use Rattle.facts.specs.Ways.{timed_view}
-use Rattle.table_check.specs.Looking.{HasRowsOf}
-use Rattle.table_check.specs.Rules.{IsCovered, Starts}
+use Rattle.facts.specs.transfer.Ticks.{worst_ticks}
+use Rattle.facts.specs.transfer.TimedEdges.{timed}
+use Rattle.facts.specs.transfer.Ways.{timed_view}
+use Rattle.table_check.specs.checker.Looking.{HasRowsOf}
+use Rattle.table_check.specs.checker.Rules.{IsCovered, Starts}
 use Rattle.table_check.specs.Tables.{Table, row_of}
 use Rattle.fact_search.specs.Forward.{IsForward}
 use Rattle.fact_search.specs.Searching.{AreEdgesAt, IsBelow, IsFollowed, IsLearnt, IsSearched}

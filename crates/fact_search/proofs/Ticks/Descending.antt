@@ -6,7 +6,7 @@ use Rattle.std.proofs.lemmas.List.{get_or-set_same, get_or-set_other, length-rep
 use Rattle.std.specs.Prelude.{slice_get, slice_index, slice_set, Some}
 use Rattle.board.specs.Boards.{Board}
 use Rattle.seq_program.specs.declared.instr.Instr.{Instr}
-use Rattle.facts.specs.Edges.{edges}
+use Rattle.facts.specs.transfer.Edges.{edges}
 use Rattle.facts.specs.Steps.{HasEdge}
 use Rattle.table_check.specs.Tables.{Table, row_of}
 use Rattle.fact_search.specs.Forward.{IsForward}

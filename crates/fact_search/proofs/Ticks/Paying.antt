@@ -6,11 +6,11 @@ use Rattle.std.proofs.lemmas.List.Elements.{All-from_recursion, recursion_from_A
 use Rattle.std.specs.Prelude.{slice_index}
 use Rattle.board.specs.Boards.{Board}
 use Rattle.seq_program.specs.declared.instr.Instr.{Instr}
-use Rattle.facts.specs.Edges.{Edge, edges}
-use Rattle.facts.specs.Rows.{Row}
+use Rattle.facts.specs.transfer.Edges.{Edge, edges}
+use Rattle.facts.specs.domain.Rows.{Row}
 use Rattle.facts.specs.Steps.{HasEdge}
-use Rattle.facts.specs.Ticks.{worst_ticks}
-use Rattle.facts.specs.TimedEdges.{timed}
+use Rattle.facts.specs.transfer.Ticks.{worst_ticks}
+use Rattle.facts.specs.transfer.TimedEdges.{timed}
 use Rattle.table_check.specs.Tables.{Table}
 use Rattle.fact_search.specs.Leading.{AreLeadsAt, leads_of}
 use Rattle.fact_search.specs.Searching.{Premises}

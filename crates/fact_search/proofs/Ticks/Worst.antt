@@ -17,8 +17,9 @@ use Rattle.smbus.specs.declared.message.Form.{Form}
 use Rattle.smbus.specs.declared.message.Form.TheVariants as form
 use Rattle.smbus.specs.SlotCounts.{most_slots}
 use Rattle.seq_program.specs.Requests.{Transaction, Request, request_in, code_in, block_count}
-use Rattle.facts.specs.Allowing.{lengths_at}
-use Rattle.facts.specs.Ticks.{frame_ticks, longest_slots, ticks_of, other_ticks, worst_ticks}
+use Rattle.facts.specs.duties.Allowing.{lengths_at}
+use Rattle.facts.specs.transfer.Ticks.{frame_ticks, longest_slots, ticks_of, other_ticks}
+use Rattle.facts.specs.transfer.Ticks.{worst_ticks}
 use Rattle.fact_search.proofs.Shared.Places.{is_target, none_some, some_same}
 
 -- the entry that is found is one of the list

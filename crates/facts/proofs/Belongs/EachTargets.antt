@@ -6,7 +6,7 @@ use Rattle.std.proofs.lemmas.Option.{slice_get-get_or}
 use Rattle.std.proofs.lemmas.Bool.{cases_lt}
 use Rattle.std.proofs.lemmas.Bool.Decides.{nat_tests}
 use Rattle.board.specs.Boards.{Target, Board}
-use Rattle.facts.specs.Shapes.{EachTarget, EachBefore}
+use Rattle.facts.specs.well_formed.Shapes.{EachTarget, EachBefore}
 
 pub before_none : (b : Board) (Holds : ℕ → Target → Type 0) → EachBefore 0 b Holds
 unfolding EachBefore

@@ -7,13 +7,13 @@ use Rattle.std.proofs.lemmas.List.{length-map}
 use Rattle.std.proofs.lemmas.List.Elements.{All-from_recursion}
 use Rattle.std.proofs.lemmas.Option.{slice_get_within}
 use Rattle.board.specs.Boards.{Board, Target}
-use Rattle.facts.specs.declared.row.Row.{Row as CodeRow}
-use Rattle.facts.specs.declared.span.Span.{Span}
-use Rattle.facts.specs.declared.source.Source.TheVariants as source
-use Rattle.facts.specs.Sets.{pages_in, protects_in}
-use Rattle.facts.specs.Rows.{IsRow, IsSource, row_view, no_span, most_ticks}
-use Rattle.facts.specs.Shapes.{EachTarget}
-use Rattle.facts.specs.Shapes.{IsShapedByPart}
+use Rattle.facts.specs.declared.domain.row.Row.{Row as CodeRow}
+use Rattle.facts.specs.declared.domain.span.Span.{Span}
+use Rattle.facts.specs.declared.domain.source.Source.TheVariants as source
+use Rattle.facts.specs.domain.Sets.{pages_in, protects_in}
+use Rattle.facts.specs.domain.Rows.{IsRow, IsSource, row_view, no_span, most_ticks}
+use Rattle.facts.specs.well_formed.Shapes.{EachTarget, IsSizedRow}
+use Rattle.facts.specs.well_formed.Shapes.{IsShapedByPart}
 
 by_index : {X : Type 0} (P : X → Type 0) (xs : List X) (d : X)
     → ((r : ℕ) → r < length xs → P (slice_index_or xs r d)) → AllByRecursion P xs
@@ -31,44 +31,43 @@ target_at [] i lt = absurd (omega (arith, lt))
 target_at (t ∷ ts) zero lt = (t, refl)
 target_at (t ∷ ts) (suc i) lt = target_at ts i (omega (arith, lt))
 
-pub shaped : (b : Board) (row : CodeRow) (x : Bool) → IsTrue x ↔ IsShapedByPart b row
+pub shaped : (b : Board) (row : CodeRow) (x : Bool) → IsSizedRow row
+    → IsTrue x ↔ IsShapedByPart b row
     → IsTrue x ↔ IsRow b (row_view row)
 unfolding EachTarget
-shaped b row x iff = (to, from)
+shaped b row x sized iff = (to, from)
   where
     to : IsTrue x → IsRow b (row_view row)
     to t =
         let h = iff.0 t in
-        let sized = h.0 in
-        let regs = h.5 in
-        let counters = h.7 in
-        let ends = h.8 in
+        let regs = h.4 in
+        let counters = h.6 in
+        let ends = h.7 in
         record {
-          page_sets = length-map row.pages.items pages_in ∙ h.1;
-          protect_sets = length-map row.protects.items protects_in ∙ h.2;
-          pages = λ i d at. (h.3 i d at).0;
+          page_sets = length-map row.pages.items pages_in ∙ h.0;
+          protect_sets = length-map row.protects.items protects_in ∙ h.1;
+          pages = λ i d at. (h.2 i d at).0;
           protects = λ i lt.
-              let d = target_at b.targets i lt in (h.3 i d.0 d.1).1;
-          good = h.4;
+              let d = target_at b.targets i lt in (h.2 i d.0 d.1).1;
+          good = h.3;
           reg_count = sized.0;
           regs = λ r lt. (regs r no_span (omega (arith, sized.0, lt))).0;
           reg_range = λ r lt. (regs r no_span (omega (arith, sized.0, lt))).1;
           source_count = sized.1;
-          sources = λ r lt. h.6 r source.None (omega (arith, sized.1, lt));
+          sources = λ r lt. h.5 r source.None (omega (arith, sized.1, lt));
           counter_count = sized.2;
           counters = λ r lt. (
             (counters r no_span (omega (arith, sized.2, lt))).0,
             ends r no_span (omega (arith, sized.2, lt)),
           );
-          base = h.9;
+          base = h.8;
           coeff_count = sized.3;
-          coeffs = λ r lt. h.10 r 0 (omega (arith, sized.3, lt));
+          coeffs = λ r lt. h.9 r 0 (omega (arith, sized.3, lt));
         }
 
     from : IsRow b (row_view row) → IsTrue x
     from h =
         iff.1 (
-          (h.reg_count, h.source_count, h.counter_count, h.coeff_count),
           sym (length-map row.pages.items pages_in) ∙ h.page_sets,
           sym (length-map row.protects.items protects_in) ∙ h.protect_sets,
           (λ i d at. (h.pages i d at, h.protects i (slice_get_within b.targets i d at))),

@@ -4,13 +4,13 @@ use Rattle.std.proofs.Common.{IsTrue, Bool, replicate, subst, sym}
 use Rattle.std.specs.List.{AllByRecursion}
 use Rattle.std.proofs.lemmas.List.Elements.{recursion_from_All, All-from_recursion}
 use Rattle.board.specs.Boards.{Board}
-use Rattle.facts.specs.declared.row.Row.{Row as CodeRow}
-use Rattle.facts.specs.declared.span.Span.{Span}
-use Rattle.facts.specs.declared.source.Source.{Source}
-use Rattle.facts.specs.declared.source.Source.TheVariants as source
-use Rattle.facts.specs.Rows.{InSpans, source_at, row_view}
-use Rattle.facts.specs.Shapes.{EachTarget}
-use Rattle.facts.specs.Starts.{HoldsStarts, StartsByPart}
+use Rattle.facts.specs.declared.domain.row.Row.{Row as CodeRow}
+use Rattle.facts.specs.declared.domain.span.Span.{Span}
+use Rattle.facts.specs.declared.domain.source.Source.{Source}
+use Rattle.facts.specs.declared.domain.source.Source.TheVariants as source
+use Rattle.facts.specs.domain.Rows.{InSpans, source_at, row_view}
+use Rattle.facts.specs.well_formed.Shapes.{EachTarget, IsSizedRow}
+use Rattle.facts.specs.well_formed.Starts.{HoldsStarts, StartsByPart}
 
 zeros_in : (ss : List Span) → AllByRecursion (λ s. s.lo ≡ 0) ss
     → InSpans ss (replicate (length ss) 0)
@@ -47,39 +47,29 @@ none_named ss x iff = (
   (λ h. iff.1 (All-from_recursion (λ (s : Source). s ≡ source.None) ss (none_of ss h))),
 )
 
-pub starts : (b : Board) (row : CodeRow) (x : Bool) → IsTrue x ↔ StartsByPart b row
-    → IsTrue x ↔ HoldsStarts b (row_view row)
+pub starts : (b : Board) (row : CodeRow) (x : Bool) → IsSizedRow row
+    → IsTrue x ↔ StartsByPart b row → IsTrue x ↔ HoldsStarts b (row_view row)
 unfolding EachTarget
-starts b row x iff = (to, from)
+starts b row x sized iff = (to, from)
   where
     to : IsTrue x → HoldsStarts b (row_view row)
     to t =
         let h = iff.0 t in
         record {
-          pages = λ i d at. (h.2 i d at).0;
-          protects = λ i d at. (h.2 i d at).1;
-          good = λ d. h.3 d (omega arith);
-          regs = subst (λ n. InSpans row.regs (replicate n 0)) h.0 h.4;
-          counters = subst (λ n. InSpans row.counters (replicate n 0)) h.1 h.6;
-          sources = h.5;
+          pages = λ i d at. (h.0 i d at).0;
+          protects = λ i d at. (h.0 i d at).1;
+          good = λ d. h.1 d (omega arith);
+          regs = subst (λ n. InSpans row.regs (replicate n 0)) sized.0 h.2;
+          counters = subst (λ n. InSpans row.counters (replicate n 0)) sized.2 h.4;
+          sources = h.3;
         }
-
-    length_of : (ss : List Span) (n : ℕ) → InSpans ss (replicate n 0) → length ss ≡ n
-    length_of [] zero h = refl
-    length_of [] (suc n) h = absurd h
-    length_of (s ∷ ss) zero h = absurd h
-    length_of (s ∷ ss) (suc n) h = let e = length_of ss n h.1 in omega (arith, e)
 
     from : HoldsStarts b (row_view row) → IsTrue x
     from h =
-        let eight : length row.regs ≡ 8 = length_of row.regs 8 h.regs in
-        let four : length row.counters ≡ 4 = length_of row.counters 4 h.counters in
         iff.1 (
-          eight,
-          four,
           (λ i d at. (h.pages i d at, h.protects i d at)),
           (λ d le. h.good d),
-          subst (λ n. InSpans row.regs (replicate n 0)) (sym eight) h.regs,
+          subst (λ n. InSpans row.regs (replicate n 0)) (sym sized.0) h.regs,
           h.sources,
-          subst (λ n. InSpans row.counters (replicate n 0)) (sym four) h.counters,
+          subst (λ n. InSpans row.counters (replicate n 0)) (sym sized.2) h.counters,
         )

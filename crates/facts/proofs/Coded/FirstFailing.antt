@@ -10,11 +10,12 @@ use Rattle.pmbus_table.specs.Commands.{is_paged, counts_as_write}
 use Rattle.board.specs.Boards.{Board}
 use Rattle.seq_program.specs.declared.instr.Instr.{Instr}
 use Rattle.seq_program.specs.Requests.{Transaction, Request, request_in}
-use Rattle.facts.specs.declared.rule.Rule.{Rule}
-use Rattle.facts.specs.declared.rule.Rule.TheVariants.{K1, K2, K3, K4, K5}
-use Rattle.facts.specs.Rows.{Row}
-use Rattle.facts.specs.Duties.{Meets, MeetsAt, MeetsSent, ReadsOnePage, IsUnprotected, duties}
-use Rattle.facts.specs.Duties.{IsFirstFailing}
+use Rattle.facts.specs.declared.duties.rule.Rule.{Rule}
+use Rattle.facts.specs.declared.duties.rule.Rule.TheVariants.{K1, K2, K3, K4, K5}
+use Rattle.facts.specs.domain.Rows.{Row}
+use Rattle.facts.specs.duties.Duties.{Meets, MeetsAt, MeetsSent, ReadsOnePage, IsUnprotected}
+use Rattle.facts.specs.duties.Duties.{duties}
+use Rattle.facts.specs.duties.Duties.{IsFirstFailing}
 
 false_true : false ≡ true → ⊥
 false_true e = grind (arith, nat_tests)

@@ -3,8 +3,8 @@ use Rattle.std.proofs.Common.{◌≡◌, ◌≤◌, ◌<◌, ◌+◌, ℕ, zero,
 use Rattle.std.proofs.Common.{length, get_or, take}
 use Rattle.std.proofs.lemmas.List.{take_all}
 use Rattle.std.proofs.Common.{slice_set, refl, sym, ap, subst, arith}
-use Rattle.facts.specs.Rows.{AllCover}
-use Rattle.facts.specs.Joining.{IsJoin, AreJoined}
+use Rattle.facts.specs.domain.Rows.{AllCover}
+use Rattle.facts.specs.domain.Joining.{IsJoin, AreJoined}
 
 -- the parts before an index are joined, and the others are as they were
 abbrev pub AreJoinedTo : {P : Type 0} → (P → P → Type 0) → (P → P → Type 0) → ℕ → List P → List P

@@ -6,16 +6,16 @@ use Rattle.std.proofs.lemmas.List.Elements.{All-get_or}
 use Rattle.std.proofs.lemmas.Option.{slice_get_within, get_or_from_slice_get, slice_get-get_or}
 use Rattle.pmbus_table.specs.Voltage.{IsWithin}
 use Rattle.board.specs.Boards.{Rail, Target, Board}
-use Rattle.facts.specs.Sets.{Set, pages_in, rails_in}
-use Rattle.facts.specs.Rows.{Row}
+use Rattle.facts.specs.domain.Sets.{Set, pages_in, rails_in}
+use Rattle.facts.specs.domain.Rows.{Row}
 use Rattle.seq_program.specs.declared.instr.Written.{Written}
 use Rattle.seq_program.specs.declared.instr.Written.TheVariants as written
 use Rattle.seq_program.specs.Requests.{Value}
 use Rattle.pmbus_table.specs.Voltage.{carries_voltage}
-use Rattle.facts.specs.Duties.{may_select, written_span, IsWithinLimits}
-use Rattle.facts.specs.Duties.{SetsWithinLimits}
-use Rattle.facts.specs.Touching.{IsWithinLimit, HasGoodNeeds}
-use Rattle.facts.specs.declared.span.Span.{Span}
+use Rattle.facts.specs.duties.Duties.{may_select, written_span, IsWithinLimits}
+use Rattle.facts.specs.duties.Duties.{SetsWithinLimits}
+use Rattle.facts.specs.duties.Touching.{IsWithinLimit, HasGoodNeeds}
+use Rattle.facts.specs.declared.domain.span.Span.{Span}
 use Rattle.facts.proofs.Coded.Headed.{some_is}
 
 -- of each rail, by its index

@@ -1,13 +1,14 @@
 -- Sets of values by the places that stand for them in a word.
-use Rattle.std.proofs.Common.{◌≡◌, ◌<◌, ◌==◌, ◌||◌, ◌&&◌, not, ◌↔◌, ◌∙◌, inl, inr, ℕ, zero, suc}
+use Rattle.std.proofs.Common.{◌≡◌, ◌≢◌, ◌<◌, ◌≤◌, ◌==◌, ◌||◌, ◌&&◌, not, ◌↔◌, ◌∙◌, inl, inr, ℕ}
 use Rattle.std.proofs.Common.{IsTrue, Bool, true, false, bit_or, bit_and, ◌^◌, ap, sym, refl, subst}
 use Rattle.std.proofs.Common.{arith}
 use Rattle.std.proofs.lemmas.Bool.{cases_lt}
 use Rattle.std.proofs.lemmas.Bool.Decides.{nat_tests}
+use Rattle.std.proofs.Math.Nat.{pow-le-pow_right}
 use Rattle.wires.specs.Bits.{bit}
-use Rattle.facts.specs.Sets.{Set, gains, keeps, is_page, page_bit, is_rail, is_protect, protect_bit}
-use Rattle.facts.specs.Rows.{SetCovers}
-use Rattle.facts.proofs.Coded.Words.{no_bit, bit_joined, bit_met}
+use Rattle.facts.specs.domain.Sets.{Set, gains, keeps, HasValue}
+use Rattle.facts.specs.domain.Rows.{SetCovers}
+use Rattle.facts.proofs.Coded.Words.{no_bit, some_bit, bit_joined, bit_met}
 
 -- the values of a kind whose places are in a set of places
 abbrev pub placed : (ℕ → Bool) → (ℕ → ℕ) → Set → Set
@@ -49,18 +50,16 @@ place_kept p f s value apart valid = λ j v.
     (λ t. same_test v value (f v) (f value) (apart v value t valid) (λ e. ap f e))
     j
 
--- a value for each place below so many
-pub record ValueAt (p : ℕ → Bool) (f : ℕ → ℕ) (n : ℕ) : Type 0 where
-  pub value : ℕ
-  pub valid : IsTrue (p value)
-  pub place : f value ≡ n
+-- values with a way back from their places are apart
+pub apart : (p : ℕ → Bool) (f g : ℕ → ℕ) → ((v : ℕ) → IsTrue (p v) → g (f v) ≡ v) → AreApart p f
+apart p f g back x y a b e = sym (back x a) ∙ ap g e ∙ back y b
 
 pub and_right : (p s : Bool) → IsTrue (p && s) → IsTrue s
 and_right true s t = t
 and_right false true t = refl
 and_right false false t = t
 
-and_left : (p s : Bool) → IsTrue (p && s) → IsTrue p
+pub and_left : (p s : Bool) → IsTrue (p && s) → IsTrue p
 and_left true s t = refl
 and_left false s t = t
 
@@ -72,10 +71,11 @@ pub differ : (b : Bool) → b ≡ false → IsTrue b → ⊥
 differ true e t = grind (arith, nat_tests)
 differ false e t = grind (arith, nat_tests)
 
-pub place_covers : (w : ℕ) (p : ℕ → Bool) (f : ℕ → ℕ) (a b : ℕ) → b < 2 ^ w
-    → ((n : ℕ) → n < w → ValueAt p f n)
+-- with a value at each place below so many
+pub place_covers : (w : ℕ) (p : ℕ → Bool) (f g : ℕ → ℕ) (a b : ℕ) → b < 2 ^ w
+    → ((n : ℕ) → n < w → IsTrue (p (g n))) → ((n : ℕ) → n < w → f (g n) ≡ n)
     → SetCovers (bit a) (bit b) ↔ SetCovers (placed p f (bit a)) (placed p f (bit b))
-place_covers w p f a b small values = (from, to)
+place_covers w p f g a b small valid stays = (from, to)
   where
     from : SetCovers (bit a) (bit b) → SetCovers (placed p f (bit a)) (placed p f (bit b))
     from c v t =
@@ -85,10 +85,9 @@ place_covers w p f a b small values = (from, to)
     to : SetCovers (placed p f (bit a)) (placed p f (bit b)) → SetCovers (bit a) (bit b)
     to c n t = elim (cases_lt n w) [
       | inl few ↦
-          let v = values n few in
-          subst (λ x. IsTrue (bit a x)) v.place
-          (and_right (p v.value) (bit a (f v.value)) (c v.value (and_both (p v.value)
-          (bit b (f v.value)) v.valid (subst (λ x. IsTrue (bit b x)) (sym v.place) t))))
+          subst (λ x. IsTrue (bit a x)) (stays n few)
+          (and_right (p (g n)) (bit a (f (g n))) (c (g n) (and_both (p (g n))
+          (bit b (f (g n))) (valid n few) (subst (λ x. IsTrue (bit b x)) (sym (stays n few)) t))))
       | inr many ↦ absurd (differ (bit b n) (no_bit w b n small many) t)
     ]
 
@@ -96,37 +95,10 @@ either : (p s t : Bool) → (p && (s || t)) ≡ ((p && s) || (p && t))
 either true s t = refl
 either false s t = refl
 
-pub place_joined : (p : ℕ → Bool) (f : ℕ → ℕ) (a b : ℕ)
+place_joined : (p : ℕ → Bool) (f : ℕ → ℕ) (a b : ℕ)
     → placed p f (bit (bit_or a b)) ≡ (λ v. placed p f (bit a) v || placed p f (bit b) v)
 place_joined p f a b =
     ap (placed p f) (bit_joined a b) ∙ (λ j v. either (p v) (bit a (f v)) (bit b (f v)) j)
-
--- pages
-pub pages_apart : AreApart is_page page_bit
-pages_apart x y a b e = grind (arith, nat_tests)
-
-pub page_at : (n : ℕ) → n < 33 → ValueAt is_page page_bit n
-page_at n lt = elim (cases_lt n 32) [
-  | inl few ↦ record { value = n; valid = low n few; place = low_place n few }
-  | inr last ↦ record { value = 255; valid = refl; place = omega (arith, last, lt) }
-]
-  where
-    low : (n : ℕ) → n < 32 → IsTrue (is_page n)
-    low n few = grind (arith, nat_tests)
-
-    low_place : (n : ℕ) → n < 32 → page_bit n ≡ n
-    low_place n few = grind (arith, nat_tests)
-
--- protections
-pub protects_apart : AreApart is_protect protect_bit
-protects_apart x y a b e = grind (arith, nat_tests)
-
-pub protect_at : (n : ℕ) → n < 4 → ValueAt is_protect protect_bit n
-protect_at zero lt = record { value = 0x00; valid = refl; place = refl }
-protect_at (suc zero) lt = record { value = 0x20; valid = refl; place = refl }
-protect_at (suc (suc zero)) lt = record { value = 0x40; valid = refl; place = refl }
-protect_at (suc (suc (suc zero))) lt = record { value = 0x80; valid = refl; place = refl }
-protect_at (suc (suc (suc (suc n)))) lt = absurd (omega arith)
 
 -- the goals of the code of a set, whose fields are its word
 pub with_is : (p : ℕ → Bool) (f : ℕ → ℕ) (inside now r v k : ℕ) → AreApart p f → inside ≡ now
@@ -143,15 +115,40 @@ without_is p f inside now r v k apart e q valid h =
     ap (placed p f) (h ∙ ap (λ y. keeps (bit y) (λ x. not (x == k))) e
     ∙ ap (λ y. keeps (bit now) (λ x. not (x == y))) q) ∙ place_kept p f (bit now) v apart valid
 
-pub covers_is : (w : ℕ) (p : ℕ → Bool) (f : ℕ → ℕ) (r : Bool) (a b x y : ℕ)
-    → ((n : ℕ) → n < w → ValueAt p f n) → a ≡ x → b ≡ y → b < 2 ^ w
+pub covers_is : (w : ℕ) (p : ℕ → Bool) (f g : ℕ → ℕ) (r : Bool) (a b x y : ℕ)
+    → ((n : ℕ) → n < w → IsTrue (p (g n))) → ((n : ℕ) → n < w → f (g n) ≡ n)
+    → a ≡ x → b ≡ y → b < 2 ^ w
     → IsTrue r ↔ SetCovers (bit a) (bit b)
     → IsTrue r ↔ SetCovers (placed p f (bit x)) (placed p f (bit y))
-covers_is w p f r a b x y values e q small h =
-    let k = place_covers w p f a b small values in
+covers_is w p f g r a b x y valid stays e q small h =
+    let k = place_covers w p f g a b small valid stays in
     subst (λ z. IsTrue r ↔ SetCovers (placed p f (bit x)) (placed p f (bit z))) q
     (subst (λ z. IsTrue r ↔ SetCovers (placed p f (bit z)) (placed p f (bit b))) e
     ((λ t. k.0 (h.0 t)), (λ c. h.1 (k.1 c))))
+
+-- unions, and what is in both
+pub union_is : (p : ℕ → Bool) (f : ℕ → ℕ) (a b x y r : ℕ) → a ≡ x → b ≡ y → r ≡ bit_or a b
+    → placed p f (bit r) ≡ (λ v. placed p f (bit x) v || placed p f (bit y) v)
+union_is p f a b x y r e q h =
+    ap (λ n. placed p f (bit n)) h ∙ place_joined p f a b
+    ∙ ap (λ n v. placed p f (bit n) v || placed p f (bit b) v) e
+    ∙ ap (λ n v. placed p f (bit x) v || placed p f (bit n) v) q
+
+both : (p s t : Bool) → (p && (s && t)) ≡ ((p && s) && (p && t))
+both true s t = refl
+both false s t = refl
+
+place_met : (p : ℕ → Bool) (f : ℕ → ℕ) (a b : ℕ)
+    → placed p f (bit (bit_and a b)) ≡ (λ v. placed p f (bit a) v && placed p f (bit b) v)
+place_met p f a b =
+    ap (placed p f) (bit_met a b) ∙ (λ j v. both (p v) (bit a (f v)) (bit b (f v)) j)
+
+pub common_is : (p : ℕ → Bool) (f : ℕ → ℕ) (a b x y r : ℕ) → a ≡ x → b ≡ y → r ≡ bit_and a b
+    → placed p f (bit r) ≡ (λ v. placed p f (bit x) v && placed p f (bit y) v)
+common_is p f a b x y r e q h =
+    ap (λ n. placed p f (bit n)) h ∙ place_met p f a b
+    ∙ ap (λ n v. placed p f (bit n) v && placed p f (bit b) v) e
+    ∙ ap (λ n v. placed p f (bit x) v && placed p f (bit n) v) q
 
 or_left : (s t : Bool) → IsTrue s → IsTrue (s || t)
 or_left true t e = refl
@@ -165,70 +162,72 @@ or_one : (s t : Bool) (A : Type 0) → (IsTrue s → A) → (IsTrue t → A) →
 or_one true t A l r e = l refl
 or_one false t A l r e = r e
 
-pub joined_first : (p : ℕ → Bool) (f : ℕ → ℕ) (a b x : ℕ) → a ≡ x
-    → SetCovers (placed p f (bit (bit_or a b))) (placed p f (bit x))
-joined_first p f a b x e v t =
-    subst (λ (s : Set). IsTrue (s v)) (sym (place_joined p f a b))
-    (or_left (placed p f (bit a) v) (placed p f (bit b) v)
-    (subst (λ z. IsTrue (placed p f (bit z) v)) (sym e) t))
+-- a union is the least set that covers both
+pub union_first : (s t r : Set) → r ≡ (λ v. s v || t v) → SetCovers r s
+union_first s t r e v in' =
+    subst (λ (z : Set). IsTrue (z v)) (sym e) (or_left (s v) (t v) in')
 
-pub joined_second : (p : ℕ → Bool) (f : ℕ → ℕ) (a b y : ℕ) → b ≡ y
-    → SetCovers (placed p f (bit (bit_or a b))) (placed p f (bit y))
-joined_second p f a b y e v t =
-    subst (λ (s : Set). IsTrue (s v)) (sym (place_joined p f a b))
-    (or_right (placed p f (bit a) v) (placed p f (bit b) v)
-    (subst (λ z. IsTrue (placed p f (bit z) v)) (sym e) t))
+pub union_second : (s t r : Set) → r ≡ (λ v. s v || t v) → SetCovers r t
+union_second s t r e v in' =
+    subst (λ (z : Set). IsTrue (z v)) (sym e) (or_right (s v) (t v) in')
 
-pub joined_least : (p : ℕ → Bool) (f : ℕ → ℕ) (a b x y : ℕ) (u : Set) → a ≡ x → b ≡ y
-    → SetCovers u (placed p f (bit x)) → SetCovers u (placed p f (bit y))
-    → SetCovers u (placed p f (bit (bit_or a b)))
-joined_least p f a b x y u e q l r v t =
-    or_one (placed p f (bit a) v) (placed p f (bit b) v) (IsTrue (u v))
-    (λ i. l v (subst (λ z. IsTrue (placed p f (bit z) v)) e i))
-    (λ i. r v (subst (λ z. IsTrue (placed p f (bit z) v)) q i))
-    (subst (λ (s : Set). IsTrue (s v)) (place_joined p f a b) t)
+pub union_least : (s t r u : Set) → r ≡ (λ v. s v || t v) → SetCovers u s → SetCovers u t
+    → SetCovers u r
+union_least s t r u e left right v in' =
+    or_one (s v) (t v) (IsTrue (u v)) (left v) (right v)
+    (subst (λ (z : Set). IsTrue (z v)) e in')
 
-both : (p s t : Bool) → (p && (s && t)) ≡ ((p && s) && (p && t))
-both true s t = refl
-both false s t = refl
+-- what is in both is the most that both cover
+pub common_first : (s t r : Set) → r ≡ (λ v. s v && t v) → SetCovers s r
+common_first s t r e v in' =
+    and_left (s v) (t v) (subst (λ (z : Set). IsTrue (z v)) e in')
 
-pub place_met : (p : ℕ → Bool) (f : ℕ → ℕ) (a b : ℕ)
-    → placed p f (bit (bit_and a b)) ≡ (λ v. placed p f (bit a) v && placed p f (bit b) v)
-place_met p f a b =
-    ap (placed p f) (bit_met a b) ∙ (λ j v. both (p v) (bit a (f v)) (bit b (f v)) j)
+pub common_second : (s t r : Set) → r ≡ (λ v. s v && t v) → SetCovers t r
+common_second s t r e v in' =
+    and_right (s v) (t v) (subst (λ (z : Set). IsTrue (z v)) e in')
 
-pub met_first : (p : ℕ → Bool) (f : ℕ → ℕ) (a b x : ℕ) → a ≡ x
-    → SetCovers (placed p f (bit x)) (placed p f (bit (bit_and a b)))
-met_first p f a b x e v t =
-    subst (λ z. IsTrue (placed p f (bit z) v)) e
-    (and_left (placed p f (bit a) v) (placed p f (bit b) v)
-    (subst (λ (s : Set). IsTrue (s v)) (place_met p f a b) t))
+pub common_most : (s t r u : Set) → r ≡ (λ v. s v && t v) → SetCovers s u → SetCovers t u
+    → SetCovers r u
+common_most s t r u e left right v in' =
+    subst (λ (z : Set). IsTrue (z v)) (sym e) (and_both (s v) (t v) (left v in') (right v in'))
 
-pub met_second : (p : ℕ → Bool) (f : ℕ → ℕ) (a b y : ℕ) → b ≡ y
-    → SetCovers (placed p f (bit y)) (placed p f (bit (bit_and a b)))
-met_second p f a b y e v t =
-    subst (λ z. IsTrue (placed p f (bit z) v)) e
-    (and_right (placed p f (bit a) v) (placed p f (bit b) v)
-    (subst (λ (s : Set). IsTrue (s v)) (place_met p f a b) t))
-
-pub met_most : (p : ℕ → Bool) (f : ℕ → ℕ) (a b x y : ℕ) (u : Set) → a ≡ x → b ≡ y
-    → SetCovers (placed p f (bit x)) u → SetCovers (placed p f (bit y)) u
-    → SetCovers (placed p f (bit (bit_and a b))) u
-met_most p f a b x y u e q l r v t =
-    subst (λ (s : Set). IsTrue (s v)) (sym (place_met p f a b))
-    (and_both (placed p f (bit a) v) (placed p f (bit b) v)
-    (subst (λ z. IsTrue (placed p f (bit z) v)) (sym e) (l v t))
-    (subst (λ z. IsTrue (placed p f (bit z) v)) (sym q) (r v t)))
-
--- rails
-abbrev pub itself : ℕ → ℕ
-itself d = d
-
-pub rails_apart : AreApart is_rail itself
-rails_apart x y a b e = e
-
-pub rail_at : (n : ℕ) → n < 64 → ValueAt is_rail itself n
-rail_at n lt = record { value = n; valid = below n lt; place = refl }
+-- some value is in a set whose word isn't 0
+some_value : (w : ℕ) (p : ℕ → Bool) (f g : ℕ → ℕ) (bits : ℕ) → w ≤ 64
+    → ((n : ℕ) → n < w → IsTrue (p (g n))) → ((n : ℕ) → n < w → f (g n) ≡ n) → bits < 2 ^ w
+    → bits ≢ 0 → (v : ℕ) × IsTrue (placed p f (bit bits) v)
+some_value w p f g bits few valid stays small ne =
+    let most = pow-le-pow_right {n = 2} (omega arith) few in
+    let k = some_bit bits (omega (arith, ne)) (omega (arith, small, most)) in
+    let here = below k.0 k.1 in (
+      g k.0,
+      and_both (p (g k.0)) (bit bits (f (g k.0))) (valid k.0 here)
+          (subst (λ n. IsTrue (bit bits n)) (sym (stays k.0 here)) k.1),
+    )
   where
-    below : (n : ℕ) → n < 64 → IsTrue (is_rail n)
-    below n few = grind (arith, nat_tests)
+    below : (k : ℕ) → IsTrue (bit bits k) → k < w
+    below k t = elim (cases_lt k w) [
+      | inl lt ↦ lt
+      | inr ge ↦ absurd (differ (bit bits k) (no_bit w bits k small ge) t)
+    ]
+
+no_value : (p : ℕ → Bool) (f : ℕ → ℕ) (bits v : ℕ) → bits ≡ 0
+    → IsTrue (placed p f (bit bits) v) → ⊥
+no_value p f bits v e t =
+    differ (bit bits (f v)) (no_bit 0 bits (f v) (omega (arith, e)) (omega arith))
+    (and_right (p v) (bit bits (f v)) t)
+
+isnt_zero : (n : ℕ) → IsTrue (not (n == 0)) → n ≢ 0
+isnt_zero n t = grind (arith, nat_tests)
+
+not_zero : (n : ℕ) → n ≢ 0 → IsTrue (not (n == 0))
+not_zero n ne = grind (arith, nat_tests)
+
+pub has_some : (w : ℕ) (p : ℕ → Bool) (f g : ℕ → ℕ) (bits set : ℕ) → w ≤ 64
+    → ((n : ℕ) → n < w → IsTrue (p (g n))) → ((n : ℕ) → n < w → f (g n) ≡ n) → bits ≡ set
+    → bits < 2 ^ w → IsTrue (not (bits == 0)) ↔ HasValue (placed p f (bit set))
+unfolding HasValue
+has_some w p f g bits set few valid stays same small =
+    subst (λ n. IsTrue (not (bits == 0)) ↔ HasValue (placed p f (bit n))) same (
+      λ t. some_value w p f g bits few valid stays small (isnt_zero bits t),
+      λ k. not_zero bits (λ e. no_value p f bits k.0 e k.1),
+    )

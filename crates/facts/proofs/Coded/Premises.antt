@@ -8,17 +8,17 @@ use Rattle.pmbus_table.specs.Protect.{is_protection}
 use Rattle.board.specs.Boards.{Target, Board}
 use Rattle.board.specs.Valid.{IsBoard, IsTarget}
 use Rattle.seq_program.specs.declared.instr.Written.TheVariants as written
-use Rattle.facts.specs.declared.row.Row.{Row as CodeRow}
-use Rattle.facts.specs.declared.source.Source.{Source}
-use Rattle.facts.specs.declared.source.Source.TheVariants as source
-use Rattle.facts.specs.declared.rule.Rule.TheVariants.{K1}
-use Rattle.facts.specs.Sets.{is_protect, pages_in, protects_in}
+use Rattle.facts.specs.declared.domain.row.Row.{Row as CodeRow}
+use Rattle.facts.specs.declared.domain.source.Source.{Source}
+use Rattle.facts.specs.declared.domain.source.Source.TheVariants as source
+use Rattle.facts.specs.declared.duties.rule.Rule.TheVariants.{K1}
+use Rattle.facts.specs.domain.Sets.{is_protect, pages_in, protects_in}
 use Rattle.seq_program.specs.Requests.{Content, Nothing, Value, Block, Transaction, Request}
 use Rattle.seq_program.specs.Requests.{code_in}
-use Rattle.facts.specs.Rows.{Row, row_view, IsRow, IsSource, source_at}
-use Rattle.facts.specs.Duties.{MeetsSent, MayBeSent, IsKnownContent}
-use Rattle.facts.specs.Effects.{IsContentOfKinds, IsOfKinds}
-use Rattle.facts.specs.Ways.{IsFit, IsNamedIn, IsOfFew}
+use Rattle.facts.specs.domain.Rows.{Row, row_view, IsRow, IsSource, source_at}
+use Rattle.facts.specs.duties.Duties.{MeetsSent, MayBeSent, IsKnownContent}
+use Rattle.facts.specs.transfer.Effects.{IsContentOfKinds, IsOfKinds}
+use Rattle.facts.specs.transfer.Ways.{IsFit, IsNamedIn, IsOfFew}
 use Rattle.facts.proofs.Shared.Places.{all_at}
 
 page_kind : (pages value : ℕ) → pages ≤ 32 → (nat_lt value pages || value == 255) ≡ true

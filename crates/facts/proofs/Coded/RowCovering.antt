@@ -2,13 +2,14 @@
 use Rattle.std.proofs.Common.{◌≡◌, ◌<◌, ◌↔◌, inl, ◌∙◌, ℕ, zero, suc, Bool, IsTrue, List, [], ◌∷◌}
 use Rattle.std.proofs.Common.{length, map, refl, sym, arith}
 use Rattle.board.specs.Boards.{Board}
-use Rattle.facts.specs.declared.row.Row.{Row as CodeRow}
-use Rattle.facts.specs.declared.source.Source.{Source}
-use Rattle.facts.specs.declared.span.Span.{Span}
-use Rattle.facts.specs.Sets.{Set, pages_in, protects_in}
-use Rattle.facts.specs.Rows.{row_view, set_at, source_at, SetCovers, SpanCovers, SourceCovers}
-use Rattle.facts.specs.Rows.{AllCover, SpansCover, RowCovers}
-use Rattle.facts.specs.Covering.{CoversByPart}
+use Rattle.facts.specs.declared.domain.row.Row.{Row as CodeRow}
+use Rattle.facts.specs.declared.domain.source.Source.{Source}
+use Rattle.facts.specs.declared.domain.span.Span.{Span}
+use Rattle.facts.specs.domain.Sets.{Set, pages_in, protects_in}
+use Rattle.facts.specs.domain.Rows.{row_view, set_at, source_at, SetCovers, SpanCovers}
+use Rattle.facts.specs.domain.Rows.{SourceCovers}
+use Rattle.facts.specs.domain.Rows.{AllCover, SpansCover, RowCovers}
+use Rattle.facts.specs.domain.Covering.{CoversByPart}
 
 sets_at : (f : ℕ → Set) (xs ys : List ℕ) → AllCover (λ s u. SetCovers (f s) (f u)) xs ys → (i : ℕ)
     → SetCovers (set_at (map f xs) i) (set_at (map f ys) i)

@@ -2,11 +2,12 @@
 use Rattle.std.proofs.Common.{◌≡◌, ◌∙◌, ◌+◌, ℕ, [], ◌∷◌, ap, refl}
 use Rattle.board.specs.Boards.{Board}
 use Rattle.seq_program.specs.Requests.{Transaction, Request}
-use Rattle.facts.specs.Rows.{Row}
-use Rattle.facts.specs.Edges.{Effect, SetsPage, SetsProtect, TurnsOff, ReadsStatus, ReadsPage}
-use Rattle.facts.specs.Edges.{ReadsProtect, Loads, Nothing, edge, done_row, else_row}
-use Rattle.facts.specs.Edges.{effect_of, loaded, sent_edges}
-use Rattle.facts.specs.Effects.{done_with}
+use Rattle.facts.specs.domain.Rows.{Row}
+use Rattle.facts.specs.transfer.Edges.{Effect, SetsPage, SetsProtect, TurnsOff, ReadsStatus}
+use Rattle.facts.specs.transfer.Edges.{ReadsPage}
+use Rattle.facts.specs.transfer.Edges.{ReadsProtect, Loads, Nothing, edge, done_row, else_row}
+use Rattle.facts.specs.transfer.Edges.{effect_of, loaded, sent_edges}
+use Rattle.facts.specs.transfer.Effects.{done_with}
 
 done_is : (b : Board) (row : Row) (i : ℕ) (x : Transaction) (e : Effect)
     → done_with b row i (loaded b i x) e ≡ done_row b row i x e

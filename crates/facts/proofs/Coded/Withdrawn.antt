@@ -3,10 +3,10 @@ use Rattle.std.proofs.Common.{◌≡◌, ◌∙◌, ◌==◌, ◌&&◌, ◌||◌
 use Rattle.std.proofs.Common.{None, slice_get, ap, refl, arith}
 use Rattle.std.proofs.lemmas.Bool.Decides.{nat_tests}
 use Rattle.board.specs.Boards.{Rail, Board}
-use Rattle.facts.specs.Sets.{Set, keeps, pages_in}
-use Rattle.facts.specs.Rows.{Row, set_at}
-use Rattle.facts.specs.Duties.{may_select, touches_some, is_touched}
-use Rattle.facts.specs.Touching.{touched_some, touched_in}
+use Rattle.facts.specs.domain.Sets.{Set, keeps, pages_in}
+use Rattle.facts.specs.domain.Rows.{Row, set_at}
+use Rattle.facts.specs.duties.Duties.{may_select, touches_some, is_touched}
+use Rattle.facts.specs.duties.Touching.{touched_some, touched_in}
 use Rattle.facts.proofs.Coded.Placed.{is_same}
 
 dropped : (g t e : Bool) → (e ≡ true → t ≡ true) → (g && not e) ≡ (g && (not t || not e))

@@ -6,13 +6,14 @@ use Rattle.std.proofs.lemmas.Bool.{false≢true}
 use Rattle.std.proofs.lemmas.List.{get_or-set_same, get_or-set_other}
 use Rattle.std.specs.Prelude.{slice_index_or, slice_set}
 use Rattle.board.specs.Boards.{Board}
-use Rattle.facts.specs.declared.source.Source.{Source}
-use Rattle.facts.specs.declared.source.Source.TheVariants as source
-use Rattle.facts.specs.declared.span.Span.{Span}
-use Rattle.facts.specs.Sets.{Set, empty}
-use Rattle.facts.specs.Rows.{Row, set_at, source_at, no_span, SetCovers, SpanCovers, SpansCover}
-use Rattle.facts.specs.Rows.{SourceCovers, RowCovers}
-use Rattle.facts.specs.Edges.{clear, forget}
+use Rattle.facts.specs.declared.domain.source.Source.{Source}
+use Rattle.facts.specs.declared.domain.source.Source.TheVariants as source
+use Rattle.facts.specs.declared.domain.span.Span.{Span}
+use Rattle.facts.specs.domain.Sets.{Set, empty}
+use Rattle.facts.specs.domain.Rows.{Row, set_at, source_at, no_span, SetCovers, SpanCovers}
+use Rattle.facts.specs.domain.Rows.{SpansCover}
+use Rattle.facts.specs.domain.Rows.{SourceCovers, RowCovers}
+use Rattle.facts.specs.transfer.Edges.{clear, forget}
 use Rattle.facts.proofs.Shared.Lists.{source-clear}
 
 pub SpansCover-refl : (ss : List Span) → SpansCover ss ss

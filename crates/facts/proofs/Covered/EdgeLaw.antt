@@ -7,15 +7,16 @@ use Rattle.board.specs.Valid.{IsBoard}
 use Rattle.seq_program.specs.declared.instr.Instr.{Instr}
 use Rattle.seq_program.specs.declared.instr.Instr.TheVariants as instr
 use Rattle.seq_program.specs.Valid.{IsInstr}
-use Rattle.facts.specs.declared.source.Source.TheVariants as source
-use Rattle.facts.specs.declared.span.Span.{Span}
-use Rattle.facts.specs.Rows.{Row, span_at, SpanCovers, SpansCover, RowCovers}
+use Rattle.facts.specs.declared.domain.source.Source.TheVariants as source
+use Rattle.facts.specs.declared.domain.span.Span.{Span}
+use Rattle.facts.specs.domain.Rows.{Row, span_at, SpanCovers, SpansCover, RowCovers}
 use Rattle.seq_program.specs.Requests.{Request, request_in}
-use Rattle.facts.specs.Duties.{one}
-use Rattle.facts.specs.Edges.{edge, edge_if, edges_of, other_edges, effect_of, done_row, else_row}
-use Rattle.facts.specs.Edges.{with_reg, a_byte, plus, above, up_to, reg_in, counter_in}
-use Rattle.facts.specs.Edges.{with_counter}
-use Rattle.facts.specs.Edges.{taken_off}
+use Rattle.facts.specs.duties.Duties.{one}
+use Rattle.facts.specs.transfer.Edges.{edge, edge_if, edges_of, other_edges, effect_of, done_row}
+use Rattle.facts.specs.transfer.Edges.{else_row}
+use Rattle.facts.specs.transfer.Edges.{with_reg, a_byte, plus, above, up_to, reg_in, counter_in}
+use Rattle.facts.specs.transfer.Edges.{with_counter}
+use Rattle.facts.specs.transfer.Edges.{taken_off}
 use Rattle.facts.specs.FactLaws.{EdgesCover, EdgesFollow, Wider}
 use Rattle.facts.proofs.Covered.Covers.{SpansCover-set, SpansCover-at}
 use Rattle.facts.proofs.Covered.RowMoves.{reg_covers, in_sources}

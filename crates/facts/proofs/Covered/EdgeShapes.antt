@@ -10,16 +10,19 @@ use Rattle.seq_program.specs.declared.instr.Instr.{Instr}
 use Rattle.seq_program.specs.declared.instr.Instr.TheVariants as instr
 use Rattle.seq_program.specs.Valid.{IsInstr}
 use Rattle.simulator.specs.Moves.{passes}
-use Rattle.facts.specs.declared.rule.Rule.TheVariants.{K1}
-use Rattle.facts.specs.declared.source.Source.TheVariants as source
-use Rattle.facts.specs.declared.span.Span.{Span}
-use Rattle.facts.specs.Rows.{Row, span_at, source_at}
+use Rattle.facts.specs.declared.duties.rule.Rule.TheVariants.{K1}
+use Rattle.facts.specs.declared.domain.source.Source.TheVariants as source
+use Rattle.facts.specs.declared.domain.span.Span.{Span}
+use Rattle.facts.specs.domain.Rows.{Row, span_at, source_at}
 use Rattle.seq_program.specs.Requests.{Request, request_in}
-use Rattle.facts.specs.Duties.{one, MeetsSent}
-use Rattle.facts.specs.Edges.{Edge, edge, edge_if, edges_of, other_edges, effect_of, done_row}
-use Rattle.facts.specs.Edges.{else_row, with_reg, a_byte, plus, above, up_to, one_off, reg_in}
-use Rattle.facts.specs.Edges.{counter_in, with_counter, taken_off, is_possible, if_may_jump}
-use Rattle.facts.specs.Edges.{if_jump_row, if_may_go_on, if_next_row}
+use Rattle.facts.specs.duties.Duties.{one, MeetsSent}
+use Rattle.facts.specs.transfer.Edges.{Edge, edge, edge_if, edges_of, other_edges, effect_of}
+use Rattle.facts.specs.transfer.Edges.{done_row}
+use Rattle.facts.specs.transfer.Edges.{else_row, with_reg, a_byte, plus, above, up_to, one_off}
+use Rattle.facts.specs.transfer.Edges.{reg_in}
+use Rattle.facts.specs.transfer.Edges.{counter_in, with_counter, taken_off, is_possible}
+use Rattle.facts.specs.transfer.Edges.{if_may_jump}
+use Rattle.facts.specs.transfer.Edges.{if_jump_row, if_may_go_on, if_next_row}
 use Rattle.facts.specs.Steps.{HasEdge}
 use Rattle.facts.specs.FactLaws.{IsShaped, EdgesStayShaped}
 use Rattle.facts.proofs.Covered.Follows.{has_either, has_if, has_possible}

@@ -5,11 +5,12 @@ use Rattle.std.proofs.lemmas.Bool.{and_parts, or_left, cases_eq}
 use Rattle.std.proofs.lemmas.List.{get_or-set_same, get_or-set_other}
 use Rattle.std.specs.Prelude.{slice_set, ◌==◌}
 use Rattle.board.specs.Boards.{Board}
-use Rattle.facts.specs.declared.source.Source.{Source}
-use Rattle.facts.specs.declared.source.Source.TheVariants as source
-use Rattle.facts.specs.Sets.{Set, empty, keeps}
-use Rattle.facts.specs.Rows.{Row, set_at, source_at, SetCovers, SourceCovers, RowCovers, IsSource}
-use Rattle.facts.specs.Edges.{Edge, possible, is_possible, keep, learn_good}
+use Rattle.facts.specs.declared.domain.source.Source.{Source}
+use Rattle.facts.specs.declared.domain.source.Source.TheVariants as source
+use Rattle.facts.specs.domain.Sets.{Set, empty, keeps}
+use Rattle.facts.specs.domain.Rows.{Row, set_at, source_at, SetCovers, SourceCovers, RowCovers}
+use Rattle.facts.specs.domain.Rows.{IsSource}
+use Rattle.facts.specs.transfer.Edges.{Edge, possible, is_possible, keep, learn_good}
 use Rattle.facts.specs.FactLaws.{EdgesCover, IsShaped, Wider}
 use Rattle.facts.proofs.Covered.Covers.{covers_self, covers_trans, SpansCover-refl}
 use Rattle.facts.proofs.Covered.RowMoves.{or_covers, keep_covers}

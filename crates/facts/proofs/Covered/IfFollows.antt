@@ -7,11 +7,11 @@ use Rattle.std.specs.Prelude.{slice_set, ◌==◌, nat_le}
 use Rattle.board.specs.Boards.{Board}
 use Rattle.seq_program.specs.declared.instr.Instr.TheVariants as instr
 use Rattle.simulator.specs.Moves.{passes}
-use Rattle.facts.specs.declared.span.Span.{Span}
-use Rattle.facts.specs.Rows.{Row, span_at, source_at, SpanCovers, SpansCover, RowCovers}
-use Rattle.facts.specs.Duties.{one}
-use Rattle.facts.specs.Edges.{edge_if, if_may_jump, if_jump_row, if_may_go_on, if_next_row}
-use Rattle.facts.specs.Edges.{is_single, in_span, all_bits, good_bits, other_edges}
+use Rattle.facts.specs.declared.domain.span.Span.{Span}
+use Rattle.facts.specs.domain.Rows.{Row, span_at, source_at, SpanCovers, SpansCover, RowCovers}
+use Rattle.facts.specs.duties.Duties.{one}
+use Rattle.facts.specs.transfer.Edges.{edge_if, if_may_jump, if_jump_row, if_may_go_on, if_next_row}
+use Rattle.facts.specs.transfer.Edges.{is_single, in_span, all_bits, good_bits, other_edges}
 use Rattle.facts.specs.FactLaws.{EdgesCover, Wider}
 use Rattle.facts.proofs.Covered.Covers.{SpansCover-set, SpansCover-at}
 use Rattle.facts.proofs.Covered.IfEdges.{informed, informed_covers, kept_covers, follows_possible}

@@ -11,12 +11,12 @@ use Rattle.seq_program.specs.declared.instr.Written.TheVariants as written
 use Rattle.seq_program.specs.Valid.{IsOnBoard}
 use Rattle.seq_program.specs.Requests.{Content, Nothing, Value, Block, Transaction, Request}
 use Rattle.seq_program.specs.Requests.{request_in, code_in}
-use Rattle.facts.specs.declared.rule.Rule.{Rule}
-use Rattle.facts.specs.declared.rule.Rule.TheVariants.{K1, K2, K3, K4, K5, K6, K7, K8, K9}
+use Rattle.facts.specs.declared.duties.rule.Rule.{Rule}
+use Rattle.facts.specs.declared.duties.rule.Rule.TheVariants.{K1, K2, K3, K4, K5, K6, K7, K8, K9}
 use Rattle.pmbus_table.specs.Codes.{all_pages}
-use Rattle.facts.specs.Rows.{Row, set_at, SpanCovers, RowCovers}
-use Rattle.facts.specs.Duties.{MeetsAt, MeetsSent, IsTaken, IsWithinLimits, LimitsOf}
-use Rattle.facts.specs.Duties.{EnablesInOrder, written_span}
+use Rattle.facts.specs.domain.Rows.{Row, set_at, SpanCovers, RowCovers}
+use Rattle.facts.specs.duties.Duties.{MeetsAt, MeetsSent, IsTaken, IsWithinLimits, LimitsOf}
+use Rattle.facts.specs.duties.Duties.{EnablesInOrder, written_span}
 use Rattle.facts.specs.FactLaws.{DutiesAreKept}
 use Rattle.facts.proofs.Covered.Covers.{SpansCover-at}
 use Rattle.facts.proofs.Covered.RowMoves.{touches_covers}

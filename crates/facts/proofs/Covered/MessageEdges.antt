@@ -14,19 +14,21 @@ use Rattle.seq_program.specs.declared.instr.Instr.{Instr}
 use Rattle.seq_program.specs.declared.instr.Instr.TheVariants as instr
 use Rattle.seq_program.specs.declared.instr.Written.TheVariants as written
 use Rattle.seq_program.specs.Valid.{IsInstr}
-use Rattle.facts.specs.declared.source.Source.{Source}
-use Rattle.facts.specs.declared.source.Source.TheVariants as source
-use Rattle.facts.specs.Sets.{only}
-use Rattle.facts.specs.Rows.{Row, set_at, SourceCovers, RowCovers}
+use Rattle.facts.specs.declared.domain.source.Source.{Source}
+use Rattle.facts.specs.declared.domain.source.Source.TheVariants as source
+use Rattle.facts.specs.domain.Sets.{only}
+use Rattle.facts.specs.domain.Rows.{Row, set_at, SourceCovers, RowCovers}
 use Rattle.seq_program.specs.Requests.{Content, Value, Block, Transaction, request_in}
 use Rattle.seq_program.specs.Requests.{code_in}
 use Rattle.seq_program.specs.Requests.{Nothing as NoContent}
-use Rattle.facts.specs.Duties.{is_touched}
-use Rattle.facts.specs.Edges.{Effect, SetsPage, SetsProtect, TurnsOff, ReadsStatus, ReadsPage}
-use Rattle.facts.specs.Edges.{ReadsProtect, Loads, Nothing, content_effect, effect_by, effect_of}
-use Rattle.facts.specs.Edges.{done_row, else_row, clear}
-use Rattle.facts.specs.Edges.{byte_effect, word_effect, read_effect}
-use Rattle.facts.specs.Edges.{without_touched, is_status_of, status_source, loaded, bounds}
+use Rattle.facts.specs.duties.Duties.{is_touched}
+use Rattle.facts.specs.transfer.Edges.{Effect, SetsPage, SetsProtect, TurnsOff, ReadsStatus}
+use Rattle.facts.specs.transfer.Edges.{ReadsPage}
+use Rattle.facts.specs.transfer.Edges.{ReadsProtect, Loads, Nothing, content_effect, effect_by}
+use Rattle.facts.specs.transfer.Edges.{effect_of}
+use Rattle.facts.specs.transfer.Edges.{done_row, else_row, clear}
+use Rattle.facts.specs.transfer.Edges.{byte_effect, word_effect, read_effect}
+use Rattle.facts.specs.transfer.Edges.{without_touched, is_status_of, status_source, loaded, bounds}
 use Rattle.facts.specs.FactLaws.{IsShaped, Wider}
 use Rattle.facts.proofs.Shared.Places.{found, is_target, page_small, protect_small}
 use Rattle.facts.proofs.Covered.RowMoves.{page_covers, protect_covers, touched_kept, reg_covers}

@@ -5,15 +5,16 @@ use Rattle.std.proofs.lemmas.Bool.{and_parts, and_from, or_cases, or_left, or_ri
 use Rattle.std.proofs.lemmas.Bool.{not_from_false, not-true, false≢true}
 use Rattle.std.specs.Prelude.{slice_set, slice_get, ◌==◌, Option, Some, None}
 use Rattle.board.specs.Boards.{Rail, Board}
-use Rattle.facts.specs.declared.source.Source.{Source}
-use Rattle.facts.specs.declared.source.Source.TheVariants as source
-use Rattle.facts.specs.declared.span.Span.{Span}
-use Rattle.facts.specs.Sets.{Set, gains, keeps}
+use Rattle.facts.specs.declared.domain.source.Source.{Source}
+use Rattle.facts.specs.declared.domain.source.Source.TheVariants as source
+use Rattle.facts.specs.declared.domain.span.Span.{Span}
+use Rattle.facts.specs.domain.Sets.{Set, gains, keeps}
 use Rattle.pmbus_table.specs.Codes.{all_pages}
-use Rattle.facts.specs.Rows.{Row, set_at, SetCovers, SpanCovers, SourceCovers, RowCovers}
-use Rattle.facts.specs.Duties.{is_touched, touches_some, may_select}
-use Rattle.facts.specs.Edges.{with_page, with_protect, without_touched, with_reg, is_page_of}
-use Rattle.facts.specs.Edges.{is_protect_of, is_status_of, keep}
+use Rattle.facts.specs.domain.Rows.{Row, set_at, SetCovers, SpanCovers, SourceCovers, RowCovers}
+use Rattle.facts.specs.duties.Duties.{is_touched, touches_some, may_select}
+use Rattle.facts.specs.transfer.Edges.{with_page, with_protect, without_touched, with_reg}
+use Rattle.facts.specs.transfer.Edges.{is_page_of}
+use Rattle.facts.specs.transfer.Edges.{is_protect_of, is_status_of, keep}
 use Rattle.facts.specs.FactLaws.{IsShaped, Wider}
 use Rattle.facts.proofs.Covered.Covers.{SpansCover-set, sets_set, sources_set, clear_covers}
 

@@ -5,9 +5,9 @@ use Rattle.board.specs.Boards.{Board}
 use Rattle.seq_program.specs.declared.instr.Instr.{Instr}
 use Rattle.seq_program.specs.declared.instr.Instr.TheVariants as instr
 use Rattle.seq_program.specs.Valid.{IsInstr, IsProgram, IsOnBoard, IsInstrOn}
-use Rattle.facts.specs.declared.rule.Rule.TheVariants.{K1}
-use Rattle.facts.specs.Rows.{Row, IsRow, most_ticks}
-use Rattle.facts.specs.Duties.{Meets}
+use Rattle.facts.specs.declared.duties.rule.Rule.TheVariants.{K1}
+use Rattle.facts.specs.domain.Rows.{Row, IsRow, most_ticks}
+use Rattle.facts.specs.duties.Duties.{Meets}
 use Rattle.facts.specs.FactLaws.{IsShaped}
 use Rattle.facts.proofs.Shared.Places.{all_at, within}
 

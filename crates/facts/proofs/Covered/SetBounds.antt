@@ -4,11 +4,12 @@ use Rattle.std.proofs.Common.{arith, true, false}
 use Rattle.std.proofs.lemmas.Bool.{eq-eqb, cases_Bool, cond-true, cond-false, false≢true}
 use Rattle.std.specs.Prelude.{Option, Some, None, ◌==◌, option_and_then}
 use Rattle.board.specs.Boards.{Board}
-use Rattle.facts.specs.declared.source.Source.{Source}
-use Rattle.facts.specs.declared.span.Span.{Span}
-use Rattle.facts.specs.Sets.{Set}
-use Rattle.facts.specs.Rows.{SetCovers, SpanCovers, SourceCovers}
-use Rattle.facts.specs.Edges.{first_in, last_in, bounds, single, has_any, rail_on, status_of}
+use Rattle.facts.specs.declared.domain.source.Source.{Source}
+use Rattle.facts.specs.declared.domain.span.Span.{Span}
+use Rattle.facts.specs.domain.Sets.{Set}
+use Rattle.facts.specs.domain.Rows.{SetCovers, SpanCovers, SourceCovers}
+use Rattle.facts.specs.transfer.Edges.{first_in, last_in, bounds, single, has_any, rail_on}
+use Rattle.facts.specs.transfer.Edges.{status_of}
 use Rattle.facts.proofs.Shared.Bounds.{bounds_hold, single_is, first_has}
 
 first_small : (s : Set) (n low : ℕ) → first_in s low n ≤ low + n

@@ -13,17 +13,20 @@ use Rattle.board.specs.Boards.{Allow, Rail, Target, Board}
 use Rattle.board.specs.Valid.{IsBoard, IsEntry, is_page_value, has_words}
 use Rattle.board.specs.declared.entry.Range.{Range}
 use Rattle.seq_program.specs.declared.instr.Written.TheVariants as written
-use Rattle.facts.specs.declared.source.Source.TheVariants as source
-use Rattle.facts.specs.Sets.{Set, only, gains}
-use Rattle.facts.specs.Rows.{Row, set_at, IsSource, IsSetOf}
+use Rattle.facts.specs.declared.domain.source.Source.TheVariants as source
+use Rattle.facts.specs.domain.Sets.{Set, only, gains}
+use Rattle.facts.specs.domain.Rows.{Row, set_at, IsSource, IsSetOf}
 use Rattle.seq_program.specs.Requests.{Content, Value, Block, Transaction, code_in}
 use Rattle.seq_program.specs.Requests.{Nothing as NoContent}
-use Rattle.facts.specs.Duties.{MayBeSent, IsKnownContent, IsKnownValue}
-use Rattle.facts.specs.Edges.{Effect, SetsPage, SetsProtect, TurnsOff, ReadsStatus, ReadsPage}
-use Rattle.facts.specs.Edges.{ReadsProtect, Loads, Nothing, content_effect, effect_by, effect_of}
-use Rattle.facts.specs.Edges.{done_row, else_row}
-use Rattle.facts.specs.Edges.{without_touched, status_source, status_of, single, rail_on, loaded}
-use Rattle.facts.specs.Edges.{span_of, bounds}
+use Rattle.facts.specs.duties.Duties.{MayBeSent, IsKnownContent, IsKnownValue}
+use Rattle.facts.specs.transfer.Edges.{Effect, SetsPage, SetsProtect, TurnsOff, ReadsStatus}
+use Rattle.facts.specs.transfer.Edges.{ReadsPage}
+use Rattle.facts.specs.transfer.Edges.{ReadsProtect, Loads, Nothing, content_effect, effect_by}
+use Rattle.facts.specs.transfer.Edges.{effect_of}
+use Rattle.facts.specs.transfer.Edges.{done_row, else_row}
+use Rattle.facts.specs.transfer.Edges.{without_touched, status_source, status_of, single, rail_on}
+use Rattle.facts.specs.transfer.Edges.{loaded}
+use Rattle.facts.specs.transfer.Edges.{span_of, bounds}
 use Rattle.facts.specs.FactLaws.{IsShaped}
 use Rattle.facts.proofs.Shared.Bounds.{bounds_hold}
 use Rattle.facts.proofs.Covered.SetBounds.{ends_in, status_on}

@@ -7,14 +7,14 @@ use Rattle.std.specs.Prelude.{slice_set, ◌==◌}
 use Rattle.board.specs.Boards.{Target, Board}
 use Rattle.simulator.specs.Moves.{passes}
 use Rattle.targets.specs.States.{IsTargetAt}
-use Rattle.facts.specs.declared.source.Source.{Source}
-use Rattle.facts.specs.declared.source.Source.TheVariants as source
-use Rattle.facts.specs.declared.span.Span.{Span}
-use Rattle.facts.specs.Sets.{Set, empty, keeps}
-use Rattle.facts.specs.Rows.{Row, set_at, source_at, IsSource}
-use Rattle.facts.specs.Duties.{one}
-use Rattle.facts.specs.Edges.{bounds, has_any, is_possible, keep, learn_good, if_jump_row}
-use Rattle.facts.specs.Edges.{all_bits, good_bits}
+use Rattle.facts.specs.declared.domain.source.Source.{Source}
+use Rattle.facts.specs.declared.domain.source.Source.TheVariants as source
+use Rattle.facts.specs.declared.domain.span.Span.{Span}
+use Rattle.facts.specs.domain.Sets.{Set, empty, keeps}
+use Rattle.facts.specs.domain.Rows.{Row, set_at, source_at, IsSource}
+use Rattle.facts.specs.duties.Duties.{one}
+use Rattle.facts.specs.transfer.Edges.{bounds, has_any, is_possible, keep, learn_good, if_jump_row}
+use Rattle.facts.specs.transfer.Edges.{all_bits, good_bits}
 use Rattle.facts.specs.FactLaws.{IsShaped}
 use Rattle.facts.proofs.Shared.Places.{found}
 use Rattle.facts.proofs.Covered.Shapes.{IsPageSet, IsProtectSet, length_set, page_sets_set}

@@ -8,14 +8,15 @@ use Rattle.pmbus_table.specs.Protect.{is_protection}
 use Rattle.board.specs.Boards.{Target, Board}
 use Rattle.board.specs.Valid.{is_page_value}
 use Rattle.targets.specs.States.{IsTargetAt}
-use Rattle.facts.specs.declared.source.Source.{Source}
-use Rattle.facts.specs.declared.source.Source.TheVariants as source
-use Rattle.facts.specs.declared.span.Span.{Span}
-use Rattle.facts.specs.Sets.{Set, empty}
-use Rattle.facts.specs.Rows.{Row, set_at, span_at, source_at, no_span, IsSource, IsSetOf}
-use Rattle.facts.specs.Duties.{is_touched}
-use Rattle.facts.specs.Edges.{with_page, with_protect, without_touched, with_reg, clear, forget}
-use Rattle.facts.specs.Edges.{is_page_of, is_protect_of, is_status_of, learn_good, reg_in}
+use Rattle.facts.specs.declared.domain.source.Source.{Source}
+use Rattle.facts.specs.declared.domain.source.Source.TheVariants as source
+use Rattle.facts.specs.declared.domain.span.Span.{Span}
+use Rattle.facts.specs.domain.Sets.{Set, empty}
+use Rattle.facts.specs.domain.Rows.{Row, set_at, span_at, source_at, no_span, IsSource, IsSetOf}
+use Rattle.facts.specs.duties.Duties.{is_touched}
+use Rattle.facts.specs.transfer.Edges.{with_page, with_protect, without_touched, with_reg, clear}
+use Rattle.facts.specs.transfer.Edges.{forget}
+use Rattle.facts.specs.transfer.Edges.{is_page_of, is_protect_of, is_status_of, learn_good, reg_in}
 use Rattle.facts.specs.FactLaws.{IsShaped}
 use Rattle.facts.proofs.Shared.Lists.{source-clear}
 use Rattle.facts.proofs.Shared.Places.{same_at, within}

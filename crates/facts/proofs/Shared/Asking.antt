@@ -25,14 +25,14 @@ use Rattle.simulator.specs.Machines.{Machine, Entry}
 use Rattle.simulator.specs.Moves.{with_result}
 use Rattle.simulator.specs.StepLaws.{CarriesMessage}
 use Rattle.simulator.specs.StepDoes.{StepDoes}
-use Rattle.facts.specs.declared.rule.Rule.{Rule}
-use Rattle.facts.specs.Rows.{Row, Admits, IsRow}
+use Rattle.facts.specs.declared.duties.rule.Rule.{Rule}
+use Rattle.facts.specs.domain.Rows.{Row, Admits, IsRow}
 use Rattle.seq_program.specs.Requests.{Transaction, quick, send, receive, write, read, call}
 use Rattle.seq_program.specs.Requests.{write_block}
 use Rattle.seq_program.specs.Requests.{read_block, call_block, read_form, code_in, data_in}
-use Rattle.facts.specs.Allowing.{allowing}
-use Rattle.facts.specs.Allowing.{values_at, lengths_at}
-use Rattle.facts.specs.Duties.{MeetsAt}
+use Rattle.facts.specs.duties.Allowing.{allowing}
+use Rattle.facts.specs.duties.Allowing.{values_at, lengths_at}
+use Rattle.facts.specs.duties.Duties.{MeetsAt}
 use Rattle.facts.proofs.Shared.Places.{within, index_at, some_same}
 
 -- its message, where the registers hold these words

@@ -19,11 +19,11 @@ use Rattle.seq_program.specs.Messages.{alert_message}
 use Rattle.simulator.specs.Machines.{Machine, Entry}
 use Rattle.simulator.specs.StepDoes.{StepDoes}
 use Rattle.simulator.specs.StepLaws.{CarriesMessage}
-use Rattle.facts.specs.declared.source.Source.TheVariants as source
-use Rattle.facts.specs.Sets.{empty}
-use Rattle.facts.specs.Rows.{Row, Admits, IsRow}
-use Rattle.facts.specs.Edges.{edge, with_reg}
-use Rattle.facts.specs.Ticks.{frame_ticks}
+use Rattle.facts.specs.declared.domain.source.Source.TheVariants as source
+use Rattle.facts.specs.domain.Sets.{empty}
+use Rattle.facts.specs.domain.Rows.{Row, Admits, IsRow}
+use Rattle.facts.specs.transfer.Edges.{edge, with_reg}
+use Rattle.facts.specs.transfer.Ticks.{frame_ticks}
 use Rattle.facts.specs.Steps.{Leads}
 use Rattle.facts.proofs.Shared.Places.{some_same}
 use Rattle.facts.proofs.Sound.RowChanges.{Change, admits_same}

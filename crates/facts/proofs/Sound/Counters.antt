@@ -14,13 +14,14 @@ use Rattle.seq_program.specs.declared.instr.Instr.TheVariants.{IfAlert, Set as S
 use Rattle.seq_program.specs.declared.instr.Instr.TheVariants.{Above, Count}
 use Rattle.simulator.specs.Machines.{Machine, Entry}
 use Rattle.simulator.specs.Moves.{silently}
-use Rattle.facts.specs.declared.source.Source.TheVariants as source
-use Rattle.facts.specs.declared.span.Span.{Span}
-use Rattle.facts.specs.Sets.{empty}
-use Rattle.facts.specs.Rows.{Row, Admits, IsRow, InSpan, span_at, rank, weight}
-use Rattle.facts.specs.Duties.{one}
-use Rattle.facts.specs.Edges.{Edge, edge, edges, edge_if, with_reg, plus, above, up_to, reg_in}
-use Rattle.facts.specs.Edges.{with_counter}
+use Rattle.facts.specs.declared.domain.source.Source.TheVariants as source
+use Rattle.facts.specs.declared.domain.span.Span.{Span}
+use Rattle.facts.specs.domain.Sets.{empty}
+use Rattle.facts.specs.domain.Rows.{Row, Admits, IsRow, InSpan, span_at, rank, weight}
+use Rattle.facts.specs.duties.Duties.{one}
+use Rattle.facts.specs.transfer.Edges.{Edge, edge, edges, edge_if, with_reg, plus, above, up_to}
+use Rattle.facts.specs.transfer.Edges.{reg_in}
+use Rattle.facts.specs.transfer.Edges.{with_counter}
 use Rattle.facts.specs.Steps.{HasEdge, Leads}
 use Rattle.facts.proofs.Sound.RowChanges.{Change, admits_same}
 use Rattle.facts.proofs.Sound.Loads.{admits_load}

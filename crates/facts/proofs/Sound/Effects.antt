@@ -16,10 +16,10 @@ use Rattle.targets.specs.Effects.{Writes}
 use Rattle.simulator.specs.Machines.{Machine, Entry}
 use Rattle.simulator.specs.Reports.{Selects}
 use Rattle.simulator.specs.StepDoes.{MessageReports, MessageWithdraws}
-use Rattle.facts.specs.Sets.{Set}
-use Rattle.facts.specs.Rows.{Row}
+use Rattle.facts.specs.domain.Sets.{Set}
+use Rattle.facts.specs.domain.Rows.{Row}
 use Rattle.seq_program.specs.Requests.{Transaction, code_in, data_in}
-use Rattle.facts.specs.Duties.{touches_some, is_touched}
+use Rattle.facts.specs.duties.Duties.{touches_some, is_touched}
 use Rattle.facts.proofs.Shared.Places.{some_same, only_one}
 use Rattle.facts.proofs.Sound.RowChanges.{Change}
 use Rattle.facts.proofs.Sound.Seen.{changes_by}

@@ -2,9 +2,9 @@
 use Rattle.std.proofs.Common.{◌≡◌, ℕ, zero, suc, ◌+◌, ◌-◌, ◌^◌, ◌%◌, ◌<◌, ◌≤◌, ◌⊎◌, List, [], ◌∷◌}
 use Rattle.std.proofs.Common.{◌++◌, length, refl, ap, sym, ◌∙◌, subst, inl, inr, arith, Bool, true}
 use Rattle.std.proofs.Common.{false, not, ◌&&◌, ◌||◌, cond}
-use Rattle.std.proofs.lemmas.Bool.{eqb-true, eqb-false, eq-eqb, and_parts, and_from}
-use Rattle.std.proofs.lemmas.Bool.{or_cases, cases_Bool, cond-true, cond-false, cond_both}
-use Rattle.std.proofs.lemmas.Bool.{not_from_false, le-leb}
+use Rattle.std.proofs.lemmas.Bool.{eqb-true, eqb-false, eq-eqb, and_parts, and_from, or_cases}
+use Rattle.std.proofs.lemmas.Bool.{cases_Bool, cond-true, cond-false, cond_both, not_from_false}
+use Rattle.std.proofs.lemmas.Bool.{le-leb}
 use Rattle.std.proofs.lemmas.Nat.{and_comm, and_mask}
 use Rattle.std.proofs.lemmas.List.{get_or-set_same}
 use Rattle.std.specs.Int.Bits.{and_self, and_zero_l}
@@ -19,16 +19,16 @@ use Rattle.seq_program.specs.declared.instr.Instr.TheVariants.{If}
 use Rattle.simulator.specs.Machines.{Machine, Entry}
 use Rattle.simulator.specs.Moves.{silently, passes}
 use Rattle.simulator.specs.Reports.{IsReportedGood}
-use Rattle.facts.specs.declared.source.Source.{Source}
-use Rattle.facts.specs.declared.source.Source.TheVariants as source
-use Rattle.facts.specs.declared.span.Span.{Span}
-use Rattle.facts.specs.Sets.{Set, empty}
-use Rattle.facts.specs.Rows.{Row, Admits, IsRow, IsFrom, InSpan, InSpans, set_at, span_at}
-use Rattle.facts.specs.Rows.{source_at, rank}
-use Rattle.facts.specs.Duties.{one}
-use Rattle.facts.specs.Edges.{Edge, edge, edge_if, possible, is_possible, has_any, bounds, keep}
-use Rattle.facts.specs.Edges.{learn_good, if_may_jump, if_jump_row, if_may_go_on, if_next_row}
-use Rattle.facts.specs.Edges.{is_single, in_span, all_bits, good_bits}
+use Rattle.facts.specs.declared.domain.source.Source.{Source}
+use Rattle.facts.specs.declared.domain.source.Source.TheVariants as source
+use Rattle.facts.specs.declared.domain.span.Span.{Span}
+use Rattle.facts.specs.domain.Sets.{Set, empty}
+use Rattle.facts.specs.domain.Rows.{Row, Admits, IsRow, IsFrom, InSpan, InSpans, set_at, span_at}
+use Rattle.facts.specs.domain.Rows.{source_at, rank}
+use Rattle.facts.specs.duties.Duties.{one}
+use Rattle.facts.specs.transfer.Edges.{Edge, edge, edge_if, possible, is_possible, has_any, bounds}
+use Rattle.facts.specs.transfer.Edges.{keep, learn_good, if_may_jump, if_jump_row, if_may_go_on}
+use Rattle.facts.specs.transfer.Edges.{if_next_row, is_single, in_span, all_bits, good_bits}
 use Rattle.facts.specs.Steps.{HasEdge, Leads}
 use Rattle.facts.proofs.Shared.Lists.{InSpans-at, InSpans-length}
 use Rattle.facts.proofs.Sound.RowChanges.{Change, admits_same, set-updated}

@@ -3,11 +3,11 @@ use Rattle.std.proofs.Common.{◌≡◌, ℕ, ◌<◌, List, refl}
 use Rattle.std.specs.Prelude.{slice_set}
 use Rattle.board.specs.Boards.{Board}
 use Rattle.simulator.specs.Machines.{Machine, Entry}
-use Rattle.facts.specs.declared.source.Source.{Source}
-use Rattle.facts.specs.declared.span.Span.{Span}
-use Rattle.facts.specs.Sets.{empty}
-use Rattle.facts.specs.Rows.{Row, Admits, IsRow, IsFrom, InSpan}
-use Rattle.facts.specs.Edges.{with_reg}
+use Rattle.facts.specs.declared.domain.source.Source.{Source}
+use Rattle.facts.specs.declared.domain.span.Span.{Span}
+use Rattle.facts.specs.domain.Sets.{empty}
+use Rattle.facts.specs.domain.Rows.{Row, Admits, IsRow, IsFrom, InSpan}
+use Rattle.facts.specs.transfer.Edges.{with_reg}
 use Rattle.facts.proofs.Sound.RowChanges.{Change, admits_same, admits_reg}
 
 pub admits_load : (b : Board) (row : Row) (m : Machine) (h : List Entry) (m' : Machine)

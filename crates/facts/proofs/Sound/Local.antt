@@ -24,14 +24,14 @@ use Rattle.simulator.specs.SafeLaws.{AllowedFramesAreSeen}
 use Rattle.simulator.specs.StepDoes.{StepDoes}
 use Rattle.simulator.specs.StepLaws.{Carries, StepsAreSeen}
 use Rattle.simulator.specs.Steps.{alert_level, idle_ticks, IsStepOf}
-use Rattle.facts.specs.declared.rule.Rule.TheVariants.{K1}
-use Rattle.facts.specs.Sets.{empty}
-use Rattle.facts.specs.Rows.{Row}
+use Rattle.facts.specs.declared.duties.rule.Rule.TheVariants.{K1}
+use Rattle.facts.specs.domain.Sets.{empty}
+use Rattle.facts.specs.domain.Rows.{Row}
 use Rattle.seq_program.specs.Requests.{Transaction, quick, send, receive, write, read, call}
 use Rattle.seq_program.specs.Requests.{write_block}
 use Rattle.seq_program.specs.Requests.{read_block, call_block, request}
-use Rattle.facts.specs.Duties.{MayBeSent}
-use Rattle.facts.specs.Ticks.{frame_ticks, longest_slots, ticks_of, worst_ticks}
+use Rattle.facts.specs.duties.Duties.{MayBeSent}
+use Rattle.facts.specs.transfer.Ticks.{frame_ticks, longest_slots, ticks_of, worst_ticks}
 use Rattle.facts.specs.Steps.{Leads, Stands, IsSoundStep, StepsAreSound}
 use Rattle.facts.proofs.Shared.Places.{all_at, same_at}
 use Rattle.facts.proofs.Sound.Moved.{place_after, leads_request, moved_counters, moved_ended}

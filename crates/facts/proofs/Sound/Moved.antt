@@ -14,12 +14,14 @@ use Rattle.simulator.specs.Machines.{Machine, Entry}
 use Rattle.simulator.specs.Moves.{moved}
 use Rattle.seq_program.specs.Requests.{result_in}
 use Rattle.simulator.specs.Steps.{IsStepOf}
-use Rattle.facts.specs.Rows.{Row, Admits, rank}
+use Rattle.facts.specs.domain.Rows.{Row, Admits, rank}
 use Rattle.seq_program.specs.Requests.{Transaction}
 use Rattle.seq_program.specs.Requests.{request, request_in}
-use Rattle.facts.specs.Edges.{Effect, SetsPage, SetsProtect, TurnsOff, ReadsStatus, ReadsPage}
-use Rattle.facts.specs.Edges.{ReadsProtect, Loads, Nothing, Edge, edge, edges, edges_of, sent_edges}
-use Rattle.facts.specs.Edges.{effect_of, done_row, else_row}
+use Rattle.facts.specs.transfer.Edges.{Effect, SetsPage, SetsProtect, TurnsOff, ReadsStatus}
+use Rattle.facts.specs.transfer.Edges.{ReadsPage}
+use Rattle.facts.specs.transfer.Edges.{ReadsProtect, Loads, Nothing, Edge, edge, edges, edges_of}
+use Rattle.facts.specs.transfer.Edges.{sent_edges}
+use Rattle.facts.specs.transfer.Edges.{effect_of, done_row, else_row}
 use Rattle.facts.specs.Steps.{HasEdge, Leads}
 use Rattle.facts.proofs.Shared.Asking.{regs_after}
 use Rattle.facts.proofs.Sound.WriteEdges.{row_by}

@@ -20,15 +20,16 @@ use Rattle.targets.specs.States.{IsTargetAt}
 use Rattle.targets.specs.Fitting.{IsIn, IsStoredBy}
 use Rattle.seq_program.specs.declared.instr.Width.TheVariants as width
 use Rattle.simulator.specs.Machines.{Machine, Entry}
-use Rattle.facts.specs.declared.rule.Rule.TheVariants.{K1}
-use Rattle.facts.specs.declared.source.Source.TheVariants as source
-use Rattle.facts.specs.Sets.{empty}
-use Rattle.facts.specs.Rows.{Row, Admits, IsFrom, InSpan, set_at}
+use Rattle.facts.specs.declared.duties.rule.Rule.TheVariants.{K1}
+use Rattle.facts.specs.declared.domain.source.Source.TheVariants as source
+use Rattle.facts.specs.domain.Sets.{empty}
+use Rattle.facts.specs.domain.Rows.{Row, Admits, IsFrom, InSpan, set_at}
 use Rattle.seq_program.specs.Requests.{Transaction, read, code_in}
-use Rattle.facts.specs.Duties.{is_touched}
-use Rattle.facts.specs.Edges.{Effect, ReadsStatus, ReadsPage, ReadsProtect, Loads, Nothing}
-use Rattle.facts.specs.Edges.{effect_of, without_touched, bounds, span_of, loaded, single, rail_on}
-use Rattle.facts.specs.Edges.{status_of, status_source, done_row, else_row}
+use Rattle.facts.specs.duties.Duties.{is_touched}
+use Rattle.facts.specs.transfer.Edges.{Effect, ReadsStatus, ReadsPage, ReadsProtect, Loads, Nothing}
+use Rattle.facts.specs.transfer.Edges.{effect_of, without_touched, bounds, span_of, loaded, single}
+use Rattle.facts.specs.transfer.Edges.{rail_on}
+use Rattle.facts.specs.transfer.Edges.{status_of, status_source, done_row, else_row}
 use Rattle.facts.proofs.Shared.Places.{found, within, index_at, is_target, page_small}
 use Rattle.facts.proofs.Shared.Places.{protect_small}
 use Rattle.facts.proofs.Shared.Bounds.{bounds_hold, single_is}

@@ -14,13 +14,14 @@ use Rattle.targets.specs.Fitting.{IsIn, FitsBlock}
 use Rattle.seq_program.specs.declared.instr.Width.TheVariants as width
 use Rattle.seq_program.specs.declared.instr.Written.TheVariants as written
 use Rattle.simulator.specs.Machines.{Machine, Entry}
-use Rattle.facts.specs.declared.rule.Rule.TheVariants.{K1}
-use Rattle.facts.specs.Rows.{Row, Admits, InSpan}
+use Rattle.facts.specs.declared.duties.rule.Rule.TheVariants.{K1}
+use Rattle.facts.specs.domain.Rows.{Row, Admits, InSpan}
 use Rattle.seq_program.specs.Requests.{Transaction, quick, send, receive, write, read, call}
 use Rattle.seq_program.specs.Requests.{write_block}
 use Rattle.seq_program.specs.Requests.{read_block, call_block}
-use Rattle.facts.specs.Edges.{TurnsOff, Nothing, written_effect, without_touched, loaded, done_row}
-use Rattle.facts.specs.Edges.{else_row}
+use Rattle.facts.specs.transfer.Edges.{TurnsOff, Nothing, written_effect, without_touched, loaded}
+use Rattle.facts.specs.transfer.Edges.{done_row}
+use Rattle.facts.specs.transfer.Edges.{else_row}
 use Rattle.facts.proofs.Shared.Asking.{Quick, Send, Receive, Write, Read, Call, PutBlock}
 use Rattle.facts.proofs.Shared.Asking.{GetBlock, CallBlock}
 use Rattle.facts.proofs.Shared.Asking.{asked, ending, IsRequest, register_small, Sending}

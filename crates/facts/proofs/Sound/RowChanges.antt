@@ -8,15 +8,16 @@ use Rattle.board.specs.Boards.{Board}
 use Rattle.targets.specs.States.{BusState}
 use Rattle.simulator.specs.Machines.{Machine, Entry}
 use Rattle.simulator.specs.Reports.{LastReport, IsReportedGood}
-use Rattle.facts.specs.declared.source.Source.{Source}
-use Rattle.facts.specs.declared.source.Source.TheVariants as source
-use Rattle.facts.specs.declared.span.Span.{Span}
-use Rattle.facts.specs.Sets.{Set, only, empty}
-use Rattle.facts.specs.Rows.{Row, Admits, IsRow, IsFrom, InSpan, InSpans, set_at, source_at}
-use Rattle.facts.specs.Rows.{RowCovers, SourceCovers}
-use Rattle.facts.specs.Duties.{is_touched}
-use Rattle.facts.specs.Edges.{with_page, with_protect, without_touched, with_reg, clear, forget}
-use Rattle.facts.specs.Edges.{is_page_of, is_protect_of, is_status_of}
+use Rattle.facts.specs.declared.domain.source.Source.{Source}
+use Rattle.facts.specs.declared.domain.source.Source.TheVariants as source
+use Rattle.facts.specs.declared.domain.span.Span.{Span}
+use Rattle.facts.specs.domain.Sets.{Set, only, empty}
+use Rattle.facts.specs.domain.Rows.{Row, Admits, IsRow, IsFrom, InSpan, InSpans, set_at, source_at}
+use Rattle.facts.specs.domain.Rows.{RowCovers, SourceCovers}
+use Rattle.facts.specs.duties.Duties.{is_touched}
+use Rattle.facts.specs.transfer.Edges.{with_page, with_protect, without_touched, with_reg, clear}
+use Rattle.facts.specs.transfer.Edges.{forget}
+use Rattle.facts.specs.transfer.Edges.{is_page_of, is_protect_of, is_status_of}
 use Rattle.facts.proofs.Shared.Lists.{source-clear, InSpans-set, InSpans-wider, InSpans-length}
 
 -- the stored pages that may change, the protections, and the rails whose last report may

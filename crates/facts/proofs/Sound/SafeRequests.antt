@@ -27,13 +27,13 @@ use Rattle.simulator.specs.Allowed.{word_of, IsInRange, is_operation_value, Writ
 use Rattle.simulator.specs.Reports.{Selects, IsReportedGood}
 use Rattle.simulator.specs.Safe.{is_guarded}
 use Rattle.simulator.specs.StepDoes.{writes_data}
-use Rattle.facts.specs.declared.rule.Rule.TheVariants.{K1, K2, K3, K4, K5}
-use Rattle.facts.specs.declared.span.Span.{Span}
-use Rattle.facts.specs.Rows.{Row, Admits, IsRow, set_at, span_at, InSpan}
+use Rattle.facts.specs.declared.duties.rule.Rule.TheVariants.{K1, K2, K3, K4, K5}
+use Rattle.facts.specs.declared.domain.span.Span.{Span}
+use Rattle.facts.specs.domain.Rows.{Row, Admits, IsRow, set_at, span_at, InSpan}
 use Rattle.seq_program.specs.Requests.{Transaction, receive, write, read, call}
 use Rattle.seq_program.specs.Requests.{read_block, call_block, code_in, data_in}
-use Rattle.facts.specs.Duties.{touches, may_select, MayBeSent, IsInEntry}
-use Rattle.facts.specs.Duties.{IsKnownValue}
+use Rattle.facts.specs.duties.Duties.{touches, may_select, MayBeSent, IsInEntry}
+use Rattle.facts.specs.duties.Duties.{IsKnownValue}
 use Rattle.facts.proofs.Shared.Places.{within, same_at, all_at, only_one, is_target}
 use Rattle.facts.proofs.Shared.Forms.{MayWrite, found_entry, guarded_write}
 use Rattle.facts.proofs.Shared.Asking.{asked, IsRequest, Quick, Send, Receive, Write, Read, Call}

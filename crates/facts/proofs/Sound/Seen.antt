@@ -9,7 +9,7 @@ use Rattle.targets.specs.States.{Belongs}
 use Rattle.targets.specs.Effects.{WritesPage, WritesProtect, IsStored, IsAfter}
 use Rattle.simulator.specs.Machines.{Machine, Entry}
 use Rattle.simulator.specs.StepDoes.{MessageReports, MessageWithdraws, StepDoes}
-use Rattle.facts.specs.Sets.{Set, empty}
+use Rattle.facts.specs.domain.Sets.{Set, empty}
 use Rattle.facts.proofs.Sound.RowChanges.{Change}
 
 -- what isn't written stays

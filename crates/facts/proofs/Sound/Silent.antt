@@ -11,13 +11,13 @@ use Rattle.seq_program.specs.declared.instr.Instr.{Instr}
 use Rattle.seq_program.specs.declared.instr.Instr.TheVariants.{Again}
 use Rattle.simulator.specs.Machines.{Machine, Entry}
 use Rattle.simulator.specs.Moves.{silently}
-use Rattle.facts.specs.declared.source.Source.{Source}
-use Rattle.facts.specs.declared.source.Source.TheVariants as source
-use Rattle.facts.specs.declared.span.Span.{Span}
-use Rattle.facts.specs.Sets.{Set, empty}
-use Rattle.facts.specs.Rows.{Row, Admits, IsFrom, InSpan, InSpans, span_at, rank, weight}
-use Rattle.facts.specs.Edges.{Edge, edge, edges, edge_if, counter_in, taken_off, one_off}
-use Rattle.facts.specs.Duties.{one}
+use Rattle.facts.specs.declared.domain.source.Source.{Source}
+use Rattle.facts.specs.declared.domain.source.Source.TheVariants as source
+use Rattle.facts.specs.declared.domain.span.Span.{Span}
+use Rattle.facts.specs.domain.Sets.{Set, empty}
+use Rattle.facts.specs.domain.Rows.{Row, Admits, IsFrom, InSpan, InSpans, span_at, rank, weight}
+use Rattle.facts.specs.transfer.Edges.{Edge, edge, edges, edge_if, counter_in, taken_off, one_off}
+use Rattle.facts.specs.duties.Duties.{one}
 use Rattle.facts.specs.Steps.{HasEdge, Leads}
 use Rattle.facts.proofs.Sound.RowChanges.{Change, admits_same}
 use Rattle.facts.proofs.Shared.Lists.{InSpans-set, InSpans-at, InSpans-length, weight-set}

@@ -20,14 +20,14 @@ use Rattle.seq_program.specs.Messages.{alert_message, message_of}
 use Rattle.seq_program.specs.Programs.{is_end}
 use Rattle.seq_program.specs.Valid.{jump_in, IsInstr}
 use Rattle.seq_program.specs.Requests.{result_in}
-use Rattle.facts.specs.declared.rule.Rule.{Rule}
-use Rattle.facts.specs.declared.rule.Rule.TheVariants.{K1}
-use Rattle.facts.specs.Rows.{Row}
+use Rattle.facts.specs.declared.duties.rule.Rule.{Rule}
+use Rattle.facts.specs.declared.duties.rule.Rule.TheVariants.{K1}
+use Rattle.facts.specs.domain.Rows.{Row}
 use Rattle.seq_program.specs.Requests.{Transaction, quick, send, receive, write, read, call}
 use Rattle.seq_program.specs.Requests.{write_block}
 use Rattle.seq_program.specs.Requests.{read_block, call_block, Request, request, request_in}
 use Rattle.seq_program.specs.Requests.{data_in}
-use Rattle.facts.specs.Duties.{MayBeSent, Meets, MeetsAt, MeetsSent}
+use Rattle.facts.specs.duties.Duties.{MayBeSent, Meets, MeetsAt, MeetsSent}
 use Rattle.facts.proofs.Shared.Asking.{Quick, Send, Receive, Write, Read, Call, PutBlock}
 use Rattle.facts.proofs.Shared.Asking.{GetBlock, CallBlock}
 use Rattle.facts.proofs.Shared.Asking.{asked, IsRequest, place_is, lengths_same}

@@ -12,11 +12,11 @@ use Rattle.targets.specs.Fitting.{FitsBlock, lengths_for}
 use Rattle.seq_program.specs.declared.instr.Width.TheVariants as width
 use Rattle.seq_program.specs.declared.instr.Written.TheVariants as written
 use Rattle.simulator.specs.Machines.{Machine, Entry}
-use Rattle.facts.specs.Rows.{Row}
+use Rattle.facts.specs.domain.Rows.{Row}
 use Rattle.seq_program.specs.Requests.{Transaction, read}
 use Rattle.seq_program.specs.Requests.{read_block, call_block, request, data_in, block_count}
-use Rattle.facts.specs.Allowing.{lengths_at}
-use Rattle.facts.specs.Ticks.{frame_ticks, longest_slots}
+use Rattle.facts.specs.duties.Allowing.{lengths_at}
+use Rattle.facts.specs.transfer.Ticks.{frame_ticks, longest_slots}
 use Rattle.facts.proofs.Shared.Asking.{Quick, Send, Receive, Write, Read, Call, PutBlock}
 use Rattle.facts.proofs.Shared.Asking.{GetBlock, CallBlock}
 use Rattle.facts.proofs.Shared.Asking.{asked, IsRequest, Sending, entry_same, entry_there}

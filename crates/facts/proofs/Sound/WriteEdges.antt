@@ -18,12 +18,12 @@ use Rattle.targets.specs.Effects.{Writes, IsStored}
 use Rattle.seq_program.specs.declared.instr.Written.TheVariants as written
 use Rattle.simulator.specs.Machines.{Machine, Entry}
 use Rattle.simulator.specs.Safe.{is_guarded}
-use Rattle.facts.specs.declared.rule.Rule.TheVariants.{K1, K3}
-use Rattle.facts.specs.Sets.{Set, only, empty, gains}
-use Rattle.facts.specs.Rows.{Row, Admits, set_at}
+use Rattle.facts.specs.declared.duties.rule.Rule.TheVariants.{K1, K3}
+use Rattle.facts.specs.domain.Sets.{Set, only, empty, gains}
+use Rattle.facts.specs.domain.Rows.{Row, Admits, set_at}
 use Rattle.seq_program.specs.Requests.{Transaction, write}
-use Rattle.facts.specs.Duties.{is_touched}
-use Rattle.facts.specs.Edges.{effect_of, without_touched, done_row, else_row}
+use Rattle.facts.specs.duties.Duties.{is_touched}
+use Rattle.facts.specs.transfer.Edges.{effect_of, without_touched, done_row, else_row}
 use Rattle.facts.proofs.Shared.Places.{found, within, index_at}
 use Rattle.facts.proofs.Shared.Forms.{guarded_write}
 use Rattle.facts.proofs.Sound.RowChanges.{Change, admits_page, admits_protect, admits_touched}

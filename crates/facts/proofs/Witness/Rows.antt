@@ -10,13 +10,14 @@ use Rattle.board.specs.Boards.{Target, Board}
 use Rattle.board.specs.Valid.{IsBoard, is_page_value}
 use Rattle.targets.specs.States.{BusState, IsStart, IsTargetAt}
 use Rattle.simulator.specs.Machines.{start_at}
-use Rattle.facts.specs.declared.source.Source.{Source}
-use Rattle.facts.specs.declared.source.Source.TheVariants as source
-use Rattle.facts.specs.declared.span.Span.{Span}
-use Rattle.facts.specs.Sets.{Set, empty}
-use Rattle.facts.specs.Rows.{IsSource, IsSpan, IsSetOf, IsRow, InSpans, IsFrom, Admits, set_at}
-use Rattle.facts.specs.Rows.{no_span}
-use Rattle.facts.specs.Duties.{one}
+use Rattle.facts.specs.declared.domain.source.Source.{Source}
+use Rattle.facts.specs.declared.domain.source.Source.TheVariants as source
+use Rattle.facts.specs.declared.domain.span.Span.{Span}
+use Rattle.facts.specs.domain.Sets.{Set, empty}
+use Rattle.facts.specs.domain.Rows.{IsSource, IsSpan, IsSetOf, IsRow, InSpans, IsFrom, Admits}
+use Rattle.facts.specs.domain.Rows.{set_at}
+use Rattle.facts.specs.domain.Rows.{no_span}
+use Rattle.facts.specs.duties.Duties.{one}
 use Rattle.facts.specs.Witnesses.{widest_row}
 use Rattle.facts.proofs.Shared.Places.{none_some, some_same, found, is_target}
 

@@ -28,12 +28,12 @@ use Rattle.simulator.specs.Steps.{IsStepOf, IsStep, step_entry as told}
 use Rattle.targets.specs.Outcomes.{outcome_of}
 use Rattle.simulator.specs.SmallPrograms.{SomeClearingIsListed}
 use Rattle.simulator.specs.StepLaws.{StepsAreSeen, StartsAreReady}
-use Rattle.facts.specs.declared.rule.Rule.{Rule}
-use Rattle.facts.specs.declared.rule.Rule.TheVariants.{K1, K2, K3, K4, K5, K6, K7, K8, K9}
-use Rattle.facts.specs.declared.source.Source.TheVariants as source
-use Rattle.facts.specs.Rows.{Row, Admits, SpanCovers, RowCovers}
-use Rattle.facts.specs.Duties.{one, Meets}
-use Rattle.facts.specs.Edges.{with_reg, a_byte, Edge, edge, edges}
+use Rattle.facts.specs.declared.duties.rule.Rule.{Rule}
+use Rattle.facts.specs.declared.duties.rule.Rule.TheVariants.{K1, K2, K3, K4, K5, K6, K7, K8, K9}
+use Rattle.facts.specs.declared.domain.source.Source.TheVariants as source
+use Rattle.facts.specs.domain.Rows.{Row, Admits, SpanCovers, RowCovers}
+use Rattle.facts.specs.duties.Duties.{one, Meets}
+use Rattle.facts.specs.transfer.Edges.{with_reg, a_byte, Edge, edge, edges}
 use Rattle.facts.specs.Steps.{HasEdge, Leads, StepsAreSound}
 use Rattle.facts.specs.FactLaws.{EdgesStayShaped}
 use Rattle.facts.specs.Witnesses.{widest_row, SomeMachineStands, SomeRowIsWider}

@@ -4,14 +4,14 @@ ghost use Rattle.std.specs.Prelude.{◌≡◌, ◌∷◌, ◌<◌, ◌||◌, ◌
 ghost use Rattle.std.specs.Prelude.{None, length, slice_get};
 ghost use Rattle.board.specs.Boards.{Board as AnyBoard};
 ghost use Rattle.seq_program.specs.Requests.{request_in};
-ghost use Rattle.facts.specs.Sets.{rails_in};
+ghost use Rattle.facts.specs.domain.Sets.{rails_in};
 ghost use Rattle.seq_program.specs.Messages.{message_of};
 ghost use Rattle.session.specs.Telling.{TellsAfter};
 
 use crate::breach::known::known_row;
 use crate::breach::reporting::is_good_after;
 use board::{Board, board_is_valid};
-use facts::{ByteSet, GoodSet, Row, Rule, duty};
+use facts::{GoodSet, Row, Rule, duty};
 use seq_program::{Instr, Program, message_of, program_is_valid};
 use simulator::{Machine, steps_are_seen};
 use smbus::{Answer, Message};
@@ -99,9 +99,9 @@ fn is_silent(instr: &Instr) -> bool
 impl Judge {
     ghost use Rattle.std.specs.Prelude.{◌≡◌, ◌∷◌, ◌<◌, [], List, IfOk, OnOk, OnErr, Some, length};
     ghost use Rattle.std.specs.Prelude.{slice_get};
-    ghost use Rattle.facts.specs.Rows.{row_view};
-    ghost use Rattle.facts.specs.Sets.{rails_in};
-    ghost use Rattle.facts.specs.Duties.{IsFirstFailing, duties};
+    ghost use Rattle.facts.specs.domain.Rows.{row_view};
+    ghost use Rattle.facts.specs.domain.Sets.{rails_in};
+    ghost use Rattle.facts.specs.duties.Duties.{IsFirstFailing, duties};
     ghost use Rattle.seq_program.specs.declared.instr.Instr.{Instr};
     ghost use Rattle.simulator.specs.Machines.{IsMachine, Entry};
     ghost use Rattle.simulator.specs.Machines.{Machine as AnyMachine};

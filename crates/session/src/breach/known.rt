@@ -1,14 +1,15 @@
 //! The row of a machine within a run.
 
 ghost use Rattle.std.specs.Prelude.{◌≡◌, map, All, IfOk, IsTrue};
-ghost use Rattle.facts.specs.Duties.{one};
-ghost use Rattle.facts.specs.Rows.{row_view};
-ghost use Rattle.facts.specs.Sets.{is_page, is_protect, only, pages_in, protects_in, rails_in};
+ghost use Rattle.facts.specs.duties.Duties.{one};
+ghost use Rattle.facts.specs.domain.Rows.{row_view};
+ghost use Rattle.facts.specs.domain.Sets.{is_page, is_protect, only, pages_in, protects_in};
+ghost use Rattle.facts.specs.domain.Sets.{rails_in};
 ghost use Rattle.targets.specs.States.{Belongs};
 ghost use Rattle.session.specs.Known.{known_row};
 
 use board::{Board, board_is_valid};
-use facts::{ByteSet, GoodSet, PageSet, ProtectSet, Row, Source, Span};
+use facts::{GoodSet, PageSet, ProtectSet, Row, Source, Span};
 use simulator::Machine;
 use std::alloc::{AllocError, Global};
 

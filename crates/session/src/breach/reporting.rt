@@ -1,6 +1,6 @@
 //! What a step tells of a rail: that it reported, or was turned off.
 
-ghost use Rattle.std.specs.Prelude.{◌≡◌, ◌↔◌, ◌<◌, ◌≤◌, ℕ, false, IsTrue, IfSome, IfNone};
+ghost use Rattle.std.specs.Prelude.{◌≡◌, ◌↔◌, ◌<◌, ℕ, false, IsTrue, IfSome, IfNone};
 ghost use Rattle.std.specs.Prelude.{Some};
 ghost use Rattle.std.specs.Prelude.{length, slice_index};
 ghost use Rattle.bit_bus.specs.Levels.{first_cut};
@@ -12,22 +12,18 @@ ghost use Rattle.targets.specs.Effects.{IsByteWrite};
 ghost use Rattle.simulator.specs.Does.{Reported};
 ghost use Rattle.simulator.specs.Reports.{selects, IsRailAt};
 ghost use Rattle.board.specs.Boards.{Rail as BoardRail, Target as BoardTarget};
-ghost use Rattle.simulator.specs.StepDoes.{GoOut, MessageReports, MessageWithdraws};
+ghost use Rattle.simulator.specs.StepDoes.{MessageReports, MessageWithdraws};
 ghost use Rattle.session.specs.Telling.{TurnsOff, TellsAfter};
 
 use board::{Board, Rail, Target};
 use pmbus_table::code::{ALL_PAGES, OPERATION, STATUS_WORD};
 use pmbus_table::{enables, reported_good};
 use smbus::{Answer, Form, Message};
-use targets::{BusState, cut_of};
+use targets::{BusState, cut_of, value_goes_out};
 
 /// The slot of a Read Word's STOP: five bytes of nine slots each and a repeated START stand before
 /// it.
 const READ_WORD_STOP: usize = 46;
-
-/// The slot in which a Write Byte's value is acknowledged: address and code have nine slots each,
-/// and the value eight before it.
-const VALUE_ACKNOWLEDGE: usize = 26;
 
 /// Whether a Read Word isn't cut before its STOP.
 fn is_cut_late(message: &Message, answer: &Answer) -> bool
@@ -51,34 +47,6 @@ fn is_report(message: &Message, answer: &Answer, address: u8) -> bool
         && message.code == STATUS_WORD
         && answer.refuse.is_none()
         && is_cut_late(message, answer)
-}
-
-/// Whether neither the address nor the code is refused.
-fn reaches_value(refuse: Option<u16>) -> bool
-    ensures { IsTrue result ↔ IfSome refuse (λ number. 2 ≤ number) }
-{
-    match refuse {
-        None => true,
-        Some(number) => number >= 2,
-    }
-}
-
-/// Whether no slot before the value's acknowledge is cut.
-fn is_cut_behind_value(cut: Option<usize>) -> bool
-    ensures { IsTrue result ↔ IfSome cut (λ slot. 26 ≤ slot) }
-{
-    match cut {
-        None => true,
-        Some(slot) => slot >= VALUE_ACKNOWLEDGE,
-    }
-}
-
-/// Whether the value of a Write Byte goes out.
-fn value_goes_out(message: &Message, answer: &Answer) -> bool
-    ensures { (address code value : ℕ) → IsByteWrite address code value message.now
-        → IsTrue result ↔ GoOut 3 message.now answer.now }
-{
-    reaches_value(answer.refuse) && is_cut_behind_value(cut_of(message, answer))
 }
 
 /// The value that a message writes to OPERATION at an address.

@@ -3,7 +3,7 @@
 ghost use Rattle.std.specs.Prelude.{◌≡◌, [], None, OnOk, IsSomeAnd};
 ghost use Rattle.board.specs.Boards.{Board as AnyBoard};
 ghost use Rattle.simulator.specs.Machines.{IsMachine};
-ghost use Rattle.facts.specs.Rows.{row_view};
+ghost use Rattle.facts.specs.domain.Rows.{row_view};
 ghost use Rattle.targets.specs.States.{Belongs};
 ghost use Rattle.session.specs.Known.{Knows, known_row};
 ghost use Rattle.session.specs.Watching.{good_of, HasSeen};

@@ -12,19 +12,19 @@ use Rattle.seq_program.specs.declared.instr.Instr.TheVariants as to
 use Rattle.seq_program.specs.declared.instr.Width.TheVariants as width
 use Rattle.seq_program.specs.declared.instr.Written.TheVariants as written
 use Rattle.simulator.specs.Allowed.{is_operation_value}
-use Rattle.facts.specs.declared.source.Source.{Source}
-use Rattle.facts.specs.declared.source.Source.TheVariants as source
-use Rattle.facts.specs.declared.span.Span.{Span}
-use Rattle.facts.specs.Sets.{Set, empty, only}
-use Rattle.facts.specs.Rows.{Row}
+use Rattle.facts.specs.declared.domain.source.Source.{Source}
+use Rattle.facts.specs.declared.domain.source.Source.TheVariants as source
+use Rattle.facts.specs.declared.domain.span.Span.{Span}
+use Rattle.facts.specs.domain.Sets.{Set, empty, only}
+use Rattle.facts.specs.domain.Rows.{Row}
 use Rattle.seq_program.specs.Requests.{write, read}
-use Rattle.facts.specs.Duties.{one, touches, is_touched, MayBeSent, HasNeeds}
-use Rattle.facts.specs.Edges.{edge, good_bits, bounds, loaded, status_source}
-use Rattle.facts.specs.Ticks.{frame_ticks}
+use Rattle.facts.specs.duties.Duties.{one, touches, is_touched, MayBeSent, HasNeeds}
+use Rattle.facts.specs.transfer.Edges.{edge, good_bits, bounds, loaded, status_source}
+use Rattle.facts.specs.transfer.Ticks.{frame_ticks}
 use Rattle.table_check.specs.Tables.{Table, row_of}
-use Rattle.table_check.specs.Obligations.{AllHold, of_row}
-use Rattle.table_check.specs.SmallTables.{two_rails, small_target, entry, row_at}
-use Rattle.table_check.specs.SmallTables.{known_row, any_row, reported_row, a_word}
+use Rattle.table_check.specs.checker.Obligations.{AllHold, of_row}
+use Rattle.table_check.specs.checker.SmallTables.{two_rails, small_target, entry, row_at}
+use Rattle.table_check.specs.checker.SmallTables.{known_row, any_row, reported_row, a_word}
 use Rattle.table_check.proofs.SmallTables.KnownRows.{each_rail, leads}
 use Rattle.table_check.proofs.SmallTables.Owed.{leads_on}
 

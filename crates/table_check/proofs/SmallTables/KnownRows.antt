@@ -9,19 +9,21 @@ use Rattle.pmbus_table.specs.Protect.{is_protection}
 use Rattle.board.specs.Boards.{Target, Rail}
 use Rattle.board.specs.Valid.{is_page_value}
 use Rattle.targets.specs.States.{IsTargetAt}
-use Rattle.facts.specs.declared.source.Source.{Source}
-use Rattle.facts.specs.declared.source.Source.TheVariants as source
-use Rattle.facts.specs.declared.span.Span.{Span}
-use Rattle.facts.specs.Sets.{Set, empty, only}
-use Rattle.facts.specs.Rows.{Row, IsRow, IsSetOf, IsSource, IsSpan, InSpans, RowCovers, SetCovers}
-use Rattle.facts.specs.Rows.{SpanCovers, SpansCover, SourceCovers, weight, rank, most_ticks}
-use Rattle.facts.specs.Rows.{no_span}
-use Rattle.facts.specs.Duties.{one}
-use Rattle.facts.specs.Edges.{Edge, edge}
-use Rattle.facts.specs.Starts.{HoldsStarts}
+use Rattle.facts.specs.declared.domain.source.Source.{Source}
+use Rattle.facts.specs.declared.domain.source.Source.TheVariants as source
+use Rattle.facts.specs.declared.domain.span.Span.{Span}
+use Rattle.facts.specs.domain.Sets.{Set, empty, only}
+use Rattle.facts.specs.domain.Rows.{Row, IsRow, IsSetOf, IsSource, IsSpan, InSpans, RowCovers}
+use Rattle.facts.specs.domain.Rows.{SetCovers}
+use Rattle.facts.specs.domain.Rows.{SpanCovers, SpansCover, SourceCovers, weight, rank, most_ticks}
+use Rattle.facts.specs.domain.Rows.{no_span}
+use Rattle.facts.specs.duties.Duties.{one}
+use Rattle.facts.specs.transfer.Edges.{Edge, edge}
+use Rattle.facts.specs.well_formed.Starts.{HoldsStarts}
 use Rattle.table_check.specs.Tables.{Table, row_of}
-use Rattle.table_check.specs.Rules.{IsCovered, Pays, PaysEnd}
-use Rattle.table_check.specs.SmallTables.{two_rails, small_target, small_rail, row_at, known_row}
+use Rattle.table_check.specs.checker.Rules.{IsCovered, Pays, PaysEnd}
+use Rattle.table_check.specs.checker.SmallTables.{two_rails, small_target, small_rail, row_at}
+use Rattle.table_check.specs.checker.SmallTables.{known_row}
 use Rattle.table_check.proofs.Places.{some_same, none_some}
 
 -- what holds of both targets holds of each

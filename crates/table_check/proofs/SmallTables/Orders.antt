@@ -7,22 +7,23 @@ use Rattle.seq_program.specs.declared.instr.Instr.{Instr}
 use Rattle.seq_program.specs.declared.instr.Instr.TheVariants as to
 use Rattle.seq_program.specs.declared.instr.Width.TheVariants as width
 use Rattle.seq_program.specs.declared.instr.Written.TheVariants as written
-use Rattle.facts.specs.declared.rule.Rule.TheVariants.{K5}
-use Rattle.facts.specs.declared.source.Source.TheVariants as source
-use Rattle.facts.specs.Sets.{empty, only}
-use Rattle.facts.specs.Rows.{Row, IsRow, most_ticks}
+use Rattle.facts.specs.declared.duties.rule.Rule.TheVariants.{K5}
+use Rattle.facts.specs.declared.domain.source.Source.TheVariants as source
+use Rattle.facts.specs.domain.Sets.{empty, only}
+use Rattle.facts.specs.domain.Rows.{Row, IsRow, most_ticks}
 use Rattle.seq_program.specs.Requests.{write}
-use Rattle.facts.specs.Duties.{HasNeeds}
-use Rattle.facts.specs.Edges.{good_bits}
+use Rattle.facts.specs.duties.Duties.{HasNeeds}
+use Rattle.facts.specs.transfer.Edges.{good_bits}
 use Rattle.table_check.specs.Tables.{Table}
-use Rattle.table_check.specs.Rules.{Starts}
-use Rattle.table_check.specs.Obligations.{Start, AllHold, IsInductive, IsFirstFault}
-use Rattle.table_check.specs.Obligations.{IsVerdict}
-use Rattle.table_check.specs.declared.verdict.Verdict.TheVariants.{Refused}
-use Rattle.table_check.specs.Obligations.{shapes, of_row, of_places}
-use Rattle.table_check.specs.SmallTables.{two_rails, small_rail, known_row, any_row}
-use Rattle.table_check.specs.SmallTables.{reported_row, a_word, ordered_program, ordered_table}
-use Rattle.table_check.specs.SmallTables.{withdrawn_program, withdrawn_table}
+use Rattle.table_check.specs.checker.Rules.{Starts}
+use Rattle.table_check.specs.checker.Obligations.{Start, AllHold, IsInductive, IsFirstFault}
+use Rattle.table_check.specs.checker.Obligations.{IsVerdict}
+use Rattle.table_check.specs.declared.checker.verdict.Verdict.TheVariants.{Refused}
+use Rattle.table_check.specs.checker.Obligations.{shapes, of_row, of_places}
+use Rattle.table_check.specs.checker.SmallTables.{two_rails, small_rail, known_row, any_row}
+use Rattle.table_check.specs.checker.SmallTables.{reported_row, a_word, ordered_program}
+use Rattle.table_check.specs.checker.SmallTables.{ordered_table}
+use Rattle.table_check.specs.checker.SmallTables.{withdrawn_program, withdrawn_table}
 use Rattle.table_check.proofs.SmallTables.KnownRows.{is_row, is_known_row, holds_starts}
 use Rattle.table_check.proofs.SmallTables.Enabling.{first_on, asks, looks, second_on, first_off}
 use Rattle.table_check.proofs.SmallTables.Enabling.{turned}

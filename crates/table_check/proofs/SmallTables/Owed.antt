@@ -4,20 +4,20 @@ use Rattle.std.proofs.Common.{◌++◌, map, refl, inl}
 use Rattle.std.proofs.lemmas.Bool.{false≢true}
 use Rattle.seq_program.specs.declared.instr.Instr.{Instr}
 use Rattle.seq_program.specs.declared.instr.Instr.TheVariants as to
-use Rattle.facts.specs.declared.rule.Rule.{Rule}
-use Rattle.facts.specs.declared.rule.Rule.TheVariants.{K1, K2, K3, K4, K5}
-use Rattle.facts.specs.declared.source.Source.{Source}
-use Rattle.facts.specs.declared.span.Span.{Span}
-use Rattle.facts.specs.Sets.{Set}
-use Rattle.facts.specs.Rows.{Row}
+use Rattle.facts.specs.declared.duties.rule.Rule.{Rule}
+use Rattle.facts.specs.declared.duties.rule.Rule.TheVariants.{K1, K2, K3, K4, K5}
+use Rattle.facts.specs.declared.domain.source.Source.{Source}
+use Rattle.facts.specs.declared.domain.span.Span.{Span}
+use Rattle.facts.specs.domain.Sets.{Set}
+use Rattle.facts.specs.domain.Rows.{Row}
 use Rattle.seq_program.specs.Requests.{Transaction, Request, request_in}
-use Rattle.facts.specs.Duties.{ReadsOnePage, IsUnprotected, Meets, MeetsSent, duties}
-use Rattle.facts.specs.Edges.{Edge}
-use Rattle.facts.specs.TimedEdges.{timed}
+use Rattle.facts.specs.duties.Duties.{ReadsOnePage, IsUnprotected, Meets, MeetsSent, duties}
+use Rattle.facts.specs.transfer.Edges.{Edge}
+use Rattle.facts.specs.transfer.TimedEdges.{timed}
 use Rattle.table_check.specs.Tables.{Table}
-use Rattle.table_check.specs.Obligations.{Obligation, Duty, AllHold, IsFirstFault, of_row}
-use Rattle.table_check.specs.Obligations.{of_edges, of_places}
-use Rattle.table_check.specs.SmallTables.{two_rails, row_at}
+use Rattle.table_check.specs.checker.Obligations.{Obligation, Duty, AllHold, IsFirstFault, of_row}
+use Rattle.table_check.specs.checker.Obligations.{of_edges, of_places}
+use Rattle.table_check.specs.checker.SmallTables.{two_rails, row_at}
 use Rattle.table_check.proofs.SmallTables.KnownRows.{is_zero, Leads, pays_end}
 
 -- ---- duties that every message meets, since PAGE and WRITE_PROTECT are 0

@@ -8,20 +8,21 @@ use Rattle.pmbus_table.specs.Codes.{vout_command_code}
 use Rattle.pmbus_table.specs.Voltage.{IsWithin}
 use Rattle.seq_program.specs.declared.instr.Instr.TheVariants as to
 use Rattle.seq_program.specs.declared.instr.Written.TheVariants as written
-use Rattle.facts.specs.declared.rule.Rule.TheVariants.{K4}
-use Rattle.facts.specs.declared.source.Source.TheVariants as source
-use Rattle.facts.specs.Sets.{empty}
+use Rattle.facts.specs.declared.duties.rule.Rule.TheVariants.{K4}
+use Rattle.facts.specs.declared.domain.source.Source.TheVariants as source
+use Rattle.facts.specs.domain.Sets.{empty}
 use Rattle.pmbus_table.specs.Codes.{all_pages}
-use Rattle.facts.specs.Rows.{set_at}
+use Rattle.facts.specs.domain.Rows.{set_at}
 use Rattle.seq_program.specs.Requests.{write}
-use Rattle.facts.specs.Duties.{one, touches, MayBeSent, CommandsWithinLimits}
-use Rattle.facts.specs.Edges.{edge}
-use Rattle.facts.specs.Ticks.{frame_ticks}
+use Rattle.facts.specs.duties.Duties.{one, touches, MayBeSent, CommandsWithinLimits}
+use Rattle.facts.specs.transfer.Edges.{edge}
+use Rattle.facts.specs.transfer.Ticks.{frame_ticks}
 use Rattle.table_check.specs.Tables.{Table, row_of}
-use Rattle.table_check.specs.Rules.{Starts}
-use Rattle.table_check.specs.Obligations.{AllHold, IsInductive, of_row}
-use Rattle.table_check.specs.SmallTables.{two_rails, small_target, small_rail, voltage_program}
-use Rattle.table_check.specs.SmallTables.{voltage_table, entry, known_row}
+use Rattle.table_check.specs.checker.Rules.{Starts}
+use Rattle.table_check.specs.checker.Obligations.{AllHold, IsInductive, of_row}
+use Rattle.table_check.specs.checker.SmallTables.{two_rails, small_target, small_rail}
+use Rattle.table_check.specs.checker.SmallTables.{voltage_program}
+use Rattle.table_check.specs.checker.SmallTables.{voltage_table, entry, known_row}
 use Rattle.table_check.proofs.Places.{some_same}
 use Rattle.table_check.proofs.ByPlace.{by_place}
 use Rattle.table_check.proofs.SmallTables.KnownRows.{each_rail, is_known_row, zeros_inside}

@@ -2,8 +2,8 @@ use Rattle.std.proofs.Common.{◌≡◌, ℕ, List, sym, subst, length, map, ap,
 use Rattle.std.specs.Prelude.{Option}
 use Rattle.board.specs.Boards.{Board}
 use Rattle.seq_program.specs.declared.instr.Instr.{Instr}
-use Rattle.facts.specs.declared.row.Row.{Row as CodeRow}
-use Rattle.table_check.specs.Looking.{HasRowsOf}
+use Rattle.facts.specs.declared.domain.row.Row.{Row as CodeRow}
+use Rattle.table_check.specs.checker.Looking.{HasRowsOf}
 use Rattle.table_check.specs.Tables.{rows_view, Table}
 use Rattle.fact_search.specs.Finds.{IsFound, TellsCause}
 use Rattle.fact_search.specs.Forward.{IsForward}

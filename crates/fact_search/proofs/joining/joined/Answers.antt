@@ -1,6 +1,6 @@
 use Rattle.std.specs.Prelude.{replicate}
 use Rattle.std.proofs.Common.{refl}
-use Rattle.facts.specs.Rows.{row_view}
+use Rattle.facts.specs.domain.Rows.{row_view}
 use Rattle.fact_search.proofs.Rows.Joined.{joins}
 use Rattle.fact_search.proofs.Shared.Covers.{row_shaped}
 use Rattle.fact_search.proofs.joining.joined.Goals as goal

@@ -1,5 +1,5 @@
 use Rattle.std.proofs.Common.{◌<◌, ◌≤◌, length, arith}
-use Rattle.facts.specs.declared.span.Span.{Span}
+use Rattle.facts.specs.declared.domain.span.Span.{Span}
 use Rattle.fact_search.proofs.Shared.Covers.{spans_self}
 use Rattle.fact_search.proofs.Rows.Widened.{spans_set, all_set}
 use Rattle.fact_search.proofs.joining.widen.Goals as goal

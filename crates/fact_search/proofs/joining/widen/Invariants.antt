@@ -1,5 +1,5 @@
 use Rattle.std.proofs.Common.{◌≤◌, All}
-use Rattle.facts.specs.Rows.{SpansCover}
+use Rattle.facts.specs.domain.Rows.{SpansCover}
 use Rattle.fact_search.proofs.joining.widen.Given as goal
 
 abbrev pub invariant-loop-i : goal.invariant-loop-i

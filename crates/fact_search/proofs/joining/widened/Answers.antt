@@ -1,6 +1,6 @@
 use Rattle.std.proofs.Common.{◌≤◌, arith}
-use Rattle.facts.specs.declared.span.Span.{Span}
-use Rattle.facts.specs.Rows.{no_span, row_view}
+use Rattle.facts.specs.declared.domain.span.Span.{Span}
+use Rattle.facts.specs.domain.Rows.{no_span, row_view}
 use Rattle.fact_search.proofs.Rows.Widened.{widens, widens_covers, all_by_index}
 use Rattle.fact_search.proofs.joining.widened.Goals as goal
 

@@ -1,5 +1,5 @@
 use Rattle.std.proofs.Common.{false, true, ◌≡◌, sym, ◌∙◌}
-use Rattle.facts.specs.Rows.{row_view}
+use Rattle.facts.specs.domain.Rows.{row_view}
 use Rattle.fact_search.proofs.Shared.Covers.{covers_trans}
 use Rattle.fact_search.proofs.known.grown.Goals as goal
 

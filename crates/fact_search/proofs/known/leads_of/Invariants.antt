@@ -1,5 +1,5 @@
 use Rattle.std.proofs.Common.{◌≡◌, ◌++◌, drop, map}
-use Rattle.facts.specs.Ways.{timed_view}
+use Rattle.facts.specs.transfer.Ways.{timed_view}
 use Rattle.fact_search.specs.Leading.{leads_of}
 use Rattle.fact_search.proofs.known.leads_of.Given as goal
 

@@ -1,8 +1,8 @@
 use Rattle.std.proofs.Common.{◌≡◌, refl, sym, subst, List, true}
 use Rattle.std.specs.Prelude.{Option, Some, None, nat_le, slice_set}
-use Rattle.facts.specs.declared.row.Row.{Row as CodeRow}
-use Rattle.facts.specs.Edges.{edge}
-use Rattle.facts.specs.Rows.{row_view}
+use Rattle.facts.specs.declared.domain.row.Row.{Row as CodeRow}
+use Rattle.facts.specs.transfer.Edges.{edge}
+use Rattle.facts.specs.domain.Rows.{row_view}
 use Rattle.table_check.specs.Tables.{rows_view, row_of}
 use Rattle.fact_search.specs.Searching.{IsLearnt}
 use Rattle.fact_search.proofs.Shared.Covers.{row_shaped, row_sized}

@@ -1,11 +1,11 @@
 use Rattle.std.proofs.Common.{◌≡◌, ◌∙◌, ap, false, ℕ, subst, sym, List, [], ◌∷◌, length, map, refl}
 use Rattle.std.proofs.Common.{arith, slice_set}
 use Rattle.std.specs.Prelude.{Option}
-use Rattle.facts.specs.declared.row.Row.{Row as CodeRow}
-use Rattle.facts.specs.Edges.{edge}
-use Rattle.facts.specs.Rows.{row_view}
-use Rattle.facts.specs.Ways.{timed_view}
-use Rattle.table_check.specs.Looking.{HasRowsOf}
+use Rattle.facts.specs.declared.domain.row.Row.{Row as CodeRow}
+use Rattle.facts.specs.transfer.Edges.{edge}
+use Rattle.facts.specs.domain.Rows.{row_view}
+use Rattle.facts.specs.transfer.Ways.{timed_view}
+use Rattle.table_check.specs.checker.Looking.{HasRowsOf}
 use Rattle.table_check.specs.Tables.{rows_view}
 use Rattle.fact_search.specs.Searching.{AreEdgesAt}
 use Rattle.fact_search.proofs.Shared.Tables.{view_length}

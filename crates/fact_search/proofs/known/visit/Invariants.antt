@@ -1,5 +1,5 @@
 use Rattle.std.specs.Prelude.{map}
-use Rattle.facts.specs.Ways.{timed_view}
+use Rattle.facts.specs.transfer.Ways.{timed_view}
 use Rattle.table_check.specs.Tables.{rows_view}
 use Rattle.fact_search.specs.Leading.{IsLed, leads_view}
 use Rattle.fact_search.specs.Searching.{AreEdgesAt}

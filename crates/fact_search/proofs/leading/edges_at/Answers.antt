@@ -1,9 +1,9 @@
 use Rattle.std.proofs.Common.{sym, subst}
 use Rattle.std.specs.Prelude.{IfSome, Option}
 use Rattle.seq_program.specs.declared.instr.Instr.{Instr}
-use Rattle.facts.specs.declared.rule.Rule.TheVariants.{K1}
-use Rattle.facts.specs.Duties.{Meets}
-use Rattle.facts.specs.Rows.{row_view}
+use Rattle.facts.specs.declared.duties.rule.Rule.TheVariants.{K1}
+use Rattle.facts.specs.duties.Duties.{Meets}
+use Rattle.facts.specs.domain.Rows.{row_view}
 use Rattle.fact_search.proofs.Leads.Met.{all_met}
 use Rattle.fact_search.proofs.leading.edges_at.Goals as goal
 

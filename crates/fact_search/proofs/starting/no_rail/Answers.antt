@@ -1,5 +1,5 @@
 use Rattle.std.proofs.Common.{[], arith}
-use Rattle.facts.specs.Sets.{is_rail, rails_in}
+use Rattle.facts.specs.domain.Sets.{is_rail, rails_in}
 use Rattle.fact_search.proofs.Rows.Starts.{just, never_none}
 use Rattle.fact_search.proofs.starting.no_rail.Goals as goal
 

@@ -1,4 +1,4 @@
-use Rattle.facts.specs.Sets.{is_page, pages_in}
+use Rattle.facts.specs.domain.Sets.{is_page, pages_in}
 use Rattle.fact_search.proofs.Rows.Starts.{just, never_none}
 use Rattle.fact_search.proofs.starting.page_set.Goals as goal
 

@@ -1,4 +1,4 @@
-use Rattle.facts.specs.Sets.{is_protect, protects_in}
+use Rattle.facts.specs.domain.Sets.{is_protect, protects_in}
 use Rattle.fact_search.proofs.Rows.Starts.{just, never_none}
 use Rattle.fact_search.proofs.starting.protect_set.Goals as goal
 

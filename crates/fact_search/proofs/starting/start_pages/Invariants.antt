@@ -1,5 +1,5 @@
 use Rattle.std.proofs.Common.{take}
-use Rattle.facts.specs.Sets.{pages_in}
+use Rattle.facts.specs.domain.Sets.{pages_in}
 use Rattle.fact_search.specs.Starting.{HoldEachStart}
 use Rattle.fact_search.proofs.starting.start_pages.Given as goal
 

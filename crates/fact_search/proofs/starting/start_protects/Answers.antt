@@ -1,5 +1,5 @@
 use Rattle.std.proofs.Common.{◌+◌, List, ℕ, All, IsTrue, sym, subst, take}
-use Rattle.facts.specs.Sets.{is_protect, protects_in}
+use Rattle.facts.specs.domain.Sets.{is_protect, protects_in}
 use Rattle.fact_search.specs.Starting.{HoldsJust, HoldEachStart}
 use Rattle.fact_search.proofs.Rows.Starts.{each_done, each_more, start_protects_fit, target_of}
 use Rattle.fact_search.proofs.starting.start_protects.Goals as goal

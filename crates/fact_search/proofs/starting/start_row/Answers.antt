@@ -1,10 +1,10 @@
 use Rattle.std.proofs.Common.{List, refl, subst}
 use Rattle.std.specs.Prelude.{replicate}
 use Rattle.board.specs.Boards.{Target}
-use Rattle.facts.specs.declared.row.Row.{Row as CodeRow}
-use Rattle.facts.specs.declared.source.Source.TheVariants as source
-use Rattle.facts.specs.Duties.{one}
-use Rattle.facts.specs.Sets.{pages_in, protects_in}
+use Rattle.facts.specs.declared.domain.row.Row.{Row as CodeRow}
+use Rattle.facts.specs.declared.domain.source.Source.TheVariants as source
+use Rattle.facts.specs.duties.Duties.{one}
+use Rattle.facts.specs.domain.Sets.{pages_in, protects_in}
 use Rattle.fact_search.specs.Starting.{HoldEachStart}
 use Rattle.fact_search.proofs.Rows.Starts.{start_is}
 use Rattle.fact_search.proofs.starting.start_row.Goals as goal

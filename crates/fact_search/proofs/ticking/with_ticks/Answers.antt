@@ -1,6 +1,6 @@
 use Rattle.std.proofs.Common.{◌≡◌, ◌∙◌, length, arith}
 use Rattle.std.specs.Prelude.{IfSome, Option}
-use Rattle.facts.specs.declared.row.Row.{Row as CodeRow}
+use Rattle.facts.specs.declared.domain.row.Row.{Row as CodeRow}
 use Rattle.fact_search.proofs.Ends.Ticked.{all_pushed, ticked_pushed}
 use Rattle.fact_search.proofs.ticking.with_ticks.Goals as goal
 

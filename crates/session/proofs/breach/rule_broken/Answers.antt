@@ -2,8 +2,8 @@ use Rattle.std.proofs.Common.{◌≡◌, ◌∙◌, Option, Some, ap, sym, slice
 use Rattle.seq_program.specs.declared.instr.Instr.{Instr}
 use Rattle.simulator.specs.declared.machine.Ending.TheVariants.{Running}
 use Rattle.simulator.specs.Machines.{Machine}
-use Rattle.facts.specs.declared.rule.Rule.{Rule}
-use Rattle.facts.specs.Sets.{rails_in}
+use Rattle.facts.specs.declared.duties.rule.Rule.{Rule}
+use Rattle.facts.specs.domain.Sets.{rails_in}
 use Rattle.session.specs.Known.{IsBreach}
 use Rattle.session.proofs.JudgedRuns.{when_running, is_running}
 use Rattle.session.proofs.breach.rule_broken.Goals as goal

@@ -1,5 +1,5 @@
-use Rattle.table_check.proofs.Text.Known.{known}
-use Rattle.table_check.proofs.Text.TextLaws.{one_table, written_back, some_table}
+use Rattle.table_check.proofs.Texts.Known.{known}
+use Rattle.table_check.proofs.Texts.TextLaws.{one_table, written_back, some_table}
 use Rattle.table_check.proofs.law.tables_have_texts.Goals as goal
 
 pub returns-clause-one : goal.returns-clause-one

@@ -1,6 +1,6 @@
 use Rattle.std.proofs.Common.{◌≡◌, ℕ, Bool, false, length, Some, subst, ap}
 use Rattle.std.proofs.Common.{arith}
-use Rattle.facts.specs.Sets.{Set, rails_in}
+use Rattle.facts.specs.domain.Sets.{Set, rails_in}
 use Rattle.session.specs.Telling.{TellsAfter}
 use Rattle.session.proofs.Gained.{one_more, still_rails, none_above}
 use Rattle.session.proofs.breach.judge.good_after.Goals as goal

@@ -1,6 +1,6 @@
 use Rattle.std.proofs.Common.{◌≡◌, ◌<◌, ◌≤◌, ℕ, false, length, Some}
 use Rattle.std.specs.Prelude.{IsTrue}
-use Rattle.facts.specs.Sets.{rails_in}
+use Rattle.facts.specs.domain.Sets.{rails_in}
 use Rattle.session.specs.Telling.{TellsAfter}
 use Rattle.session.proofs.breach.judge.good_after.Given as goal
 

@@ -1,4 +1,4 @@
-use Rattle.facts.specs.Sets.{rails_in}
+use Rattle.facts.specs.domain.Sets.{rails_in}
 use Rattle.session.proofs.Gained.{gains_one}
 use Rattle.session.proofs.breach.judge.with_good.Goals as goal
 

@@ -1,5 +1,5 @@
 use Rattle.std.proofs.Common.{◌≡◌, ◌++◌, drop, map}
-use Rattle.facts.specs.Sets.{only, pages_in}
+use Rattle.facts.specs.domain.Sets.{only, pages_in}
 use Rattle.session.proofs.breach.known.stored_pages.Given as goal
 
 abbrev pub invariant-loop-page : goal.invariant-loop-page

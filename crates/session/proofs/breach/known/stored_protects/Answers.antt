@@ -1,6 +1,6 @@
 use Rattle.std.proofs.Common.{◌≡◌, ◌+◌, slice_index_or, ◌++◌, ◌∙◌, ap, drop, map, sym, subst, List}
 use Rattle.std.proofs.Common.{ℕ}
-use Rattle.facts.specs.Sets.{Set, gains, only, protects_in}
+use Rattle.facts.specs.domain.Sets.{Set, gains, only, protects_in}
 use Rattle.session.proofs.Stored.{one_more}
 use Rattle.session.proofs.breach.known.stored_protects.Goals as goal
 

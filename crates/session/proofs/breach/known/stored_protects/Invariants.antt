@@ -1,5 +1,5 @@
 use Rattle.std.proofs.Common.{◌≡◌, ◌++◌, drop, map}
-use Rattle.facts.specs.Sets.{only, protects_in}
+use Rattle.facts.specs.domain.Sets.{only, protects_in}
 use Rattle.session.proofs.breach.known.stored_protects.Given as goal
 
 abbrev pub invariant-loop-protect : goal.invariant-loop-protect

@@ -1,7 +1,7 @@
 use Rattle.std.proofs.Common.{◌<◌, ◌∙◌, ℕ, length, Some, ap, sym, subst}
 use Rattle.seq_program.specs.Messages.{message_of}
 use Rattle.simulator.specs.Machines.{Machine}
-use Rattle.facts.specs.Sets.{rails_in}
+use Rattle.facts.specs.domain.Sets.{rails_in}
 use Rattle.session.specs.Telling.{TellsAfter}
 use Rattle.session.proofs.Judged.{after_message, after_silence}
 use Rattle.session.proofs.breach.judge.Judge.after.Goals as goal

@@ -1,9 +1,9 @@
 use Rattle.std.proofs.Common.{refl}
 use Rattle.std.specs.Prelude.{Option}
 use Rattle.std.proofs.lemmas.Result.{IfOk-weaker}
-use Rattle.facts.specs.Duties.{IsFirstFailing, duties}
-use Rattle.facts.specs.declared.rule.Rule.{Rule}
-use Rattle.facts.specs.Sets.{rails_in}
+use Rattle.facts.specs.duties.Duties.{IsFirstFailing, duties}
+use Rattle.facts.specs.declared.duties.rule.Rule.{Rule}
+use Rattle.facts.specs.domain.Sets.{rails_in}
 use Rattle.session.specs.Known.{known_row}
 use Rattle.session.proofs.Judged.{first_failing, silent_at}
 use Rattle.session.proofs.breach.judge.Judge.breach.Goals as goal

@@ -1,6 +1,6 @@
 use Rattle.std.proofs.Common.{subst}
-use Rattle.facts.specs.Duties.{IsFirstFailing, duties}
-use Rattle.facts.specs.Rows.{Row}
+use Rattle.facts.specs.duties.Duties.{IsFirstFailing, duties}
+use Rattle.facts.specs.domain.Rows.{Row}
 use Rattle.session.proofs.breach.judge.Judge.failing.Goals as goal
 
 pub returns : goal.returns

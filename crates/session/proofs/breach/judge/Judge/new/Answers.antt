@@ -1,4 +1,4 @@
-use Rattle.facts.specs.Sets.{rails_in}
+use Rattle.facts.specs.domain.Sets.{rails_in}
 use Rattle.session.proofs.Judged.{nothing_known}
 use Rattle.session.proofs.breach.judge.Judge.new.Goals as goal
 

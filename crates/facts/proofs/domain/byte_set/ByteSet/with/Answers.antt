@@ -1,0 +1,12 @@
+use Rattle.std.proofs.Common.{◌∙◌, ap}
+use Rattle.facts.specs.domain.Sets.{values_in}
+use Rattle.facts.proofs.Coded.Placed.{with_is, apart}
+use Rattle.facts.proofs.domain.byte_set.ByteSet.with.Goals as goal
+
+pub returns : goal.returns
+returns g c =
+    let k = g.K.Kind in
+    ap (values_in k.is_value k.place) c.set.ensures
+    ∙ with_is k.is_value k.place c.self.inside.bits c.args.self c.with_place.result c.args.value
+    c.place.result (apart k.is_value k.place k.value_at g.met.K.Kind.back) c.self.view_is
+    c.place.ensures.at c.requires c.with_place.ensures.bits

@@ -1,0 +1,12 @@
+use Rattle.std.proofs.Common.{refl}
+use Rattle.seq_program.specs.RequestViews.{transaction_view}
+use Rattle.facts.specs.domain.Rows.{row_view}
+use Rattle.facts.proofs.Coded.FirstFailing.{reads_no_page}
+use Rattle.facts.proofs.duties.judging.is_read_at_one_page.Goals as goal
+
+pub returns-in-None : goal.returns-in-None
+returns-in-None c = (
+  (λ _. reads_no_page (row_view c.args.row.now) c.args.target
+      (transaction_view c.args.transaction.now) c.in-None.is),
+  (λ _. refl),
+)

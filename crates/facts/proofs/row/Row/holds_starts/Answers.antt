@@ -1,6 +1,0 @@
-use Rattle.facts.proofs.Belongs.Starts.{starts}
-use Rattle.facts.proofs.row.Row.holds_starts.Goals as goal
-
-pub returns : goal.returns
-returns c =
-    starts c.args.board.now c.args.self.now c.starts_by_part.result c.starts_by_part.ensures

@@ -1,6 +1,0 @@
-use Rattle.facts.proofs.Belongs.Rows.{shaped}
-use Rattle.facts.proofs.row.Row.is_of.Goals as goal
-
-pub returns : goal.returns
-returns c =
-    shaped c.args.board.now c.args.self.now c.is_shaped_by_part.result c.is_shaped_by_part.ensures

@@ -1,6 +1,0 @@
-use Rattle.std.proofs.Common.{◌≤◌, ◌<◌, ℕ, IsTrue}
-use Rattle.facts.specs.Sets.{rails_in}
-use Rattle.facts.proofs.shaping.has_none_from.Given as goal
-
-abbrev pub invariant-loop-rail : goal.invariant-loop-rail
-invariant-loop-rail l = (d : ℕ) → l.first ≤ d → d < l.rail → IsTrue (rails_in l.good d) → ⊥

@@ -1,0 +1,6 @@
+pub mod Tests
+pub mod Edges
+pub mod Effects
+pub mod Ways
+pub mod Ticks
+pub mod TimedEdges

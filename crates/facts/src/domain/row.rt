@@ -1,0 +1,27 @@
+use crate::domain::good_set::GoodSet;
+use crate::domain::page_set::PageSet;
+use crate::domain::protect_set::ProtectSet;
+use crate::domain::source::Source;
+use crate::domain::span::Span;
+
+/// What is known at a place of a program, whenever it is reached, and how many ticks are left
+/// there.
+#[derive(Debug, Drop)]
+pub struct Row {
+    /// Of each target of the board, what it may store in PAGE.
+    pub pages: Vec<PageSet>,
+    /// Of each target of the board, what it may store in WRITE_PROTECT.
+    pub protects: Vec<ProtectSet>,
+    /// The rails whose last report is good.
+    pub good: GoodSet,
+    /// The values of r0 to r7.
+    pub regs: [Span; 8],
+    /// What the values of r0 to r7 equal.
+    pub sources: [Source; 8],
+    /// The values of c0 to c3.
+    pub counters: [Span; 4],
+    /// The ticks that are left are at most this, and a coefficient for each counter times the
+    /// counter.
+    pub base: u64,
+    pub coeffs: [u64; 4],
+}

@@ -1,0 +1,195 @@
+//! Whether a row is one of the board, and its parts are.
+
+ghost use Rattle.std.specs.Prelude.{◌≡◌, ◌<◌, ◌≤◌, ◌↔◌, ℕ, IsTrue, All, length};
+ghost use Rattle.board.specs.Valid.{is_page_value};
+ghost use Rattle.pmbus_table.specs.Protect.{is_protection};
+ghost use Rattle.facts.specs.domain.Sets.{rails_in, HasValue};
+ghost use Rattle.facts.specs.domain.Rows.{row_view, set_at, IsSource, IsSetOf, IsRow, most_ticks};
+ghost use Rattle.facts.specs.well_formed.Shapes.{IsSizedRow, EachTarget, HasSets, IsShapedByPart};
+
+use crate::domain::good_set::GoodSet;
+use crate::domain::page_set::PageSet;
+use crate::domain::part::Part;
+use crate::domain::parts::{pages_at, protects_at};
+use crate::domain::row::Row;
+use crate::domain::source::Source;
+use crate::domain::span::Span;
+use board::{Board, Target};
+use seq_program::MOST_TURNS;
+use simulator::MOST_TICKS;
+
+/// Whether a target may store a value in PAGE.
+pub(crate) fn has_page(row: &Row, target: usize, value: u8) -> bool
+    ensures { result ≡ set_at (row_view row.now).pages target value }
+{
+    pages_at(row, target).contains(value)
+}
+
+/// Whether a target may store a value in WRITE_PROTECT.
+pub(crate) fn has_protect(row: &Row, target: usize, value: u8) -> bool
+    ensures { result ≡ set_at (row_view row.now).protects target value }
+{
+    protects_at(row, target).contains(value)
+}
+
+/// Whether no rail from an index on is in the set.
+pub(crate) fn has_none_from(good: GoodSet, first: u8) -> bool
+    ensures { IsTrue result ↔ ((d : ℕ) → first ≤ d → IsTrue (rails_in good d) → ⊥) }
+{
+    for rail in first..64 {
+        if good.contains(rail) {
+            return false;
+        }
+    }
+    true
+}
+
+/// Whether no rail that the board hasn't is in the set.
+fn has_none_beyond(board: &Board, good: GoodSet) -> bool
+    ensures { IsTrue result
+        ↔ ((d : ℕ) → length board.now.rails ≤ d → IsTrue (rails_in good d) → ⊥) }
+{
+    has_none_from(good, board.rails().len() as u8)
+}
+
+impl GoodSet {
+    /// Whether all rails of the set are rails of the board.
+    pub fn is_of(&self, board: &Board) -> bool
+        ensures { IsTrue result
+            ↔ ((d : ℕ) → IsTrue (rails_in self.now d) → d < length board.now.rails) }
+    {
+        has_none_beyond(board, *self)
+    }
+}
+
+impl Source {
+    /// Whether what it names is a rail or a target of the board.
+    pub fn is_of(&self, board: &Board) -> bool
+        ensures { IsTrue result ↔ IsSource board.now self.now }
+    {
+        match self {
+            Source::None => true,
+            Source::Status(rail) => *rail < board.rails().len(),
+            Source::Page(target) | Source::Protect(target) => *target < board.targets().len(),
+        }
+    }
+}
+
+/// Whether a target may store some value in PAGE.
+fn has_some_page(row: &Row, target: usize) -> bool
+    ensures { IsTrue result ↔ HasValue (set_at (row_view row.now).pages target) }
+{
+    pages_at(row, target).has_some()
+}
+
+/// Whether each value that a target may store in PAGE is one of so many pages, or FFh.
+fn has_pages_below(row: &Row, target: usize, pages: u8) -> bool
+    ensures { IsTrue result ↔ ((v : ℕ) → IsTrue (set_at (row_view row.now).pages target v)
+        → IsTrue (is_page_value pages v)) }
+{
+    PageSet::values_of(pages).covers(&pages_at(row, target))
+}
+
+/// Whether a target may store some value in WRITE_PROTECT.
+fn has_some_protect(row: &Row, target: usize) -> bool
+    ensures { IsTrue result ↔ HasValue (set_at (row_view row.now).protects target) }
+{
+    protects_at(row, target).has_some()
+}
+
+/// Whether what a target may store in PAGE is a set of its pages' values.
+#[tactic(auto, unfolding(crate::specs::domain::Sets::HasValue))]
+fn has_page_set(row: &Row, index: usize, target: &Target) -> bool
+    ensures { IsTrue result ↔ IsSetOf (λ v. IsTrue (is_page_value target.now.pages v))
+        (set_at (row_view row.now).pages index) }
+{
+    has_some_page(row, index) && has_pages_below(row, index, target.pages())
+}
+
+/// Whether what a target may store in WRITE_PROTECT is a set of protections.
+fn has_protect_set(row: &Row, index: usize) -> bool
+    ensures { IsTrue result ↔ IsSetOf (λ v. IsTrue (is_protection v))
+        (set_at (row_view row.now).protects index) }
+{
+    has_some_protect(row, index)
+}
+
+/// Whether both sets of a target are sets of its values.
+fn has_sets(row: &Row, index: usize, target: &Target) -> bool
+    ensures { IsTrue result ↔ HasSets (row_view row.now) index target.now }
+{
+    has_page_set(row, index, target) && has_protect_set(row, index)
+}
+
+/// Whether each source is one of the board.
+fn are_sources(board: &Board, sources: &[Source]) -> bool
+    ensures { IsTrue result ↔ All (IsSource board.now) sources.now }
+{
+    sources.iter().all(|source| source.is_of(board))
+}
+
+/// Whether each span has a number.
+fn are_spans(spans: &[Span]) -> bool
+    ensures { IsTrue result ↔ All (λ s. (s.lo ≤ s.hi) × (s.hi < 65536)) spans.now }
+{
+    spans.iter().all(|span| span.lo <= span.hi)
+}
+
+/// Whether no span ends over the greatest number of a counter.
+fn are_counters(spans: &[Span]) -> bool
+    ensures { IsTrue result ↔ All (λ s. s.hi ≤ MOST_TURNS) spans.now }
+{
+    spans.iter().all(|span| span.hi <= MOST_TURNS)
+}
+
+/// Whether each coefficient is at most the most ticks.
+fn are_coeffs(coeffs: &[u64]) -> bool
+    ensures { IsTrue result ↔ All (λ k. k ≤ most_ticks) coeffs.now }
+{
+    coeffs.iter().all(|coeff| *coeff <= MOST_TICKS)
+}
+
+/// Whether all sets of a row are sets of their targets' values.
+fn has_all_sets(board: &Board, row: &Row) -> bool
+    ensures { IsTrue result ↔ EachTarget board.now (HasSets (row_view row.now)) }
+{
+    for (index, target) in board.targets().iter().enumerate() {
+        if !has_sets(row, index, target) {
+            return false;
+        }
+    }
+    true
+}
+
+/// Whether each part of a row is one of the board.
+fn is_shaped_by_part(board: &Board, row: &Row) -> bool
+    ensures { IsTrue result ↔ IsShapedByPart board.now row.now }
+{
+    row.pages.len() == board.targets().len()
+        && row.protects.len() == board.targets().len()
+        && has_all_sets(board, row)
+        && row.good.is_of(board)
+        && are_spans(&row.regs)
+        && are_sources(board, &row.sources)
+        && are_spans(&row.counters)
+        && are_counters(&row.counters)
+        && row.base <= MOST_TICKS
+        && are_coeffs(&row.coeffs)
+}
+
+impl Row {
+    /// What every row keeps to: its arrays have their lengths.
+    pub fn is_sized(&self)
+        ensures { IsSizedRow self.now }
+    {}
+
+    /// Whether it is a row of the board: with a set of each kind for each target, which has a value
+    /// and only values of the target; rails and targets of the board; spans with a number, counters
+    /// up to 1000; and base and coefficients of at most 2^40 ticks.
+    pub fn is_of(&self, board: &Board) -> bool
+        ensures { IsTrue result ↔ IsRow board.now (row_view self.now) }
+    {
+        self.is_sized();
+        is_shaped_by_part(board, self)
+    }
+}

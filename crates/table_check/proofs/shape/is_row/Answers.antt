@@ -1,7 +1,0 @@
-use Rattle.table_check.proofs.Text.WritableRows.{shaped_row}
-use Rattle.table_check.proofs.shape.is_row.Goals as goal
-
-pub returns : goal.returns
-returns c =
-    shaped_row c.args.board.now c.args.row.now c.is_shaped_by_part.result
-    c.is_shaped_by_part.ensures

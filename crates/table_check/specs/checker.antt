@@ -1,0 +1,7 @@
+pub mod Rules
+pub mod Obligations
+pub mod ByPlace
+pub mod SafeTables
+pub mod Admitted
+pub mod Looking
+pub mod SmallTables

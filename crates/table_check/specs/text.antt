@@ -1,0 +1,9 @@
+pub mod Faults
+pub mod Lines
+pub mod Writable
+pub mod Shapes
+pub mod Texts
+pub mod TextLaws
+pub mod Written
+pub mod Saying
+pub mod Passes
