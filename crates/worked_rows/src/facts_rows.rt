@@ -9,7 +9,7 @@ mod ticks;
 use crate::boards::two_board;
 use crate::expected::same;
 use board::Board;
-use facts::{Part, Row, Source, duty, edges};
+use facts::{GoodSet, Part, Row, Source, duty, edges};
 use known::{Counted, Known, NOTHING, row_of, rule_board};
 use seq_program::{Program, read_program};
 use std::alloc::{AllocError, Global};
@@ -103,6 +103,13 @@ fn ways_of_a_counted_loop(rt: HostRuntime) {
         ways.as_deref(),
         Some([(1, 1, 0, 2), (3, 1, 0, 0)].as_slice()),
     );
+}
+
+#[test]
+fn a_rail_more(rt: HostRuntime) {
+    same(&rt, GoodSet::empty().has_some(), false);
+    let third = GoodSet::empty().with(2).with(2);
+    same(&rt, (third.contains(2), third.contains(1)), (true, false));
 }
 
 /// Whether the first sets of a row have a value, and its good rails and first source are a board's.

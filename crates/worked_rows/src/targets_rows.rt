@@ -6,7 +6,7 @@ use smbus::{Answer, Form, Message};
 use std::alloc::Global;
 use std::process::Abort;
 use std::test::*;
-use targets::{BusState, Outcome, after, after_into, fits, starts};
+use targets::{BusState, Outcome, after, after_into, fits, starts, value_goes_out};
 
 pub(crate) fn state_of(
     alloc: Global,
@@ -269,4 +269,35 @@ fn refused_and_cut_values_may_be_taken(rt: HostRuntime) {
         all_write(&rt, rt.alloc(), &CUT, Outcome::TimedOut),
         Ok(()),
     );
+}
+
+/// What an answer to a Write Byte says, and whether the value's eight bits go out.
+static VALUES: [(Said, bool); 8] = [
+    (DONE, true),
+    ((Some(0), None, false), false),
+    ((Some(1), None, false), false),
+    ((Some(2), None, false), true),
+    ((None, Some(17), false), false),
+    ((None, Some(25), false), false),
+    ((None, Some(26), false), true),
+    ((None, Some(27), false), true),
+];
+
+fn all_go_out(rt: &impl Abort, alloc: Global, rows: &[(Said, bool)]) -> Result<(), BoardFault> {
+    let message = message_of(alloc, (0, Form::WriteByte, 0x01, &[0x80]))?;
+    for &(said, goes_out) in rows {
+        let answer = said_answer(alloc, said)?;
+        same(
+            rt,
+            (said, value_goes_out(&message, &answer)),
+            (said, goes_out),
+        );
+    }
+    Ok(())
+}
+
+/// Not where the address or the code is refused, nor where a slot before its acknowledge is cut.
+#[test]
+fn values_go_out_up_to_their_last_bit(rt: HostRuntime) {
+    same(&rt, all_go_out(&rt, rt.alloc(), &VALUES), Ok(()));
 }

@@ -6,7 +6,7 @@ use crate::expected::{holds, same};
 use std::alloc::{AllocError, Global};
 use std::process::Abort;
 use std::test::*;
-use wires::{Event, Runs, Sample, arbitrate, events, events_of, wired};
+use wires::{Event, Runs, Sample, arbitrate, event_between, events, events_of, wired};
 
 const IDLE: Sample = Sample {
     scl: true,
@@ -51,6 +51,13 @@ fn start_and_stop(rt: HostRuntime) {
     ];
     let wanted = [Event::Start, Event::Rise(false), Event::Stop];
     holds(&rt, events(rt.alloc(), &samples), &wanted);
+}
+
+#[test]
+fn falling_lines(rt: HostRuntime) {
+    let started = event_between(IDLE, lines(true, false));
+    same(&rt, started, Some(Event::Start));
+    same(&rt, event_between(IDLE, lines(false, false)), None);
 }
 
 /// A sample, and for how many ticks it holds.

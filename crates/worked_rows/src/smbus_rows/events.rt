@@ -4,11 +4,12 @@ use super::{observed, reads};
 use crate::expected::same;
 use smbus::{
     Form, ObserveFault, Segment, carries_code, form_named, is_numbered, observe, only_frame,
+    only_frame_in,
 };
 use std::alloc::{AllocError, Global};
 use std::process::Abort;
 use std::test::*;
-use wires::Event;
+use wires::{Event, Runs, Sample};
 
 const HIGH: Event = Event::Rise(true);
 
@@ -118,4 +119,51 @@ fn is_one_frame(alloc: Global, events: &[Event]) -> Result<bool, AllocError> {
 fn events_of_one_frame(rt: HostRuntime) {
     same(&rt, is_one_frame(rt.alloc(), &BARE), Ok(true));
     same(&rt, is_one_frame(rt.alloc(), &[]), Ok(false));
+}
+
+/// SCL and SDA of a START, a repeated START and a STOP, tick by tick.
+static BARE_LINES: [(bool, bool); 8] = [
+    (true, true),
+    (true, false),
+    (false, true),
+    (true, true),
+    (true, false),
+    (false, false),
+    (true, false),
+    (true, true),
+];
+
+/// A few samples.
+fn push_lines(
+    rt: &impl Abort,
+    samples: &mut Runs,
+    lines: &[(bool, bool)],
+) -> Result<(), AllocError> {
+    for (scl, sda) in lines {
+        assert!(rt; samples.total() < 1000);
+        let (scl, sda, alert) = (*scl, *sda, true);
+        samples.push(Sample { scl, sda, alert }, 1)?;
+    }
+    Ok(())
+}
+
+/// Whether these lines have one frame, and whether they have one when they come twice.
+fn are_one_frame(
+    rt: &impl Abort,
+    alloc: Global,
+    lines: &[(bool, bool)],
+) -> Result<(bool, bool), AllocError> {
+    let mut samples = Runs::new(alloc);
+    push_lines(rt, &mut samples, lines)?;
+    let once = only_frame_in(alloc, &samples)?.is_some();
+    push_lines(rt, &mut samples, lines)?;
+    Ok((once, only_frame_in(alloc, &samples)?.is_some()))
+}
+
+#[test]
+fn samples_of_one_frame(rt: HostRuntime) {
+    let bare = are_one_frame(&rt, rt.alloc(), &BARE_LINES);
+    same(&rt, bare, Ok((true, false)));
+    let none = are_one_frame(&rt, rt.alloc(), &[]);
+    same(&rt, none, Ok((false, false)));
 }
