@@ -16,11 +16,16 @@ pub mod SeenFrames
 pub mod MarksOut
 pub mod FirstCut
 pub mod MarkCounts
+pub mod OneFrameOfPieces
 pub mod OneFrameOfMessage
+pub mod LowerAddress
+pub mod FirstBytes
+pub mod OneFrameOfContender
 pub mod MessageFrames
 pub mod FrameWords
 pub mod Observed
 pub mod CountedSlots
 pub mod Examples
+pub mod ContenderExamples
 pub mod WholeBytes
 pub mod ReadClocks

@@ -1,12 +1,16 @@
 pub mod Shown
 pub mod Frames
 pub mod Asked
-pub mod Answered
 pub mod Protocol
+pub mod Contenders
+pub mod Answered
+pub mod Winners
+pub mod WinnerLaws
 pub mod Slots
 pub mod SlotCounts
 pub mod Whole
 pub mod OneFrame
+pub mod ContenderLaws
 pub mod FirstSegment
 pub mod MessageFrame
 pub mod Text

@@ -106,7 +106,11 @@ fn push_nibble(slots: &mut Vec<Slot>, nibble: u8)
 
 /// The bits of a byte, most significant first, and its acknowledge.
 #[inline(always)]
-fn push_byte(slots: &mut Vec<Slot>, byte: u8, acknowledged: bool) -> Result<(), AllocError>
+pub(crate) fn push_byte(
+    slots: &mut Vec<Slot>,
+    byte: u8,
+    acknowledged: bool,
+) -> Result<(), AllocError>
     ensures { OnOk result (slots.new.items ≡ slots.old.items ++ byte_marks byte acknowledged) }
 {
     slots.reserve(9)?;
@@ -116,7 +120,7 @@ fn push_byte(slots: &mut Vec<Slot>, byte: u8, acknowledged: bool) -> Result<(), 
     Ok(())
 }
 
-fn push_sent(slots: &mut Vec<Slot>, bytes: &[u8]) -> Result<(), AllocError>
+pub(crate) fn push_sent(slots: &mut Vec<Slot>, bytes: &[u8]) -> Result<(), AllocError>
     ensures { OnOk result (slots.new.items ≡ slots.old.items ++ marks_of (sent bytes.now)) }
 {
     for byte in bytes {
@@ -125,7 +129,7 @@ fn push_sent(slots: &mut Vec<Slot>, bytes: &[u8]) -> Result<(), AllocError>
     Ok(())
 }
 
-fn push_got(slots: &mut Vec<Slot>, bytes: &[u8]) -> Result<(), AllocError>
+pub(crate) fn push_got(slots: &mut Vec<Slot>, bytes: &[u8]) -> Result<(), AllocError>
     ensures { OnOk result (slots.new.items ≡ slots.old.items ++ marks_of (got bytes.now)) }
 {
     let count = bytes.len();
