@@ -19,6 +19,8 @@ pub mod ValidTargets
 pub mod ValidTargetLists
 pub mod ValidRails
 pub mod ValidNeeds
+pub mod ValidForeign
 pub mod ValidBoards
+pub mod LastOthers
 pub mod FoundEntries
 pub mod BytesRead

@@ -14,18 +14,12 @@ use Rattle.board.specs.declared.fault.BoardFault.TheVariants.{BadStretch, BadSta
 use Rattle.board.specs.declared.keys.Sort.TheVariants as sort
 use Rattle.board.specs.declared.keys.Kind.TheVariants as kind
 use Rattle.board.specs.declared.targets.Numbers.{Numbers}
-use Rattle.board.specs.Keys.{Key, check_keys}
+use Rattle.board.specs.Keys.{check_keys, integer_key, integers_key}
 use Rattle.board.specs.Fields.{number_in, number_at, text_at, flag_at, items_at, tables_at}
 use Rattle.board.specs.Boards.{Target}
 use Rattle.board.specs.Valid.{is_target_address, is_page_value}
 use Rattle.board.specs.Named.{Named, is_named, with_item}
 use Rattle.board.specs.Entries.{entries_of}
-
-abbrev pub integer_key : List ℕ → Key
-integer_key name = (name, kind.One sort.Integer)
-
-abbrev pub integers_key : List ℕ → Key
-integers_key name = (name, kind.ListOf sort.Integer)
 
 abbrev pub check_target_keys : Members → Result Members BoardFault
 check_target_keys ms =

@@ -51,6 +51,12 @@ abbrev pub is_target_address : ℕ → Bool
 is_target_address address =
     (nat_le 0x09 address && nat_le address 0x77) && not (address == 0x0C || address == 0x61)
 
+-- the addresses to which other controllers may speak: neither reserved nor the alert response's
+-- (0Ch)
+abbrev pub is_foreign_address : ℕ → Bool
+is_foreign_address address =
+    (nat_le 0x08 address && nat_le address 0x77) && not (address == 0x0C)
+
 -- FFh stands for all pages (PMBus 1.3 Part II, 11.10)
 abbrev pub is_page_value : ℕ → ℕ → Bool
 is_page_value pages value = nat_lt value pages || value == 0xFF
@@ -100,3 +106,11 @@ pub record IsBoard (b : Board) : Type 0 where
   pub good_rail_names : AllPass is_name b.rail_names
   pub apart_target_names : AllPairs (λ m n. m ≢ n) b.target_names
   pub apart_rail_names : AllPairs (λ m n. m ≢ n) b.rail_names
+  -- the addresses of others are good ones, all different, and none is a target's
+  pub few_foreign : length b.foreign ≤ 32
+  pub good_foreign : AllPass is_foreign_address b.foreign
+  pub apart_foreign : AllPairs (λ x y. x ≢ y) b.foreign
+  pub no_target : All (λ x. All (λ t. t.address ≢ x) b.targets) b.foreign
+  pub foreign_bytes : b.foreign_bytes ≤ 255
+  pub foreign_stretch : b.foreign_stretch ≤ 4999
+  pub contentions : b.contentions ≤ 1000

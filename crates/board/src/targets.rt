@@ -93,7 +93,7 @@ fn address_at(table: &Table) -> Option<u8>
     }
 }
 
-fn has_address(address: u8, targets: &[Target]) -> bool
+pub(crate) fn has_address(address: u8, targets: &[Target]) -> bool
     ensures { result ≡ has_address address targets.now }
 {
     targets.iter().any(|target| target.address() == address)
