@@ -22,7 +22,7 @@ use Rattle.simulator.specs.Machines.{Machine, Entry, start_at}
 use Rattle.simulator.specs.Steps.{alert_level, step_entry, IsStepOf, IsStep, IsRun}
 use Rattle.simulator.specs.Entries.{idle_samples}
 use Rattle.simulator.specs.Reports.{WritesTo}
-use Rattle.simulator.specs.Allowed.{IsAllowed}
+use Rattle.simulator.specs.Allowed.{MayStand}
 use Rattle.simulator.specs.Safe.{IsSafe}
 use Rattle.simulator.specs.Headline.{IsSafeWithin, ReadsAllowed}
 use Rattle.simulator.specs.SmallPrograms.{ending_program, EndingIsSafe}
@@ -91,7 +91,7 @@ run_frames b e one = record {
   frames = [];
   read = rw append-nil one.none;
   only = λ others are. one.silent others (rw append-nil at are);
-  allowed = ([], [], refl, one.none, All-nil (IsAllowed b e.before e.samples), refl);
+  allowed = ([], [], refl, one.none, All-nil (MayStand b e.before e.samples), refl);
 }
 
 -- before its step, and after it

@@ -16,7 +16,8 @@ use Rattle.pmbus_table.specs.Protect.{is_protection}
 use Rattle.pmbus_table.specs.Table.{table}
 use Rattle.board.specs.Boards.{Allow, Target, Rail, Board}
 use Rattle.board.specs.Valid.{IsEntry, IsTarget, IsRail, IsBoard, DifferInUse, DifferInPage}
-use Rattle.board.specs.Valid.{is_target_address, is_page_value, full_values, full_length}
+use Rattle.board.specs.Valid.{is_target_address, is_foreign_address, is_page_value, full_values}
+use Rattle.board.specs.Valid.{full_length}
 use Rattle.targets.specs.States.{BusState, IsStart, IsTargetAt, MayStart}
 
 -- ---- lists of one and of two
@@ -124,6 +125,10 @@ lone protect a railed = record {
   target_names = a_name ∷ [];
   rails = if railed then small_rail ∷ [] else [];
   rail_names = if railed then a_name ∷ [] else [];
+  foreign = [];
+  foreign_bytes = 0;
+  foreign_stretch = 0;
+  contentions = 0;
 }
 
 pub its_rail : (d : ℕ) (r : Rail) → slice_get (small_rail ∷ []) d ≡ Some r → r ≡ small_rail
@@ -131,12 +136,12 @@ its_rail zero r at = let two : Some small_rail ≡ Some r = at in cc
 its_rail (suc d) r at = cc
 
 abbrev pub lone_state : ℕ → BusState
-lone_state protect = record { page = 0 ∷ []; protect = protect ∷ []; alerting = 0 }
+lone_state protect = record { page = 0 ∷ []; protect = protect ∷ []; alerting = 0; lost = 0 }
 
 pub lone_start : (protect : ℕ) (a : Allow) (railed : Bool)
     → IsStart (lone protect a railed) (lone_state protect)
 lone_start protect a railed =
-    record { pages = refl; protects = refl; targets = starts; quiet = refl }
+    record { pages = refl; protects = refl; targets = starts; quiet = refl; fresh = refl }
   where
     starts : (i : ℕ) (t : Target) → slice_get (lone_target protect a ∷ []) i ≡ Some t
         → MayStart t (slice_index (0 ∷ []) i) (slice_index (protect ∷ []) i)
@@ -172,6 +177,13 @@ is_lone protect a railed valid is = by railed
       good_rail_names = All-nil (λ (n : List ℕ). is_name n ≡ true);
       apart_target_names = no_pair (λ (m n : List ℕ). m ≢ n) a_name;
       apart_rail_names = λ i j d lt few. absurd (omega (arith, few));
+      few_foreign = lit≤ tt;
+      good_foreign = All-nil (λ address. is_foreign_address address ≡ true);
+      apart_foreign = λ i j d lt few. absurd (omega (arith, few));
+      no_target = All-nil (λ (x : ℕ). All (λ (u : Target). u.address ≢ x) (t ∷ []));
+      foreign_bytes = lit≤ tt;
+      foreign_stretch = lit≤ tt;
+      contentions = lit≤ tt;
     }
     by true = record {
       one_target = lit≤ tt;
@@ -193,6 +205,13 @@ is_lone protect a railed valid is = by railed
       good_rail_names = one (λ n. is_name n ≡ true) a_name refl;
       apart_target_names = no_pair (λ (m n : List ℕ). m ≢ n) a_name;
       apart_rail_names = no_pair (λ (m n : List ℕ). m ≢ n) a_name;
+      few_foreign = lit≤ tt;
+      good_foreign = All-nil (λ address. is_foreign_address address ≡ true);
+      apart_foreign = λ i j d lt few. absurd (omega (arith, few));
+      no_target = All-nil (λ (x : ℕ). All (λ (u : Target). u.address ≢ x) (t ∷ []));
+      foreign_bytes = lit≤ tt;
+      foreign_stretch = lit≤ tt;
+      contentions = lit≤ tt;
     }
 
 -- ---- two targets, whose rails may be asked, turned off and turned on: the first needs the second,
@@ -227,13 +246,18 @@ needing = record {
   target_names = a_name ∷ b_name ∷ [];
   rails = upper ∷ lower ∷ [];
   rail_names = a_name ∷ b_name ∷ [];
+  foreign = [];
+  foreign_bytes = 0;
+  foreign_stretch = 0;
+  contentions = 0;
 }
 
 abbrev pub needing_state : BusState
-needing_state = record { page = 0 ∷ 0 ∷ []; protect = 0 ∷ 0 ∷ []; alerting = 0 }
+needing_state = record { page = 0 ∷ 0 ∷ []; protect = 0 ∷ 0 ∷ []; alerting = 0; lost = 0 }
 
 pub needing_start : IsStart needing needing_state
-needing_start = record { pages = refl; protects = refl; targets = starts; quiet = refl }
+needing_start =
+    record { pages = refl; protects = refl; targets = starts; quiet = refl; fresh = refl }
   where
     starts : (i : ℕ) (t : Target) → slice_get (first_target ∷ second_target ∷ []) i ≡ Some t
         → MayStart t (slice_index (0 ∷ 0 ∷ []) i) (slice_index (0 ∷ 0 ∷ []) i)
@@ -310,4 +334,12 @@ is_needing = record {
   good_rail_names = two (λ n. is_name n ≡ true) a_name b_name refl refl;
   apart_target_names = pair (λ (m n : List ℕ). m ≢ n) a_name b_name differ;
   apart_rail_names = pair (λ (m n : List ℕ). m ≢ n) a_name b_name differ;
+  few_foreign = lit≤ tt;
+  good_foreign = All-nil (λ address. is_foreign_address address ≡ true);
+  apart_foreign = λ i j d lt few. absurd (omega (arith, few));
+  no_target =
+      All-nil (λ (x : ℕ). All (λ (u : Target). u.address ≢ x) (first_target ∷ second_target ∷ []));
+  foreign_bytes = lit≤ tt;
+  foreign_stretch = lit≤ tt;
+  contentions = lit≤ tt;
 }

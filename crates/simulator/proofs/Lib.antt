@@ -12,6 +12,7 @@ pub mod Doing
 pub mod Joining
 pub mod MadeSteps
 pub mod FittingSteps
+pub mod EitherSteps
 pub mod SmallCodes
 pub mod WireMessages
 pub mod SeenSteps
@@ -20,6 +21,7 @@ pub mod NextPlaces
 pub mod Addresses
 pub mod OneTarget
 pub mod OneEntry
+pub mod OneForeign
 pub mod OneRun
 pub mod Runs
 pub mod Seen

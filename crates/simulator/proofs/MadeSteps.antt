@@ -5,12 +5,14 @@ use Rattle.wires.specs.declared.lines.Sample.{Sample}
 use Rattle.bit_bus.specs.Word.{ReadsBack}
 use Rattle.smbus.specs.Asked.{Asked}
 use Rattle.smbus.specs.Answered.{Answered}
-use Rattle.smbus.specs.OneFrame.{CanBeSent, SlotsAreOneFrame}
+use Rattle.smbus.specs.ContenderLaws.{ContendersHaveOneFrame}
+use Rattle.smbus.specs.Winners.{winner}
+use Rattle.smbus.specs.OneFrame.{SlotsAreOneFrame}
 use Rattle.board.specs.Boards.{Board}
 use Rattle.targets.specs.declared.outcome.Outcome.{Outcome}
 use Rattle.targets.specs.Outcomes.{outcome_of}
 use Rattle.targets.specs.Fitting.{FitsStep}
-use Rattle.targets.specs.Effects.{IsAfter}
+use Rattle.targets.specs.Effects.{IsAfterStep}
 use Rattle.targets.specs.States.{BusState}
 use Rattle.seq_program.specs.declared.instr.Instr.{Instr}
 use Rattle.seq_program.specs.Messages.{message_of}
@@ -18,6 +20,7 @@ use Rattle.simulator.specs.declared.machine.Ending.TheVariants.{Running}
 use Rattle.simulator.specs.Machines.{Machine, Entry}
 use Rattle.simulator.specs.Moves.{moved}
 use Rattle.simulator.specs.Steps.{step_samples, sent_outcome, step_entry, IsStepOf, IsStep}
+use Rattle.simulator.specs.Standing.{CanStand}
 use Rattle.simulator.specs.Traces.{HasItsFrame}
 use Rattle.simulator.proofs.Seen.{silent_seen, message_seen}
 
@@ -52,13 +55,13 @@ same_entry i o a m place before samples outcome ticks p b s r t =
 
 pub made_step : (b : Board) (i : Instr) (o : Option Asked) (m : Machine) (a : Answered)
     (bus : BusState) (outcome : Outcome) (next : Machine) (e : Entry)
-    → FitsStep b m.bus o a → IsAfter b m.bus o a bus → outcome ≡ outcome_of o a
+    → FitsStep b m.bus o a → IsAfterStep b m.bus o a bus → outcome ≡ outcome_of o a
     → next ≡ moved i o outcome bus m → e ≡ step_entry i o a m → IsStepOf b i o m a e next
 made_step b i o m a bus outcome next e fits after ends goes is =
     let same : next.bus ≡ bus = ap (λ (x : Machine). x.bus) goes ∙ moved_bus i o outcome bus m in
     record {
       fits = fits;
-      bus = subst (λ (x : BusState). IsAfter b m.bus o a x) (sym same) after;
+      bus = subst (λ (x : BusState). IsAfterStep b m.bus o a x) (sym same) after;
       next_is =
           goes ∙ ap (λ (x : Outcome). moved i o x bus m) ends
           ∙ ap (λ (x : BusState). moved i o (outcome_of o a) x m) (sym same);
@@ -66,9 +69,11 @@ made_step b i o m a bus outcome next e fits after ends goes is =
     }
 
 pub seen_entry : (i : Instr) (o : Option Asked) (a : Answered) (m : Machine) → ReadsBack
-    → SlotsAreOneFrame → IfSome o (λ asked. CanBeSent asked a) → HasItsFrame (step_entry i o a m)
-seen_entry i None a m reads slots can = silent_seen i a m
-seen_entry i (Some asked) a m reads slots can = message_seen i asked a m reads slots can
+    → SlotsAreOneFrame → ContendersHaveOneFrame
+    → IfSome o (λ asked. CanStand (winner asked a) asked a) → HasItsFrame (step_entry i o a m)
+seen_entry i None a m reads slots others can = silent_seen i a m
+seen_entry i (Some asked) a m reads slots others can =
+    message_seen i asked a m reads slots others can
 
 -- the step of the instruction at a running machine's place
 pub step_here : (b : Board) (p : List Instr) (i : Instr) (o : Option Asked) (m : Machine)

@@ -11,6 +11,7 @@ use Rattle.smbus.specs.Answered.{Answered}
 use Rattle.board.specs.Boards.{Board}
 use Rattle.targets.specs.declared.outcome.Outcome.{Outcome}
 use Rattle.targets.specs.declared.outcome.Outcome.TheVariants.{Done, NotAcknowledged, TimedOut}
+use Rattle.targets.specs.declared.outcome.Outcome.TheVariants.{Lost}
 use Rattle.targets.specs.Outcomes.{outcome_of}
 use Rattle.targets.specs.States.{BusState}
 use Rattle.seq_program.specs.declared.instr.Instr.{Instr}
@@ -141,6 +142,9 @@ message_place p i NotAcknowledged m is here goes =
     jump_or_stay (jump_in i) m.place (length p) (jump_lands p m.place i is here)
     (slice_get_within p m.place i here)
 message_place p i TimedOut m is here goes =
+    jump_or_stay (jump_in i) m.place (length p) (jump_lands p m.place i is here)
+    (slice_get_within p m.place i here)
+message_place p i Lost m is here goes =
     jump_or_stay (jump_in i) m.place (length p) (jump_lands p m.place i is here)
     (slice_get_within p m.place i here)
 

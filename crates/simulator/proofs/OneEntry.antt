@@ -32,7 +32,7 @@ shape_of m a alert one None (Some slot) r c = inr (one.cut slot c alert)
 
 -- how many samples there are
 
-less_times : (n k j : ℕ) → n ≤ k → n * j ≤ k * j
+pub less_times : (n k j : ℕ) → n ≤ k → n * j ≤ k * j
 less_times n k j le =
     let whole : k ≡ n + (k - n) = omega arith in
     let s : k * j ≡ (n + (k - n)) * j = ap (λ x. x * j) whole in

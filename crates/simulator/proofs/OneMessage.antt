@@ -1,12 +1,15 @@
 -- Every run of a program that sends one message and ends is safe, where the board and its starts
 -- say so of the message.
-use Rattle.std.proofs.Common.{◌≡◌, ◌≤◌, ◌<◌, ◌+◌, ◌*◌, ℕ, true, Option, Some}
+use Rattle.std.proofs.Common.{◌≡◌, ◌≤◌, ◌<◌, ◌+◌, ◌*◌, ℕ, true, Option, Some, None}
 use Rattle.std.proofs.Common.{List, [], ◌∷◌, length, slice_get, slice_index, IfSome, IsTrue}
 use Rattle.std.proofs.Common.{refl, sym, ap, subst, ◌∙◌, arith, lit<}
+use Rattle.std.proofs.lemmas.Bool.{lt-ltb}
 use Rattle.std.proofs.lemmas.List.Elements.{All-nil}
 use Rattle.smbus.specs.declared.message.Form.TheVariants.{WriteByte, WriteWord}
 use Rattle.smbus.specs.Asked.{Asked}
 use Rattle.smbus.specs.Answered.{Answered}
+use Rattle.smbus.specs.Contenders.{Contender}
+use Rattle.smbus.specs.Winners.{winner, unless_won, carried}
 use Rattle.smbus.specs.Protocol.{AreGoodCounts}
 use Rattle.smbus.specs.SlotCounts.{most_slots}
 use Rattle.pmbus_table.specs.Codes.{operation_code}
@@ -16,11 +19,12 @@ use Rattle.pmbus_table.specs.Voltage.{IsWithin, carries_voltage}
 use Rattle.board.specs.Boards.{Target, Rail, Board, largest_stretch}
 use Rattle.board.specs.Valid.{IsBoard}
 use Rattle.targets.specs.States.{BusState, IsStart, IsTargetAt}
-use Rattle.targets.specs.Fitting.{Fits, lengths_for}
+use Rattle.targets.specs.Fitting.{Fits, FitsOver, lengths_for}
 use Rattle.targets.specs.SomeAnswer.{IsMessage}
 use Rattle.targets.specs.Outcomes.{outcome_of}
 use Rattle.targets.specs.declared.outcome.Outcome.{Outcome}
 use Rattle.targets.specs.declared.outcome.Outcome.TheVariants.{Done, NotAcknowledged, TimedOut}
+use Rattle.targets.specs.declared.outcome.Outcome.TheVariants.{Lost}
 use Rattle.targets.specs.PlaceLaws.{TargetsAreFound}
 use Rattle.seq_program.specs.declared.instr.Instr.{Instr}
 use Rattle.seq_program.specs.declared.instr.Instr.TheVariants.{End}
@@ -34,9 +38,11 @@ use Rattle.simulator.specs.Allowed.{word_of, IsAllowedBy}
 use Rattle.simulator.specs.Reports.{Selects, IsReportedGood}
 use Rattle.simulator.specs.Safe.{is_guarded, IsSafe, AreSafe}
 use Rattle.simulator.specs.StepDoes.{StepDoes}
-use Rattle.simulator.specs.StepLaws.{StepsAreSeen, StartsAreReady, CarriesMessage, Carries}
+use Rattle.simulator.specs.ForeignTicks.{foreign_ticks, ticks_in_place, message_ticks}
+use Rattle.simulator.specs.StepLaws.{StepsAreSeen, StartsAreReady, CarriesOver, Carries}
 use Rattle.simulator.specs.EntryLaws.{IdleReadsBack}
-use Rattle.simulator.specs.SafeLaws.{AllowedFramesAreSeen, SendsMessage, SafeStepsAreSafeRuns}
+use Rattle.simulator.specs.SafeLaws.{HasAllowedFrame, AllowedFramesAreSeen, SendsMessage}
+use Rattle.simulator.specs.SafeLaws.{SafeStepsAreSafeRuns}
 use Rattle.simulator.specs.Headline.{RunsAreSafe}
 use Rattle.simulator.proofs.EndingProgram.{step_of, seen, safe}
 use Rattle.simulator.proofs.OneTarget.{only_one}
@@ -83,24 +89,43 @@ program_of b x i t m slots sends =
 -- its first step
 record First (b : Board) (s : BusState) (m : Asked) (slots : ℕ) (a : Answered) (e : Entry)
     (next : Machine) : Type 0 where
-  pub fits : Fits b s m a
-  pub carries : CarriesMessage s m a e
-  pub does : StepDoes b s (Some m) a e
+  pub fits : FitsOver (winner m a) b s m a
+  pub carries : CarriesOver (winner m a) b s m a e
+  pub does : StepDoes b s (unless_won (winner m a) m) a e
   pub place : next.place ≡ 1
   pub ended : next.ended ≡ Running
-  pub ticks : e.ticks ≤ 2 + slots * (3 + largest_stretch b.targets)
+  pub ticks : e.ticks ≤ message_ticks b slots
 
 place_after : (x : Instr) (m : Asked) (s new : BusState) (o : Outcome) → jump_in x ≡ Some 1
     → (moved x (Some m) o new (start_at s)).place ≡ 1
 place_after x m s new (Done value) next = refl
 place_after x m s new NotAcknowledged next = rw next refl
 place_after x m s new TimedOut next = rw next refl
+place_after x m s new Lost next = rw next refl
 
 ended_after : (x : Instr) (m : Asked) (s new : BusState) (o : Outcome)
     → (moved x (Some m) o new (start_at s)).ended ≡ Running
 ended_after x m s new (Done value) = refl
 ended_after x m s new NotAcknowledged = refl
 ended_after x m s new TimedOut = refl
+ended_after x m s new Lost = refl
+
+-- its ticks, or those of the frame that stands in its place
+contended : (b : Board) → 0 < b.contentions → ticks_in_place b ≡ foreign_ticks b
+contended b some = rw (lt-ltb 0 b.contentions some) refl
+
+few_over : (b : Board) (m : Asked) (slots : ℕ) (s : BusState) (a : Answered) (e : Entry)
+    (w : Option Contender) → most_slots m.form (length m.out) (length a.bytes) ≡ slots
+    → FitsOver w b s m a → CarriesOver w b s m a e
+    → length e.samples ≤ message_ticks b slots
+few_over b m slots s a e None long fits carries =
+    let few = rw long at (carries.reads.few (largest_stretch b.targets) fits.holds) in
+    let samples = ap length carries.samples in
+    omega (arith, samples, few)
+few_over b m slots s a e (Some c) long fits carries =
+    let few = carries.few in
+    let place = contended b carries.may_lose in
+    omega (arith, few, place)
 
 first_of : KnownOfSteps → (b : Board) (x : Instr) (i : ℕ) (t : Target) (m : Asked) (slots : ℕ)
     (s : BusState) (a : Answered) (e : Entry) (next : Machine) → SendsSafely b x i t m slots
@@ -115,8 +140,8 @@ first_of known b x i t m slots s a e next sends starts step =
     let same : x ≡ seen.instr = let here : slice_get p 0 ≡ Some seen.instr = seen.here in cc in
     let asked : message_of b seen.instr (start_at s).regs ≡ Some m =
     subst (λ (y : Instr). message_of b y (start_at s).regs ≡ Some m) same asks in
-    let carries : CarriesMessage s m a e =
-    subst (λ (o : Option Asked). Carries s o a e) asked seen.carries in
+    let carries : CarriesOver (winner m a) b s m a e =
+    subst (λ (o : Option Asked). Carries b s o a e) asked seen.carries in
     let taken : x ≡ step.instr = let here : slice_get p 0 ≡ Some step.instr = step.here in cc in
     let of : IsStepOf b x (Some m) (start_at s) a e next =
     subst (λ (o : Option Asked). IsStepOf b x o (start_at s) a e next) asks
@@ -126,16 +151,15 @@ first_of known b x i t m slots s a e next sends starts step =
     let long : e.ticks ≡ length e.samples =
     ap (λ (y : Entry). y.ticks) of.entry_is ∙ sym (ap (λ (y : Entry). length y.samples) of.entry_is)
     in
-    let few = rw (sends.long (length a.bytes)) at
-    (carries.reads.few (largest_stretch b.targets) of.fits.holds) in
-    let samples = ap length carries.samples in
+    let few = few_over b m slots s a e (winner m a) (sends.long (length a.bytes)) of.fits.1
+    carries in
     record {
-      fits = of.fits;
+      fits = of.fits.1;
       carries = carries;
-      does = subst (λ (o : Option Asked). StepDoes b s o a e) asked seen.does;
+      does = subst (λ (o : Option Asked). StepDoes b s (carried o a) a e) asked seen.does;
       place = ap (λ (y : Machine). y.place) of.next_is ∙ place_after x m s next.bus o sends.goes_on;
       ended = ap (λ (y : Machine). y.ended) of.next_is ∙ ended_after x m s next.bus o;
-      ticks = omega (arith, long, samples, few);
+      ticks = rw long few;
     }
 
 -- the target of the message's address is the one that it is sent to
@@ -147,42 +171,67 @@ its_target found b i j t u m is at uj to other =
     let there : Some t ≡ Some u = sym at ∙ subst (λ n. IsTargetAt b n u) (sym same) uj in
     (same, cc)
 
+-- the step where none wins over its message, and where one does
+safe_alone : KnownOfSteps → (b : Board) (x : Instr) (i : ℕ) (t : Target) (m : Asked) (slots : ℕ)
+    (s : BusState) (a : Answered) (e : Entry) → SendsSafely b x i t m slots → IsStart b s
+    → HasAllowedFrame b e → StepDoes b s (Some m) a e → IsSafe b [] e
+safe_alone known b x i t m slots s a e sends starts one does = record {
+  read = one.read;
+  one = one.one;
+  allowed = one.allowed;
+  protection = λ j u code uj writes guarded.
+      let told = (does.writes j u code uj).0 writes in
+      let same = its_target known.found b i j t u m sends.is sends.at uj sends.to told.to in
+      let free = sends.permitted s starts
+      (subst (λ n. IsTrue (is_guarded n)) (sym told.command) guarded) in
+      rw does.before (rw (sym same.0) (rw (sym told.command) free));
+  limits = λ j u code low high d r uj sets begins selected.
+      let told = (does.voltages j u code low high uj sets).0 begins in
+      let same = its_target known.found b i j t u m sends.is sends.at uj sends.to told.to in
+      let here : Selects b s i d r = rw same.0 (rw (sym does.before) selected) in
+      let within =
+      sends.within s d r starts told.form
+      (subst (λ n. IsTrue (carries_voltage n)) (sym told.command) sets) here in
+      let word : word_of m.out ≡ low + 256 * high = ap word_of told.content in
+      rw (sym same.1) (rw (sym word) within);
+  order = λ j u value d r uj begins on selected.
+      let told = (does.operations j u value uj).0 begins in
+      let same =
+      its_target known.found b i j t u m sends.is sends.at uj sends.to told.is_write.to in
+      let here : Selects b s i d r = rw same.0 (rw (sym does.before) selected) in
+      let byte : slice_index m.out 0 ≡ value =
+      ap (λ (bytes : List ℕ). slice_index bytes 0) told.is_write.content in
+      let none =
+      sends.needless s d r starts told.is_write.form told.is_write.command (rw byte on) here in
+      rw none (All-nil (IsReportedGood b []));
+}
+
+safe_lost : (b : Board) (s : BusState) (a : Answered) (e : Entry) → HasAllowedFrame b e
+    → StepDoes b s None a e → IsSafe b [] e
+safe_lost b s a e one does = record {
+  read = one.read;
+  one = one.one;
+  allowed = one.allowed;
+  protection = λ j u code uj writes guarded. absurd ((does.writes j u code uj).0 writes);
+  limits = λ j u code low high d r uj sets begins selected.
+      absurd ((does.voltages j u code low high uj sets).0 begins);
+  order = λ j u value d r uj begins on selected.
+      absurd ((does.operations j u value uj).0 begins);
+}
+
 first_safe : KnownOfSteps → (b : Board) (x : Instr) (i : ℕ) (t : Target) (m : Asked) (slots : ℕ)
     (s : BusState) (a : Answered) (e : Entry) (next : Machine) → SendsSafely b x i t m slots
     → IsStart b s → First b s m slots a e next → IsSafe b [] e
 first_safe known b x i t m slots s a e next sends starts f =
-    let may = sends.allowed s a starts f.fits in
-    let one = known.frames b s (Some m) a e f.does.before f.carries may in
-    record {
-      read = one.read;
-      one = one.one;
-      allowed = one.allowed;
-      protection = λ j u code uj writes guarded.
-          let told = (f.does.writes j u code uj).0 writes in
-          let same = its_target known.found b i j t u m sends.is sends.at uj sends.to told.to in
-          let free = sends.permitted s starts
-          (subst (λ n. IsTrue (is_guarded n)) (sym told.command) guarded) in
-          rw f.does.before (rw (sym same.0) (rw (sym told.command) free));
-      limits = λ j u code low high d r uj sets begins selected.
-          let told = (f.does.voltages j u code low high uj sets).0 begins in
-          let same = its_target known.found b i j t u m sends.is sends.at uj sends.to told.to in
-          let here : Selects b s i d r = rw same.0 (rw (sym f.does.before) selected) in
-          let within =
-          sends.within s d r starts told.form
-          (subst (λ n. IsTrue (carries_voltage n)) (sym told.command) sets) here in
-          let word : word_of m.out ≡ low + 256 * high = ap word_of told.content in
-          rw (sym same.1) (rw (sym word) within);
-      order = λ j u value d r uj begins on selected.
-          let told = (f.does.operations j u value uj).0 begins in
-          let same =
-          its_target known.found b i j t u m sends.is sends.at uj sends.to told.is_write.to in
-          let here : Selects b s i d r = rw same.0 (rw (sym f.does.before) selected) in
-          let byte : slice_index m.out 0 ≡ value =
-          ap (λ (bytes : List ℕ). slice_index bytes 0) told.is_write.content in
-          let none =
-          sends.needless s d r starts told.is_write.form told.is_write.command (rw byte on) here in
-          rw none (All-nil (IsReportedGood b []));
-    }
+    by (winner m a) f.fits f.does (known.frames b s (Some m) a e f.does.before f.carries)
+  where
+    by : (w : Option Contender) → FitsOver w b s m a → StepDoes b s (unless_won w m) a e
+        → (IfSome (unless_won w m) (λ m. IsAllowedBy b s m a) → HasAllowedFrame b e)
+        → IsSafe b [] e
+    by None fits does frames =
+        safe_alone known b x i t m slots s a e sends starts
+        (frames (sends.allowed s a starts fits)) does
+    by (Some c) fits does frames = safe_lost b s a e (frames tt) does
 
 -- what runs may be: none, its first step, and `end` after it
 record Judged (b : Board) (p : List Instr) (bound : ℕ) (entries : List Entry)
@@ -215,7 +264,7 @@ judged : KnownOfSteps → (b : Board) (x : Instr) (i : ℕ) (t : Target) (m : As
     (s : BusState) → SendsSafely b x i t m slots → IsStart b s → (answers : List Answered)
     (entries : List Entry) (last : Machine)
     → IsRun b (x ∷ End ∷ []) (start_at s) answers entries last
-    → Judged b (x ∷ End ∷ []) (3 + slots * (3 + largest_stretch b.targets)) entries last
+    → Judged b (x ∷ End ∷ []) (1 + message_ticks b slots) entries last
 judged known b x i t m slots s sends starts [] [] last run =
     record {
       safe = tt;
@@ -273,11 +322,10 @@ judged known b x i t m slots s sends starts (a ∷ d ∷ c ∷ answers) (e ∷ g
 
 pub one_message_is_safe : KnownOfSteps → (b : Board) (x : Instr) (i : ℕ) (t : Target) (m : Asked)
     (slots : ℕ) → SendsSafely b x i t m slots
-    → RunsAreSafe b (x ∷ End ∷ []) (3 + slots * (3 + largest_stretch b.targets))
+    → RunsAreSafe b (x ∷ End ∷ []) (1 + message_ticks b slots)
 one_message_is_safe known b x i t m slots sends s answers entries last starts run =
     let p = x ∷ End ∷ [] in
     let program = program_of b x i t m slots sends in
     let j = judged known b x i t m slots s sends starts answers entries last run in
-    known.runs b p (start_at s) last answers entries
-    (3 + slots * (3 + largest_stretch b.targets)) sends.is program
+    known.runs b p (start_at s) last answers entries (1 + message_ticks b slots) sends.is program
     (known.ready b p s sends.is program starts) run j.safe j.ticks j.sends

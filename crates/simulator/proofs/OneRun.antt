@@ -9,7 +9,8 @@ use Rattle.smbus.specs.Asked.{Asked}
 use Rattle.smbus.specs.Answered.{Answered}
 use Rattle.board.specs.Boards.{Target, Board}
 use Rattle.targets.specs.States.{BusState, Alerts}
-use Rattle.targets.specs.Effects.{Writes, WritesPage, WritesProtect, IsStored, IsAfter}
+use Rattle.targets.specs.Effects.{Writes, WritesPage, WritesProtect, IsStored, IsAfterStep}
+use Rattle.smbus.specs.Winners.{carried}
 use Rattle.targets.specs.Outcomes.{outcome_of}
 use Rattle.seq_program.specs.declared.instr.Instr.{Instr}
 use Rattle.seq_program.specs.Messages.{message_of}
@@ -54,22 +55,26 @@ same_alerting x y same =
     same_bit (bit_at x.alerting i) (bit_at y.alerting i) (bit_at-lt x.alerting i)
     (bit_at-lt y.alerting i) (same i).0 (same i).1)
 
-abbrev stored : List ℕ → List ℕ → ℕ → BusState
-stored pages protects alerting =
-    record { page = pages; protect = protects; alerting = alerting }
+abbrev stored : List ℕ → List ℕ → ℕ → ℕ → BusState
+stored pages protects alerting lost =
+    record { page = pages; protect = protects; alerting = alerting; lost = lost }
 
-same_stored : (pages protects : List ℕ) (alerting : ℕ) (y : BusState) → pages ≡ y.page
-    → protects ≡ y.protect → alerting ≡ y.alerting → stored pages protects alerting ≡ y
-same_stored pages protects alerting y is are alert = rw (is, are, alert) refl
+same_stored : (pages protects : List ℕ) (alerting lost : ℕ) (y : BusState) → pages ≡ y.page
+    → protects ≡ y.protect → alerting ≡ y.alerting → lost ≡ y.lost
+    → stored pages protects alerting lost ≡ y
+same_stored pages protects alerting lost y is are alert count = rw (is, are, alert, count) refl
 
 same_state : (x y : BusState) → x.page ≡ y.page → x.protect ≡ y.protect
-    → x.alerting ≡ y.alerting → x ≡ y
-same_state x y pages protects alerting =
-    same_stored x.page x.protect x.alerting y pages protects alerting
+    → x.alerting ≡ y.alerting → x.lost ≡ y.lost → x ≡ y
+same_state x y pages protects alerting lost =
+    same_stored x.page x.protect x.alerting x.lost y pages protects alerting lost
 
 one_after : (b : Board) (s : BusState) (m : Option Asked) (a : Answered) (x y : BusState)
-    → IsAfter b s m a x → IsAfter b s m a y → x ≡ y
-one_after b s m a x y k l =
+    → IsAfterStep b s m a x → IsAfterStep b s m a y → x ≡ y
+one_after b s o a x y after same =
+    let m = carried o a in
+    let k = after.targets in
+    let l = same.targets in
     let few = k.pages in
     let fewer = k.protects in
     same_state x y
@@ -85,6 +90,7 @@ one_after b s m a x y k l =
       (λ up. (l.alerting i).1 ((k.alerting i).0 up)),
       (λ up. (k.alerting i).1 ((l.alerting i).0 up)),
     )))
+    (after.lost ∙ sym same.lost)
 
 one_step_of : (b : Board) (i : Instr) (message : Option Asked) (m : Machine) (a : Answered)
     (e f : Entry) (x y : Machine) → IsStepOf b i message m a e x → IsStepOf b i message m a f y

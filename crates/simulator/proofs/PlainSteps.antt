@@ -15,6 +15,7 @@ use Rattle.bit_bus.specs.Levels.{is_cut, first_cut}
 use Rattle.smbus.specs.declared.message.Form.TheVariants.{WriteByte, Alert}
 use Rattle.smbus.specs.Asked.{Asked}
 use Rattle.smbus.specs.Answered.{Answered}
+use Rattle.smbus.specs.Winners.{carried}
 use Rattle.smbus.specs.Slots.{slots_of, plan_of}
 use Rattle.pmbus_table.specs.Codes.{page_code, write_protect_code}
 use Rattle.board.specs.Boards.{Target, Board, largest_stretch}
@@ -36,7 +37,15 @@ use Rattle.simulator.specs.StepLaws.{IsReady, CarriesMessage, Carries, StepsAreS
 -- what is read is this value, if anything
 abbrev pub plain : ℕ → Answered
 plain value =
-    record { holds = []; refuse = None; value = value; bytes = []; took = false; alerts = 0 }
+    record {
+      holds = [];
+      refuse = None;
+      value = value;
+      bytes = [];
+      took = false;
+      alerts = 0;
+      contender = None;
+    }
 
 -- nothing is cut where nothing is held
 pub uncut : (slots : List Slot) (place : ℕ)
@@ -126,8 +135,8 @@ plain_step b p machine i m value sends = record {
   instr = i;
   here = sends.here;
   step = rw sends.message (record {
-    fits = fits b machine.bus m value sends.reads;
-    bus = unchanged b machine.bus m value sends.leaves;
+    fits = (tt, fits b machine.bus m value sends.reads);
+    bus = record { targets = unchanged b machine.bus m value sends.leaves; lost = refl };
     next_is = refl;
     entry_is = refl;
   });
@@ -154,7 +163,8 @@ step_seen steps b p machine i m value is program ready sends =
     let asked : message_of b seen.instr machine.regs ≡ Some m =
     subst (λ (x : Instr). message_of b x machine.regs ≡ Some m) same sends.message in
     record {
-      carries = subst (λ (o : Option Asked). Carries machine.bus o a e) asked seen.carries;
-      does = subst (λ (o : Option Asked). StepDoes b machine.bus o a e) asked seen.does;
+      carries = subst (λ (o : Option Asked). Carries b machine.bus o a e) asked seen.carries;
+      does =
+          subst (λ (o : Option Asked). StepDoes b machine.bus (carried o a) a e) asked seen.does;
       ready = seen.ready;
     }

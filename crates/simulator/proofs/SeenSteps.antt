@@ -1,7 +1,7 @@
 -- What a step of the model is seen to do.
 use Rattle.std.proofs.Common.{◌≡◌, ◌≤◌, ◌<◌, ◌+◌, ◌%◌, ℕ, zero, suc, Option, Some, None, List, []}
+use Rattle.std.proofs.Common.{length, IfSome}
 use Rattle.std.proofs.Common.{◌∷◌, ◌++◌, ◌∙◌, Bool, min, replicate, slice_index, slice_set, refl}
-use Rattle.std.proofs.Common.{sym}
 use Rattle.std.proofs.Common.{ap, arith}
 use Rattle.std.specs.List.{AllByRecursion}
 use Rattle.std.proofs.lemmas.List.Elements.{All-from_recursion, recursion_from_All}
@@ -9,37 +9,56 @@ use Rattle.smbus.specs.declared.message.Form.{Form}
 use Rattle.smbus.specs.declared.message.Form.TheVariants as form
 use Rattle.smbus.specs.Asked.{Asked}
 use Rattle.smbus.specs.Answered.{Answered}
+use Rattle.smbus.specs.Contenders.{Contender, contender_samples, contender_slot_count}
+use Rattle.smbus.specs.Winners.{winner, unless_won, carried}
 use Rattle.smbus.specs.FirstSegment.{message_bytes, bytes_out}
 use Rattle.smbus.specs.MessageFrame.{AreAsked}
 use Rattle.board.specs.Boards.{Board}
 use Rattle.board.specs.Valid.{IsBoard}
 use Rattle.targets.specs.declared.outcome.Outcome.{Outcome}
 use Rattle.targets.specs.declared.outcome.Outcome.TheVariants.{Done, NotAcknowledged, TimedOut}
-use Rattle.targets.specs.Outcomes.{returned_by, ending_of, cut_of, outcome_of}
+use Rattle.targets.specs.declared.outcome.Outcome.TheVariants.{Lost}
+use Rattle.targets.specs.Outcomes.{returned_by, ending_of, cut_of, outcome_alone, outcome_over}
 use Rattle.targets.specs.States.{Belongs}
 use Rattle.targets.specs.StateLaws.{StartsBelong, StepsBelong}
-use Rattle.targets.specs.Fitting.{Fits}
+use Rattle.targets.specs.Fitting.{Fits, FitsOver, MayContend}
+use Rattle.targets.specs.ContendedLaws.{AllowedCanStart}
 use Rattle.targets.specs.RangeLaws.{LengthsAreOfBlocks}
 use Rattle.targets.specs.WireLaws.{IsOnWire, FittingBytesAreOnWire}
 use Rattle.seq_program.specs.declared.instr.Instr.{Instr}
 use Rattle.seq_program.specs.declared.instr.Instr.TheVariants as instr
 use Rattle.seq_program.specs.Messages.{message_of}
 use Rattle.seq_program.specs.Valid.{IsInstr}
-use Rattle.smbus.specs.Slots.{samples_of}
+use Rattle.wires.specs.Events.{events_of}
+use Rattle.smbus.specs.Contenders.{contender_frame}
+use Rattle.smbus.specs.OneFrame.{IsOnlyFrame}
 use Rattle.simulator.specs.Entries.{IsEntry}
 use Rattle.simulator.specs.EntryLaws.{EntriesReadBack, IdleReadsBack, ReadsOne}
+use Rattle.simulator.specs.EntryLaws.{ReadsForeign, ForeignReadsBack}
+use Rattle.simulator.specs.ForeignTicks.{foreign_ticks}
 use Rattle.simulator.specs.Does.{IsFrontOfBytes, EntriesDoAsAsked}
 use Rattle.simulator.specs.Machines.{Machine, Entry}
 use Rattle.seq_program.specs.Requests.{result_in}
 use Rattle.simulator.specs.Moves.{with_result, after_message, silently}
-use Rattle.simulator.specs.Steps.{alert_level, idle_ticks, IsStepOf}
+use Rattle.simulator.specs.Steps.{alert_level, idle_ticks, samples_over, IsStepOf}
 use Rattle.simulator.specs.StepDoes.{StepDoes}
-use Rattle.simulator.specs.StepLaws.{Carries, StepsAreSeen, StartsAreReady}
+use Rattle.simulator.specs.StepLaws.{CarriesOver, Carries, StepsAreSeen, StartsAreReady}
 use Rattle.simulator.proofs.NextPlaces.{is_instr, stepped_place}
-use Rattle.simulator.proofs.Sendable.{sendable}
-use Rattle.simulator.proofs.StepDoing.{message_does, silence_does}
+use Rattle.simulator.proofs.OneEntry.{less_times}
+use Rattle.simulator.proofs.Sendable.{can_be_sent, may_contend}
+use Rattle.simulator.proofs.StepDoing.{message_does, silence_does, foreign_does}
 use Rattle.simulator.proofs.TakenForms.{takes_own_form, no_block_read}
 use Rattle.simulator.proofs.WireMessages.{sent_bytes}
+
+-- the laws on lines that are used here
+pub record KnownOfLines : Type 0 where
+  pub on_wire : FittingBytesAreOnWire
+  pub lengths : LengthsAreOfBlocks
+  pub start : AllowedCanStart
+  pub reads : EntriesReadBack
+  pub does : EntriesDoAsAsked
+  pub idle : IdleReadsBack
+  pub foreign : ForeignReadsBack
 
 abbrev Words : List ℕ → Type 0
 Words regs = AllByRecursion (λ word. word < 65536) regs
@@ -53,7 +72,7 @@ asked_on_wire on_wire lengths b i m msg a is ok belongs words e fits =
     let sent = sent_bytes b i m.regs msg is ok words e in
     let got = on_wire b m.bus msg a is belongs fits.form in
     record {
-      can_be_sent = sendable lengths b m.bus i m.regs (Some msg) a is ok (sym e) fits;
+      can_be_sent = can_be_sent lengths b m.bus i m.regs msg a is ok e fits;
       wire = record {
         address = sent.address;
         code = sent.code;
@@ -80,6 +99,7 @@ message_words : (i : Instr) (outcome : Outcome) (m : Machine) → Words m.regs
 message_words i (Done v) m words lt = result_word (result_in i) v m.regs words (lt v refl)
 message_words i NotAcknowledged m words lt = words
 message_words i TimedOut m words lt = words
+message_words i Lost m words lt = words
 
 silent_words : (i : Instr) (m : Machine) → IsInstr i → Words m.regs → Words (silently i m).regs
 silent_words (instr.Set r v) m ok words =
@@ -137,7 +157,8 @@ done_small refuse (Some slot) returned v lt e = cc
 done_small (Some byte) None returned v lt e = cc
 done_small None None returned v lt e = let same : returned ≡ v = cc in omega (arith, same, lt)
 
-outcome_small : (msg : Asked) (a : Answered) (v : ℕ) → IsOnWire a → outcome_of (Some msg) a ≡ Done v
+outcome_small : (msg : Asked) (a : Answered) (v : ℕ) → IsOnWire a
+    → outcome_alone (Some msg) a ≡ Done v
     → v < 65536
 outcome_small msg a v wire e =
     done_small a.refuse (cut_of msg a) (returned_by msg.form a.value a.bytes) v
@@ -152,10 +173,25 @@ out_of m a alert r = (
   r.shows.begins.1 ∙ ap (λ (l : List ℕ). l ++ r.shows.begins.0) r.shows.went_out,
 )
 
+-- a message's step, from who wins over it
+record Over (b : Board) (i : Instr) (msg : Asked) (m : Machine) (a : Answered) (e : Entry)
+    (next : Machine) (w : Option Contender) : Type 0 where
+  pub fits : FitsOver w b m.bus msg a
+  pub before : e.before ≡ m.bus
+  pub samples : e.samples ≡ samples_over w m.bus msg a
+  pub regs : next.regs ≡ (after_message i (outcome_over w msg a) m).regs
+
+record SeenOver (b : Board) (msg : Asked) (m : Machine) (a : Answered) (e : Entry)
+    (next : Machine) (w : Option Contender) : Type 0 where
+  pub carries : CarriesOver w b m.bus msg a e
+  pub does : StepDoes b m.bus (unless_won w msg) a e
+  pub entry : IsEntry e.samples
+  pub words : Words next.regs
+
 record Seen (b : Board) (i : Instr) (o : Option Asked) (m : Machine) (a : Answered) (e : Entry)
     (next : Machine) : Type 0 where
-  pub carries : Carries m.bus o a e
-  pub does : StepDoes b m.bus o a e
+  pub carries : Carries b m.bus o a e
+  pub does : StepDoes b m.bus (carried o a) a e
   pub entry : IsEntry e.samples
   pub words : Words next.regs
 
@@ -168,13 +204,81 @@ same_before e f is = ap (λ (x : Entry). x.before) is
 same_regs : (x y : Machine) → x ≡ y → x.regs ≡ y.regs
 same_regs x y is = ap (λ (m : Machine). m.regs) is
 
-by_message : FittingBytesAreOnWire → LengthsAreOfBlocks → EntriesReadBack
-    → EntriesDoAsAsked → IdleReadsBack → (b : Board) (i : Instr) (o : Option Asked)
+over_of : (b : Board) (i : Instr) (msg : Asked) (m : Machine) (a : Answered) (e : Entry)
+    (next : Machine) → IsStepOf b i (Some msg) m a e next
+    → Over b i msg m a e next (winner msg a)
+over_of b i msg m a e next step = record {
+  fits = step.fits.1;
+  before = same_before e _ step.entry_is;
+  samples = same_samples e _ step.entry_is;
+  regs = same_regs next _ step.next_is;
+}
+
+-- no other controller takes longer than the longest frame that the board lets it send
+foreign_few : (b : Board) (c : Contender) (alert : Bool) → MayContend b c → ReadsForeign c alert
+    → length (contender_samples alert c) ≤ foreign_ticks b
+foreign_few b c alert may r =
+    let f = r.few b.foreign_stretch may.holds in
+    let few = may.few_bytes in
+    let less : contender_slot_count (length c.bytes) ≤ contender_slot_count b.foreign_bytes =
+    omega arith in
+    let t = less_times (contender_slot_count (length c.bytes))
+    (contender_slot_count b.foreign_bytes) (3 + b.foreign_stretch) less in
+    omega (arith, f, t)
+
+seen_over : KnownOfLines → (b : Board) (i : Instr) (msg : Asked) (m : Machine) (a : Answered)
+    (e : Entry) (next : Machine) (w : Option Contender) → IsBoard b → IsInstr i
+    → Belongs b m.bus → Words m.regs → message_of b i m.regs ≡ Some msg
+    → IfSome a.contender (MayContend b) → winner msg a ≡ w → Over b i msg m a e next w
+    → SeenOver b msg m a e next w
+seen_over known b i msg m a e next None is ok belongs words asked may wins o =
+    let sent =
+    asked_on_wire known.on_wire known.lengths b i m msg a is ok belongs words asked o.fits in
+    let one = known.reads msg a (alert_level m.bus) sent in
+    let wire = known.on_wire b m.bus msg a is belongs o.fits.form in
+    let takes = takes_own_form b i m.regs msg ok asked in
+    let no_block = no_block_read msg takes in
+    let shown = known.does msg a (alert_level m.bus) sent in
+    record {
+      carries = record {
+        asked = sent;
+        samples = o.samples;
+        reads = one;
+        does = shown;
+        no_block = no_block;
+      };
+      does = message_does b m.bus msg a (alert_level m.bus) e is o.before o.samples takes
+          sent.can_be_sent.has_good_data.has_length no_block
+          (out_of msg a (alert_level m.bus) one) shown;
+      entry = rw o.samples one.entry;
+      words =
+          rw o.regs (message_words i (outcome_alone (Some msg) a) m words
+          (λ v done. outcome_small msg a v wire done));
+    }
+seen_over known b i msg m a e next (Some c) is ok belongs words asked may wins o =
+    let allowed = may_contend b msg a c may wins in
+    let r = known.foreign c (alert_level m.bus) (known.start b c is allowed) in
+    let few : m.bus.lost < b.contentions = o.fits.few in
+    let only : IsOnlyFrame (events_of e.samples) (contender_frame c) = rw o.samples r.is_only in
+    record {
+      carries = record {
+        may = allowed;
+        may_lose = omega (arith, few);
+        samples = o.samples;
+        is_only = only;
+        few = rw o.samples (foreign_few b c (alert_level m.bus) allowed r);
+      };
+      does = foreign_does b m.bus c a e is allowed o.before only r.to;
+      entry = rw o.samples r.entry;
+      words = rw o.regs words;
+    }
+
+by_message : KnownOfLines → (b : Board) (i : Instr) (o : Option Asked)
     (m : Machine) (a : Answered) (e : Entry) (next : Machine)
     → IsBoard b → IsInstr i → Belongs b m.bus → Words m.regs → message_of b i m.regs ≡ o
     → IsStepOf b i o m a e next → Seen b i o m a e next
-by_message on_wire lengths reads does idle b i None m a e next is ok belongs words asked step =
-    let none = idle (alert_level m.bus) (suc (idle_ticks i)) in
+by_message known b i None m a e next is ok belongs words asked step =
+    let none = known.idle (alert_level m.bus) (suc (idle_ticks i)) in
     let samples = same_samples e _ step.entry_is in
     record {
       carries = rw samples none.none;
@@ -182,40 +286,17 @@ by_message on_wire lengths reads does idle b i None m a e next is ok belongs wor
       entry = rw samples (none.entry (omega arith));
       words = rw (same_regs next _ step.next_is) (silent_words i m ok words);
     }
-by_message on_wire lengths reads does idle b i (Some msg) m a e next is ok belongs words asked
-    step =
-    let sent = asked_on_wire on_wire lengths b i m msg a is ok belongs words asked step.fits in
-    let one = reads msg a (alert_level m.bus) sent in
-    let samples : e.samples ≡ samples_of (alert_level m.bus) msg a =
-    same_samples e _ step.entry_is in
-    let wire = on_wire b m.bus msg a is belongs step.fits.form in
-    let takes = takes_own_form b i m.regs msg ok asked in
-    let no_block = no_block_read msg takes in
-    let shown = does msg a (alert_level m.bus) sent in
-    record {
-      carries = record {
-        asked = sent;
-        samples = samples;
-        reads = one;
-        does = shown;
-        no_block = no_block;
-      };
-      does = message_does b m.bus msg a (alert_level m.bus) e is (same_before e _ step.entry_is)
-          samples takes sent.can_be_sent.has_good_data.has_length no_block
-          (out_of msg a (alert_level m.bus) one) shown;
-      entry = rw samples one.entry;
-      words =
-          rw (same_regs next _ step.next_is) (message_words i (outcome_of (Some msg) a) m words
-          (λ v done. outcome_small msg a v wire done));
-    }
+by_message known b i (Some msg) m a e next is ok belongs words asked step =
+    let v = seen_over known b i msg m a e next (winner msg a) is ok belongs words asked
+    step.fits.0 refl (over_of b i msg m a e next step) in
+    record { carries = v.carries; does = v.does; entry = v.entry; words = v.words }
 
-pub steps_are_seen : FittingBytesAreOnWire → LengthsAreOfBlocks → EntriesReadBack
-    → EntriesDoAsAsked → IdleReadsBack → StepsBelong → StepsAreSeen
-steps_are_seen on_wire lengths reads does idle stays b p m next a e is program ready step =
+pub steps_are_seen : KnownOfLines → StepsBelong → StepsAreSeen
+steps_are_seen known stays b p m next a e is program ready step =
     let i = step.instr in
     let ok = is_instr p m.place i program step.here in
     let words = recursion_from_All (λ word. word < 65536) m.regs ready.words in
-    let seen = by_message on_wire lengths reads does idle b i
+    let seen = by_message known b i
     (message_of b i m.regs) m a e next is ok ready.machine.bus words refl step.step in
     record {
       instr = i;

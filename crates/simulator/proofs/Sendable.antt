@@ -1,16 +1,21 @@
 -- The messages of instructions can be sent under the answers that fit.
 use Rattle.std.proofs.Common.{◌≡◌, ◌≤◌, ◌<◌, ◌+◌, ℕ, Option, Some, None, List, [], ◌∷◌, length}
-use Rattle.std.proofs.Common.{slice_get, slice_index, option_map, IfSome, refl, sym, ap, arith}
+use Rattle.std.proofs.Common.{slice_get, slice_index, option_map, IfSome, refl, sym, ap, subst}
+use Rattle.std.proofs.Common.{arith}
 use Rattle.smbus.specs.declared.message.Form.{Form}
 use Rattle.smbus.specs.declared.message.Form.TheVariants as form
 use Rattle.smbus.specs.Asked.{Asked}
 use Rattle.smbus.specs.Answered.{Answered}
+use Rattle.smbus.specs.Contenders.{Contender}
+use Rattle.smbus.specs.Winners.{winner}
 use Rattle.smbus.specs.Protocol.{HasLength, AreGoodCounts}
 use Rattle.smbus.specs.OneFrame.{CanBeSent}
 use Rattle.board.specs.Boards.{Target, Board, largest_stretch}
 use Rattle.board.specs.Valid.{IsBoard}
 use Rattle.targets.specs.States.{BusState}
-use Rattle.targets.specs.Fitting.{FitsBlock, FitsForm, Fits, FitsStep, lengths_for}
+use Rattle.targets.specs.Fitting.{FitsBlock, FitsForm, Fits, FitsOver, FitsStep, lengths_for}
+use Rattle.targets.specs.Fitting.{MayContend}
+use Rattle.targets.specs.ContendedLaws.{AllowedCanStart}
 use Rattle.targets.specs.RangeLaws.{LengthsAreOfBlocks}
 use Rattle.seq_program.specs.declared.instr.Instr.{Instr}
 use Rattle.seq_program.specs.declared.instr.Instr.TheVariants as instr
@@ -20,6 +25,8 @@ use Rattle.seq_program.specs.declared.instr.Written.{Written}
 use Rattle.seq_program.specs.Requests.{low_byte_first, form_of, data_of}
 use Rattle.seq_program.specs.Messages.{message_to, message_of}
 use Rattle.seq_program.specs.Valid.{IsInstr}
+use Rattle.simulator.specs.Standing.{CanStand}
+use Rattle.simulator.proofs.OneForeign.{winner_is}
 use Rattle.simulator.proofs.Stretches.{stretches, below}
 
 -- a form, and how many data bytes it is given
@@ -147,7 +154,7 @@ good_counts lengths b s m a form.BlockProcessCall is g fits =
     (g, some_read lengths b m (length m.out) a.bytes is fits.0, fits.0.both)
 good_counts lengths b s m a form.Alert is g fits = tt
 
-can_be_sent : LengthsAreOfBlocks → (b : Board) (s : BusState) (i : Instr) (regs : List ℕ)
+pub can_be_sent : LengthsAreOfBlocks → (b : Board) (s : BusState) (i : Instr) (regs : List ℕ)
     (m : Asked) (a : Answered)
     → IsBoard b → IsInstr i → message_of b i regs ≡ Some m → Fits b s m a → CanBeSent m a
 can_be_sent lengths b s i regs m a is instr e fits =
@@ -159,10 +166,24 @@ can_be_sent lengths b s i regs m a is instr e fits =
       holds = below (largest_stretch b.targets) (stretches b is) a.holds fits.holds;
     }
 
-pub sendable : LengthsAreOfBlocks → (b : Board) (s : BusState) (i : Instr) (regs : List ℕ)
-    (o : Option Asked) (a : Answered) → IsBoard b → IsInstr i → o ≡ message_of b i regs
-    → FitsStep b s o a
-    → IfSome o (λ m. CanBeSent m a)
-sendable lengths b s i regs None a is instr e fits = tt
-sendable lengths b s i regs (Some m) a is instr e fits =
-    can_be_sent lengths b s i regs m a is instr (sym e) fits
+-- the controller that wins over a message may start
+pub may_contend : (b : Board) (m : Asked) (a : Answered) (c : Contender)
+    → IfSome a.contender (MayContend b) → winner m a ≡ Some c → MayContend b c
+may_contend b m a c may wins =
+    subst (λ (o : Option Contender). IfSome o (MayContend b)) (winner_is m a c wins) may
+
+can_stand : LengthsAreOfBlocks → AllowedCanStart → (b : Board) (s : BusState) (i : Instr)
+    (regs : List ℕ) (m : Asked) (a : Answered) (w : Option Contender) → IsBoard b → IsInstr i
+    → message_of b i regs ≡ Some m → IfSome a.contender (MayContend b) → winner m a ≡ w
+    → FitsOver w b s m a → CanStand w m a
+can_stand lengths start b s i regs m a None is instr e may wins fits =
+    can_be_sent lengths b s i regs m a is instr e fits
+can_stand lengths start b s i regs m a (Some c) is instr e may wins fits =
+    start b c is (may_contend b m a c may wins)
+
+pub sendable : LengthsAreOfBlocks → AllowedCanStart → (b : Board) (s : BusState) (i : Instr)
+    (regs : List ℕ) (o : Option Asked) (a : Answered) → IsBoard b → IsInstr i
+    → o ≡ message_of b i regs → FitsStep b s o a → IfSome o (λ m. CanStand (winner m a) m a)
+sendable lengths start b s i regs None a is instr e fits = tt
+sendable lengths start b s i regs (Some m) a is instr e fits =
+    can_stand lengths start b s i regs m a (winner m a) is instr (sym e) fits.0 refl fits.1

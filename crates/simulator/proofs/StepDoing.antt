@@ -1,8 +1,10 @@
 -- What a step is seen to do follows from its message, its answer and the state before it.
-use Rattle.std.proofs.Common.{◌≡◌, ℕ, ◌*◌, ◌≤◌, inl, inr, Bool, Some, None, List, [], ◌∷◌, ◌++◌}
+use Rattle.std.proofs.Common.{◌≡◌, ℕ, ◌*◌, ◌≤◌, inl, inr, Bool, true, false, Some, None, List, []}
+use Rattle.std.proofs.Common.{◌∷◌, ◌++◌}
 use Rattle.std.proofs.Common.{length, refl, sym, ap, subst, ◌∙◌, arith}
-use Rattle.std.specs.Prelude.{◌↔◌, IsTrue}
+use Rattle.std.specs.Prelude.{◌↔◌, ◌≢◌, IsTrue, All}
 use Rattle.std.proofs.lemmas.List.{append-nil}
+use Rattle.std.proofs.lemmas.List.Elements.{All-contains}
 use Rattle.wires.specs.declared.lines.Sample.{Sample}
 use Rattle.wires.specs.Events.{events_of}
 use Rattle.smbus.specs.declared.message.Form.{Form}
@@ -12,13 +14,18 @@ use Rattle.smbus.specs.Answered.{Answered}
 use Rattle.smbus.specs.Shown.{Shown}
 use Rattle.smbus.specs.Frames.{AreFrames}
 use Rattle.smbus.specs.Protocol.{HasLength}
-use Rattle.smbus.specs.FirstSegment.{message_bytes, bytes_out}
-use Rattle.smbus.specs.MessageFrame.{ReadsNoBlock}
+use Rattle.smbus.specs.Contenders.{Contender, byte_to, address_byte, contender_frame}
+use Rattle.smbus.specs.ContenderLaws.{IsToOneAddress}
+use Rattle.smbus.specs.OneFrame.{IsOnlyFrame}
+use Rattle.smbus.specs.Whole.{IsWhole}
+use Rattle.smbus.specs.FirstSegment.{message_bytes, bytes_out, bytes_seen}
+use Rattle.smbus.specs.MessageFrame.{ReadsNoBlock, send_byte, read_word}
 use Rattle.pmbus_table.specs.Codes.{operation_code, status_word_code}
 use Rattle.pmbus_table.specs.Voltage.{carries_voltage}
 use Rattle.board.specs.Boards.{Target, Board}
 use Rattle.board.specs.Valid.{IsBoard}
-use Rattle.targets.specs.States.{BusState}
+use Rattle.targets.specs.States.{BusState, IsTargetAt}
+use Rattle.targets.specs.Fitting.{MayContend}
 use Rattle.smbus.specs.Slots.{samples_of}
 use Rattle.simulator.specs.Machines.{Entry}
 use Rattle.simulator.specs.Does.{HasFrame, IsFrontOfBytes, BeginsWith, SendsByte, ReportsWord, Sent}
@@ -27,6 +34,7 @@ use Rattle.simulator.specs.Reports.{write_to, WritesTo}
 use Rattle.simulator.specs.StepDoes.{writes_data, MessageWrites, MessageWritesByte}
 use Rattle.simulator.specs.StepDoes.{MessageWritesWord, StepDoes}
 use Rattle.simulator.proofs.Addresses.{address_small}
+use Rattle.simulator.proofs.NextPlaces.{at_place}
 use Rattle.simulator.proofs.FrontBytes.{message_begins, front_goes_out, IsDataWrite, three_bytes}
 use Rattle.simulator.proofs.FrontBytes.{address_and_code, IsPlain, plain_bytes, front_length}
 use Rattle.simulator.proofs.FrontBytes.{whole_front}
@@ -258,21 +266,100 @@ does_message b m a e is j = record {
 
 -- the step of no message
 
-no_writes : (samples : List Sample) (t : Target) (code : ℕ) → ((f : Shown) → HasFrame samples f → ⊥)
-    → WritesTo t samples code → ⊥
-no_writes samples t code none (inl w) = none w.1.frame w.1.has
-no_writes samples t code none (inr s) = none s.frame s.has
+-- the samples show nothing that goes to a target
+record ShowNothing (b : Board) (samples : List Sample) : Type 0 where
+  pub begins : (i : ℕ) (t : Target) (rest : List ℕ) → IsTargetAt b i t
+      → BeginsWith samples (write_to t ∷ rest) → ⊥
+  pub sends : (i : ℕ) (t : Target) (code : ℕ) → IsTargetAt b i t
+      → SendsByte samples t.address code → ⊥
+  pub reports : (i : ℕ) (t : Target) (code word : ℕ) → IsTargetAt b i t
+      → ReportsWord samples t.address code word → ⊥
 
-does_nothing : (b : Board) (a : Answered) (e : Entry) → ((f : Shown) → HasFrame e.samples f → ⊥)
+no_writes : (b : Board) (samples : List Sample) (i : ℕ) (t : Target) (code : ℕ)
+    → ShowNothing b samples → IsTargetAt b i t → WritesTo t samples code → ⊥
+no_writes b samples i t code none at (inl w) = none.begins i t (code ∷ w.0 ∷ []) at w.1
+no_writes b samples i t code none at (inr s) = none.sends i t code at s
+
+does_nothing : (b : Board) (a : Answered) (e : Entry) → ShowNothing b e.samples
     → StepDoes b e.before None a e
 does_nothing b a e none = record {
   before = refl;
-  writes = λ i t code at. (λ w. no_writes e.samples t code none w, λ w. absurd w);
-  operations = λ i t value at. (λ w. none w.frame w.has, λ w. absurd w);
-  voltages = λ i t c l h at sets. (λ w. none w.frame w.has, λ w. absurd w);
-  reports = λ d word. (λ r. absurd (none r.reports.frame r.reports.has), λ r. absurd r.reports);
-  withdraws = λ d. (λ w. absurd (none w.written.frame w.written.has), λ w. absurd w.written);
+  writes = λ i t code at. (λ w. no_writes b e.samples i t code none at w, λ w. absurd w);
+  operations = λ i t value at.
+      (λ w. none.begins i t (operation_code ∷ value ∷ []) at w, λ w. absurd w);
+  voltages = λ i t code low high at sets.
+      (λ w. none.begins i t (code ∷ low ∷ high ∷ []) at w, λ w. absurd w);
+  reports = λ d word. (
+    λ r. absurd (none.reports r.rail.target r.target status_word_code word r.at.target r.reports),
+    λ r. absurd r.reports,
+  );
+  withdraws = λ d. (
+    λ w. absurd (none.begins w.rail.target w.target (operation_code ∷ w.value ∷ []) w.at.target
+        w.written),
+    λ w. absurd w.written,
+  );
 }
+
+-- samples without a frame
+show_no_frame : (b : Board) (samples : List Sample) → ((f : Shown) → HasFrame samples f → ⊥)
+    → ShowNothing b samples
+show_no_frame b samples none = record {
+  begins = λ i t rest at w. none w.frame w.has;
+  sends = λ i t code at s. none s.frame s.has;
+  reports = λ i t code word at r. none r.frame r.has;
+}
+
+-- and those of another controller, which speaks to no target
+
+pub no_target : (b : Board) (c : Contender) (i : ℕ) (t : Target) → IsBoard b → MayContend b c
+    → IsTargetAt b i t → t.address ≢ c.address
+no_target b c i t is may at =
+    let apart = All-contains (λ (x : ℕ). All (λ (u : Target). u.address ≢ x) b.targets) b.foreign
+    c.address is.no_target may.address in
+    at_place (λ (u : Target). u.address ≢ c.address) b.targets i t apart at
+
+first_same : (x y : ℕ) (xs ys : List ℕ) → x ∷ xs ≡ y ∷ ys → x ≡ y
+first_same x y xs ys e = cc
+
+same_address : (address own : ℕ) (is_read : Bool) → byte_to own is_read ≡ 2 * address
+    → address ≡ own
+same_address address own true e = absurd (omega arith)
+same_address address own false e = omega arith
+
+foreign_frame : (samples : List Sample) (c : Contender) (f : Shown)
+    → IsOnlyFrame (events_of samples) (contender_frame c) → HasFrame samples f
+    → f ≡ contender_frame c
+foreign_frame samples c f only has =
+    let same : f ∷ [] ≡ contender_frame c ∷ [] = only.only (f ∷ []) has in cc
+
+show_foreign : (b : Board) (c : Contender) (samples : List Sample) → IsBoard b → MayContend b c
+    → IsOnlyFrame (events_of samples) (contender_frame c) → IsToOneAddress c
+    → ShowNothing b samples
+show_foreign b c samples is may only to = record {
+  begins = λ i t rest at w.
+      let seen : bytes_seen (contender_frame c) ≡ write_to t ∷ (rest ++ w.front.0) =
+      sym (ap bytes_seen (foreign_frame samples c w.frame only w.has)) ∙ w.front.1 in
+      let byte = first_same (address_byte c) (write_to t) _ (rest ++ w.front.0) seen in
+      no_target b c i t is may at (same_address t.address c.address c.read byte);
+  sends = λ i t code at s.
+      let whole = subst (IsWhole (send_byte t.address code) 0 [])
+      (foreign_frame samples c s.frame only s.has) s.is_whole in
+      no_target b c i t is may at
+      (to (send_byte t.address code) 0 [] (address_small b i t is at) whole);
+  reports = λ i t code word at r.
+      let whole = subst (IsWhole (read_word t.address code) word [])
+      (foreign_frame samples c r.frame only r.has) r.is_whole in
+      no_target b c i t is may at
+      (to (read_word t.address code) word [] (address_small b i t is at) whole);
+}
+
+pub foreign_does : (b : Board) (s : BusState) (c : Contender) (a : Answered) (e : Entry)
+    → IsBoard b → MayContend b c → e.before ≡ s
+    → IsOnlyFrame (events_of e.samples) (contender_frame c) → IsToOneAddress c
+    → StepDoes b s None a e
+foreign_does b s c a e is may before only to =
+    subst (λ (x : BusState). StepDoes b x None a e) before
+    (does_nothing b a e (show_foreign b c e.samples is may only to))
 
 no_frame : (samples : List Sample)
     → ((frames : List Shown) → AreFrames (events_of samples) frames → frames ≡ []) → (f : Shown)
@@ -309,4 +396,4 @@ pub silence_does : (b : Board) (s : BusState) (a : Answered) (e : Entry) → e.b
     → StepDoes b s None a e
 silence_does b s a e before only =
     subst (λ (x : BusState). StepDoes b x None a e) before
-    (does_nothing b a e (no_frame e.samples only))
+    (does_nothing b a e (show_no_frame b e.samples (no_frame e.samples only)))

@@ -18,7 +18,10 @@ use Rattle.board.specs.Valid.{IsBoard}
 use Rattle.targets.specs.States.{BusState, IsTargetAt}
 use Rattle.targets.specs.PlaceLaws.{TargetsAreFound}
 use Rattle.simulator.specs.Machines.{start_at}
-use Rattle.simulator.specs.Allowed.{IsAllowed, IsAllowedBy}
+use Rattle.simulator.specs.Allowed.{IsAllowed, IsAllowedBy, IsForeign}
+use Rattle.simulator.specs.EntryLaws.{ForeignReadsBack}
+use Rattle.targets.specs.ContendedLaws.{AllowedCanStart}
+use Rattle.simulator.proofs.StepDoing.{no_target}
 use Rattle.simulator.specs.StepLaws.{StepsAreSeen, StartsAreReady}
 use Rattle.simulator.specs.SmallPrograms.{UnlistedFormIsUnsafe}
 use Rattle.simulator.proofs.Addresses.{address_small}
@@ -107,8 +110,9 @@ listed_so found b s samples f i t code is at al sends none = by al.allowed
         cc
 
 pub unlisted_form_is_unsafe : StepsAreSeen → StartsAreReady → MessagesHaveOneFrame
-    → TargetsAreFound → UnlistedFormIsUnsafe
-unlisted_form_is_unsafe steps ready one found b s i t code bound is starts at takes none runs =
+    → TargetsAreFound → ForeignReadsBack → AllowedCanStart → UnlistedFormIsUnsafe
+unlisted_form_is_unsafe steps ready one found foreign start b s i t code bound is starts
+    at takes none runs =
     let m = send_byte t.address code in
     let first =
     first_step steps ready b s (sending i code) m bound is starts
@@ -118,10 +122,18 @@ unlisted_form_is_unsafe steps ready one found b s i t code bound is starts at ta
     let f = reads.shows.one.frame in
     let small = address_small b i t is at in
     let code_small : code < 256 = first.seen.carries.asked.wire.code in
-    let al : IsAllowed b s e.samples f = first.safe.safe.0.allowed f reads.is_only.is in
+    let stands = first.safe.safe.0.allowed f reads.is_only.is in
     let in_time : HasTimeout e.samples → ⊥ =
     λ late. no_timeout (first_cut (plan_of m (plain 0))) (none_cut m 0) (reads.timeout.0 late) in
-    let sends =
-    shown_by one b s e.samples f t.address code small code_small (reads.done refl (none_cut m 0))
-    in_time al in
-    listed_so found b s e.samples f i t code is at al sends none
+    let whole = reads.done refl (none_cut m 0) in
+    let no_other = λ (o : IsForeign b e.samples f).
+    no_target b o.contender i t is o.may at
+    ((foreign o.contender o.alert (start b o.contender is o.may)).to m 0 [] small
+    (subst (IsWhole m 0 []) o.whole whole)) in
+    elim stands [
+      | inl al ↦
+          let sends =
+          shown_by one b s e.samples f t.address code small code_small whole in_time al in
+          listed_so found b s e.samples f i t code is at al sends none
+      | inr other ↦ no_other other
+    ]

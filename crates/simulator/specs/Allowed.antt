@@ -1,6 +1,6 @@
 -- Which frames the targets of a board allow, judged from what was seen on the lines.
 use Rattle.std.specs.Prelude.{◌≡◌, ◌≢◌, ◌+◌, ◌*◌, ◌||◌, ◌==◌, ◌⊎◌, ℕ, Bool, List, length}
-use Rattle.std.specs.Prelude.{slice_index, Some, IsTrue, All}
+use Rattle.std.specs.Prelude.{slice_index, Some, IsTrue, All, ◌<◌}
 use Rattle.wires.specs.declared.lines.Sample.{Sample}
 use Rattle.smbus.specs.declared.message.Form.{Form}
 use Rattle.smbus.specs.declared.message.Form.TheVariants.{WriteByte, WriteWord, ReceiveByte}
@@ -9,6 +9,7 @@ use Rattle.smbus.specs.declared.message.Form.TheVariants.{BlockWrite, BlockRead,
 use Rattle.smbus.specs.declared.message.Form.TheVariants.{Alert}
 use Rattle.smbus.specs.Asked.{Asked}
 use Rattle.smbus.specs.Answered.{Answered}
+use Rattle.smbus.specs.Contenders.{Contender, contender_samples, contender_frame}
 use Rattle.smbus.specs.Shown.{Shown}
 use Rattle.smbus.specs.Protocol.{HasLength}
 use Rattle.smbus.specs.Slots.{IsGoodBlock}
@@ -21,7 +22,7 @@ use Rattle.pmbus_table.specs.Protect.{is_protection}
 use Rattle.board.specs.Boards.{Allow, Target, Board, entry_of}
 use Rattle.board.specs.Valid.{is_page_value}
 use Rattle.targets.specs.States.{BusState, IsTargetAt}
-use Rattle.targets.specs.Fitting.{IsIn}
+use Rattle.targets.specs.Fitting.{IsIn, MayContend}
 
 -- a word goes low byte first (SMBus 3.2, 6.5.4)
 abbrev pub word_of : List ℕ → ℕ
@@ -85,3 +86,17 @@ pub record IsAllowed (b : Board) (s : BusState) (samples : List Sample) (f : Sho
   pub shown : IsWhole message answer.value answer.bytes f
       ⊎ IsBrokenOff samples message answer.value answer.bytes f
   pub allowed : IsAllowedBy b s message answer
+
+-- a whole frame of another controller that the board lets start, where an arbitration may be lost
+-- (UM10204, 3.1.8)
+pub record IsForeign (b : Board) (samples : List Sample) (f : Shown) : Type 0 where
+  pub contender : Contender
+  pub may : MayContend b contender
+  pub may_lose : 0 < b.contentions
+  pub alert : Bool
+  pub sampled : samples ≡ contender_samples alert contender
+  pub whole : f ≡ contender_frame contender
+
+-- a frame that may stand on the lines: one of ours that a target allows, or another controller's
+abbrev pub MayStand : Board → BusState → List Sample → Shown → Type 0
+MayStand b s samples f = IsAllowed b s samples f ⊎ IsForeign b samples f

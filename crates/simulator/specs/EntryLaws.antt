@@ -7,6 +7,9 @@ use Rattle.wires.specs.Events.{events_of}
 use Rattle.bit_bus.specs.Levels.{first_cut, HasTimeout}
 use Rattle.smbus.specs.Asked.{Asked}
 use Rattle.smbus.specs.Answered.{Answered}
+use Rattle.smbus.specs.Contenders.{Contender, contender_samples, contender_frame}
+use Rattle.smbus.specs.Contenders.{contender_slot_count}
+use Rattle.smbus.specs.ContenderLaws.{CanStart, IsToOneAddress}
 use Rattle.smbus.specs.Shown.{Shown}
 use Rattle.smbus.specs.Frames.{AreFrames}
 use Rattle.smbus.specs.Protocol.{marks_of, whole}
@@ -41,6 +44,19 @@ pub record ReadsOne (m : Asked) (a : Answered) (alert : Bool) : Type 0 where
 
 abbrev pub EntriesReadBack : Type 0
 EntriesReadBack = (m : Asked) (a : Answered) (alert : Bool) → AreAsked m a → ReadsOne m a alert
+
+-- the samples of another controller that may start have its one frame, which looks like a whole
+-- frame of a message to its own address alone
+pub record ReadsForeign (c : Contender) (alert : Bool) : Type 0 where
+  pub is_only : IsOnlyFrame (events_of (contender_samples alert c)) (contender_frame c)
+  pub to : IsToOneAddress c
+  pub few : (longest : ℕ) → All (λ hold. hold ≤ longest) c.holds
+      → length (contender_samples alert c)
+      ≤ 2 + contender_slot_count (length c.bytes) * (3 + longest)
+  pub entry : IsEntry (contender_samples alert c)
+
+abbrev pub ForeignReadsBack : Type 0
+ForeignReadsBack = (c : Contender) (alert : Bool) → CanStart c → ReadsForeign c alert
 
 -- idle samples have no frame, and leave the bus free
 pub record HasNoFrame (alert : Bool) (ticks : ℕ) : Type 0 where

@@ -13,16 +13,17 @@ use Rattle.seq_program.specs.Messages.{message_of}
 use Rattle.simulator.specs.declared.machine.Ending.TheVariants.{Running}
 use Rattle.simulator.specs.Machines.{Machine, Entry, start_at}
 use Rattle.simulator.specs.Steps.{IsRun, run_samples, total_ticks}
-use Rattle.simulator.specs.Allowed.{IsAllowed}
+use Rattle.simulator.specs.Allowed.{MayStand}
 use Rattle.simulator.specs.Safe.{AreSafe}
 
--- the frames of steps in order, each of which the targets allow in the state before its step
+-- the frames of steps in order, each of which may stand on the lines of its step: the targets allow
+-- it in the state before the step, or it is another controller's
 abbrev pub AreAllowedFrames : Board → List Entry → List Shown → Type 0
 AreAllowedFrames b [] frames = frames ≡ []
 AreAllowedFrames b (e ∷ later) frames =
     (own : List Shown) × (rest : List Shown) × (frames ≡ own ++ rest)
     × AreFrames (events_of e.samples) own
-    × All (IsAllowed b e.before e.samples) own × AreAllowedFrames b later rest
+    × All (MayStand b e.before e.samples) own × AreAllowedFrames b later rest
 
 -- the lines of the whole run are read as these frames, and as no others
 pub record ReadsAllowed (b : Board) (entries : List Entry) : Type 0 where

@@ -1,4 +1,6 @@
 pub mod Entries
+pub mod ForeignTicks
+pub mod Standing
 pub mod EntryLaws
 pub mod Does
 pub mod Machines
@@ -15,5 +17,6 @@ pub mod Headline
 pub mod GoingOn
 pub mod SmallPrograms
 pub mod StepDoes
+pub mod ContendedSteps
 pub mod StepLaws
 pub mod RunLaws

@@ -24,9 +24,10 @@ pub record Entry : Type 0 where
   pub outcome : Option Outcome
   pub ticks : ℕ
 
--- these values of PAGE and WRITE_PROTECT, and nobody alerts
+-- these values of PAGE and WRITE_PROTECT, nobody alerts, and no arbitration was lost
 abbrev pub start_state : List ℕ → List ℕ → BusState
-start_state pages protects = record { page = pages; protect = protects; alerting = 0 }
+start_state pages protects =
+    record { page = pages; protect = protects; alerting = 0; lost = 0 }
 
 -- at place 0, with registers and counters 0
 abbrev pub start_at : BusState → Machine

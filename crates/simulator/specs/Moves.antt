@@ -17,8 +17,8 @@ abbrev pub with_result : Option ℕ → ℕ → List ℕ → List ℕ
 with_result None value regs = regs
 with_result (Some register) value regs = slice_set regs register value
 
--- a message that is done goes on to the next place; any other goes to its label, and no register
--- changes
+-- a message that is done goes on to the next place; any other, one that was lost to another
+-- controller too, goes to its label, and no register changes
 abbrev pub after_message : Instr → Outcome → Machine → Machine
 after_message i (Done value) m =
     record m { place = m.place + 1; regs = with_result (result_in i) value m.regs }

@@ -5,6 +5,8 @@ use Rattle.wires.specs.Events.{events_of}
 use Rattle.bit_bus.specs.Levels.{HasTimeout}
 use Rattle.smbus.specs.Asked.{Asked}
 use Rattle.smbus.specs.Answered.{Answered}
+use Rattle.smbus.specs.Contenders.{Contender, contender_frame}
+use Rattle.smbus.specs.Winners.{winner}
 use Rattle.smbus.specs.Shown.{Shown}
 use Rattle.smbus.specs.Frames.{AreFrames}
 use Rattle.smbus.specs.Whole.{IsWhole, IsRefused, IsBrokenOff}
@@ -12,7 +14,8 @@ use Rattle.board.specs.Boards.{Board}
 use Rattle.board.specs.Valid.{IsBoard}
 use Rattle.targets.specs.declared.outcome.Outcome.{Outcome}
 use Rattle.targets.specs.declared.outcome.Outcome.TheVariants.{Done, NotAcknowledged, TimedOut}
-use Rattle.targets.specs.Outcomes.{outcome_of}
+use Rattle.targets.specs.declared.outcome.Outcome.TheVariants.{Lost}
+use Rattle.targets.specs.Outcomes.{outcome_alone}
 use Rattle.seq_program.specs.declared.instr.Instr.{Instr}
 use Rattle.seq_program.specs.Messages.{message_of}
 use Rattle.seq_program.specs.Valid.{IsProgram}
@@ -28,12 +31,18 @@ IsFrameOf samples m a (Done value) f = IsWhole m a.value a.bytes f
 IsFrameOf samples m a NotAcknowledged f = IsRefused m a.value a.bytes f
 IsFrameOf samples m a TimedOut f =
     HasTimeout samples × IsBrokenOff samples m a.value a.bytes f
+IsFrameOf samples m a Lost f = ⊥
 
--- the frame of a step's message; none without one
+-- the frame of a message, or that of the controller that wins over it
+abbrev pub IsFrameOver : Option Contender → List Sample → Asked → Answered → Shown → Type 0
+IsFrameOver None samples m a f = IsFrameOf samples m a (outcome_alone (Some m) a) f
+IsFrameOver (Some c) samples m a f = f ≡ contender_frame c
+
+-- the frame that stands for a step's message; none without one
 abbrev pub AreStepFrames : List Sample → Option Asked → Answered → List Shown → Type 0
 AreStepFrames samples None a frames = frames ≡ []
 AreStepFrames samples (Some m) a frames =
-    (f : Shown) × (frames ≡ f ∷ []) × IsFrameOf samples m a (outcome_of (Some m) a) f
+    (f : Shown) × (frames ≡ f ∷ []) × IsFrameOver (winner m a) samples m a f
 
 pub record StepHasFrames (b : Board) (p : List Instr) (m : Machine) (a : Answered) (e : Entry)
     (next : Machine) (frames : List Shown) : Type 0 where

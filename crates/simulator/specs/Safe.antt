@@ -13,7 +13,7 @@ use Rattle.board.specs.Boards.{Target, Rail, Board}
 use Rattle.targets.specs.States.{IsTargetAt}
 use Rattle.simulator.specs.Machines.{Entry}
 use Rattle.simulator.specs.Does.{HasFrame, BeginsWith}
-use Rattle.simulator.specs.Allowed.{IsAllowed}
+use Rattle.simulator.specs.Allowed.{MayStand}
 use Rattle.simulator.specs.Reports.{write_to, WritesTo, Selects, IsReportedGood}
 
 -- QUERY (PMBus 1.3 Part II, 11.13)
@@ -49,11 +49,11 @@ KeepsOrder b history e =
     → Selects b e.before i d r
     → All (IsReportedGood b history) r.needs
 
--- the samples of a step are those of no frame, or of one that the targets allow
+-- the samples of a step are those of no frame, or of one that may stand on the lines
 pub record IsSafe (b : Board) (history : List Entry) (e : Entry) : Type 0 where
   pub read : AreFrames (events_of e.samples) [] ⊎ ((f : Shown) × HasFrame e.samples f)
   pub one : (frames : List Shown) → AreFrames (events_of e.samples) frames → length frames ≤ 1
-  pub allowed : (f : Shown) → HasFrame e.samples f → IsAllowed b e.before e.samples f
+  pub allowed : (f : Shown) → HasFrame e.samples f → MayStand b e.before e.samples f
   pub protection : KeepsProtection b e
   pub limits : KeepsLimits b e
   pub order : KeepsOrder b history e

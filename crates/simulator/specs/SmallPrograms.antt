@@ -1,6 +1,6 @@
 -- Small programs, of which what the checker promises of every run holds, or doesn't whatever else
 -- the board says.
-use Rattle.std.specs.Prelude.{◌≡◌, ◌≢◌, ◌<◌, ◌+◌, ◌*◌, ℕ, true, false, List, [], ◌∷◌, length, Some}
+use Rattle.std.specs.Prelude.{◌≡◌, ◌≢◌, ◌<◌, ◌+◌, ℕ, true, false, List, [], ◌∷◌, length, Some}
 use Rattle.std.specs.Prelude.{None}
 use Rattle.std.specs.Prelude.{slice_get, slice_index, IsSome, IsSomeAnd, IsTrue, Contains}
 use Rattle.smbus.specs.declared.message.Form.{Form}
@@ -12,7 +12,7 @@ use Rattle.pmbus_table.specs.Operation.{enables}
 use Rattle.pmbus_table.specs.Protect.{permits}
 use Rattle.pmbus_table.specs.Status.{reported_good}
 use Rattle.pmbus_table.specs.Voltage.{IsWithin, carries_voltage}
-use Rattle.board.specs.Boards.{Target, Rail, Board, entry_of, largest_stretch}
+use Rattle.board.specs.Boards.{Target, Rail, Board, entry_of}
 use Rattle.board.specs.Valid.{IsBoard}
 use Rattle.targets.specs.Fitting.{IsIn}
 use Rattle.targets.specs.States.{BusState, IsStart, IsTargetAt}
@@ -20,6 +20,7 @@ use Rattle.seq_program.specs.declared.instr.Instr.{Instr}
 use Rattle.seq_program.specs.declared.instr.Instr.TheVariants.{Send, Write, Read, End}
 use Rattle.seq_program.specs.declared.instr.Width.TheVariants as width
 use Rattle.seq_program.specs.declared.instr.Written.TheVariants as written
+use Rattle.simulator.specs.ForeignTicks.{message_ticks}
 use Rattle.simulator.specs.Reports.{Selects}
 use Rattle.simulator.specs.Safe.{is_guarded}
 use Rattle.simulator.specs.Headline.{RunsAreSafe}
@@ -42,19 +43,19 @@ StartsPermit b i code = (s : BusState) → IsStart b s → IsTrue (is_guarded co
     → permits (slice_index s.protect i) code ≡ Some true
 
 -- a Send Byte for which the target has an entry, and which every start permits, is safe within the
--- ticks of its 19 slots and one for the end
+-- ticks of its 19 slots, or of a frame that another controller sends in its place, and one for the
+-- end
 abbrev pub ListedSendIsSafe : Type 0
 ListedSendIsSafe = (b : Board) (i : ℕ) (t : Target) (code : ℕ) → IsBoard b → IsTargetAt b i t
     → IsTrue (takes_form code SendByte) → IsSome (entry_of SendByte code t.allow)
     → StartsPermit b i code
-    → RunsAreSafe b (sending_program i code) (3 + 19 * (3 + largest_stretch b.targets))
+    → RunsAreSafe b (sending_program i code) (1 + message_ticks b 19)
 
 -- so CLEAR_FAULTS is, whatever is protected
 abbrev pub ClearingIsSafe : Type 0
 ClearingIsSafe = (b : Board) (i : ℕ) (t : Target) → IsBoard b → IsTargetAt b i t
     → IsSome (entry_of SendByte clear_faults_code t.allow)
-    → RunsAreSafe b (sending_program i clear_faults_code)
-    (3 + 19 * (3 + largest_stretch b.targets))
+    → RunsAreSafe b (sending_program i clear_faults_code) (1 + message_ticks b 19)
 
 -- a Send Byte of a code for which the target has no such entry isn't, whatever other forms of the
 -- code it has entries for
@@ -91,7 +92,7 @@ VoltageWithinLimitIsSafe = (b : Board) (i : ℕ) (t : Target) (code word : ℕ) 
     → IsTargetAt b i t → IsTrue (carries_voltage code) → word < 65536
     → Lists t WriteWord code word
     → StartsPermit b i code → StartsAreWithin b i t word
-    → RunsAreSafe b (voltage_program i code word) (3 + 37 * (3 + largest_stretch b.targets))
+    → RunsAreSafe b (voltage_program i code word) (1 + message_ticks b 37)
 
 -- a voltage over the limit of a rail isn't safe, where PAGE may select the rail at the start
 abbrev pub VoltageOverLimitIsUnsafe : ℕ → Type 0
@@ -118,7 +119,7 @@ EnablingWithoutNeedsIsSafe = (b : Board) (i : ℕ) (t : Target) (value : ℕ) �
     → IsTargetAt b i t → IsTrue (enables value)
     → Lists t WriteByte operation_code value → StartsPermit b i operation_code
     → StartsHaveNoNeeds b i
-    → RunsAreSafe b (enabling_program i value) (3 + 28 * (3 + largest_stretch b.targets))
+    → RunsAreSafe b (enabling_program i value) (1 + message_ticks b 28)
 
 -- a program that turns on a rail with needs, at a margin or not, and asks for none of them, isn't
 -- safe within any bound: not where PAGE may select the rail at the start

@@ -10,6 +10,7 @@ use Rattle.smbus.specs.Frames.{AreFrames}
 use Rattle.smbus.specs.Text.{text_of}
 use Rattle.targets.specs.declared.outcome.Outcome.{Outcome}
 use Rattle.targets.specs.declared.outcome.Outcome.TheVariants.{Done, NotAcknowledged, TimedOut}
+use Rattle.targets.specs.declared.outcome.Outcome.TheVariants.{Lost}
 use Rattle.simulator.specs.declared.machine.Ending.{Ending}
 use Rattle.simulator.specs.declared.machine.Ending.TheVariants.{Running, Finished, Failed}
 use Rattle.simulator.specs.Machines.{Entry}
@@ -20,6 +21,7 @@ abbrev pub outcome_text : Outcome → List ℕ
 outcome_text (Done value) = codes "done " ++ word_text value
 outcome_text NotAcknowledged = codes "nak"
 outcome_text TimedOut = codes "timeout"
+outcome_text Lost = codes "lost"
 
 abbrev pub ending_text : Ending → List ℕ
 ending_text Running = codes "running"

@@ -1,6 +1,10 @@
 ghost use Rattle.std.specs.List.{AllByRecursion};
+ghost use Rattle.simulator.specs.ContendedSteps.{StepsStandAloneOrAreLost};
+ghost use Rattle.simulator.specs.ContendedSteps.{StepsWithoutContendersStandAlone};
+ghost use Rattle.simulator.specs.ContendedSteps.{SomeStepIsLost};
 ghost use Rattle.simulator.specs.Does.{EntriesDoAsAsked};
-ghost use Rattle.simulator.specs.EntryLaws.{EntriesReadBack, IdleReadsBack, JoinedReadBack};
+ghost use Rattle.simulator.specs.EntryLaws.{EntriesReadBack, ForeignReadsBack, IdleReadsBack};
+ghost use Rattle.simulator.specs.EntryLaws.{JoinedReadBack};
 ghost use Rattle.simulator.specs.GoingOn.{FittingAnswersHaveSteps, GoingOnHasSteps};
 ghost use Rattle.simulator.specs.RunLaws.{RunsAreOne, RunsAreSeen, RunsGoOn};
 ghost use Rattle.simulator.specs.RunLaws.{StepsAreOne, TicksAddUp};
@@ -20,32 +24,36 @@ ghost use Rattle.simulator.specs.SmallPrograms.{margin_codes, margin_values};
 ghost use Rattle.simulator.specs.StepLaws.{StepsAreSeen, StartsAreReady, SomeStepIsTaken};
 
 use bit_bus::{plans_keep_slots, reads_back};
-use smbus::{messages_have_one_frame, slots_are_one_frame};
+use smbus::{contenders_have_one_frame, messages_have_one_frame, slots_are_one_frame};
 use targets::{
-    answers_have_states, fitting_bytes_are_on_wire, ranges_are_of_forms, some_answer_fits,
-    states_belong, targets_are_found,
+    answers_have_states, contenders_may_win, fitting_bytes_are_on_wire, ranges_are_of_forms,
+    some_answer_fits, states_belong, targets_are_found,
 };
 
 /// The samples of an entry that sends a message have one frame, the one that shows the message, and
-/// what they are seen to do is what was asked and answered. Idle samples have no frame. The joined
-/// samples of entries have the frames of the entries in order, and no others.
+/// what they are seen to do is what was asked and answered. Those of another controller have its
+/// one frame, and idle samples none. The joined samples of entries have the frames of the entries
+/// in order, and no others.
 pub fn entries_read_back()
     ensures one { EntriesReadBack }
     ensures does { EntriesDoAsAsked }
     ensures none { IdleReadsBack }
+    ensures foreign { ForeignReadsBack }
     ensures joined { JoinedReadBack }
 {
     reads_back();
     plans_keep_slots();
     slots_are_one_frame();
     messages_have_one_frame();
+    contenders_have_one_frame();
 }
 
 /// Every step of a program on its board meets what the laws on entries ask: its message and answer
 /// are bytes on the wire that can be sent. So its samples are read as its message's one frame, or
 /// as none, they begin idle and end with both lines high, and the machine after it is ready for the
 /// next step, as it is at the start. What a step is seen to write, report and withdraw is told from
-/// its message, its answer and the state before it.
+/// its message, its answer and the state before it. A message over which another controller wins is
+/// seen to do nothing, and in its place stands that controller's one frame.
 pub fn steps_are_seen()
     ensures steps { StepsAreSeen }
     ensures starts { StartsAreReady }
@@ -57,6 +65,7 @@ pub fn steps_are_seen()
     some_answer_fits();
     ranges_are_of_forms();
     fitting_bytes_are_on_wire();
+    contenders_may_win();
 }
 
 /// The joined samples of a run are read as the frames of the messages that it sent, in order, and
@@ -66,6 +75,19 @@ pub fn runs_are_seen()
 {
     entries_read_back();
     steps_are_seen();
+}
+
+/// Each step is one that it would be without other controllers, or is lost to one of them; and
+/// where none starts, the steps are those that they would be without any.
+pub fn steps_stand_alone_or_are_lost()
+    ensures either { StepsStandAloneOrAreLost }
+    ensures alone { StepsWithoutContendersStandAlone }
+    // There are lost steps.
+    ensures some { SomeStepIsLost }
+{
+    contenders_may_win();
+    states_belong();
+    answers_have_states();
 }
 
 /// The targets' answers settle a run: from a machine there is no other step under an answer, and
@@ -143,4 +165,5 @@ pub fn small_programs_are_judged()
     some_answer_fits();
     targets_are_found();
     ranges_are_of_forms();
+    contenders_may_win();
 }

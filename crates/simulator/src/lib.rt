@@ -16,6 +16,7 @@ pub use fault::RunFault;
 pub use law::{
     entries_read_back, fitting_answers_have_steps, runs_are_one, runs_are_seen, runs_go_on,
     safe_steps_are_safe_runs, small_programs_are_judged, steps_are_seen,
+    steps_stand_alone_or_are_lost,
 };
 pub use machine::{Ending, Entry, Machine};
 pub use running::{Trace, run};

@@ -1,16 +1,23 @@
 //! The lines in a step.
 
-ghost use Rattle.std.specs.Prelude.{◌≡◌, ◌≤◌, IfOk, IfSome, OnOk, option_map};
-ghost use Rattle.bit_bus.specs.Levels.{idle};
+ghost use Rattle.std.specs.Prelude.{◌≡◌, ◌≤◌, ◌∷◌, IfOk, IfSome, OnOk, option_map};
+ghost use Rattle.bit_bus.specs.Levels.{idle, levels};
 ghost use Rattle.smbus.specs.OneFrame.{CanBeSent};
+ghost use Rattle.smbus.specs.ContenderLaws.{CanStart};
+ghost use Rattle.smbus.specs.Contenders.{contender_samples};
+ghost use Rattle.smbus.specs.Winners.{winner};
 ghost use Rattle.seq_program.specs.Valid.{IsInstr};
 ghost use Rattle.smbus.specs.Slots.{samples_of};
 ghost use Rattle.simulator.specs.Entries.{idle_samples};
-ghost use Rattle.simulator.specs.Steps.{idle_ticks, step_samples};
+ghost use Rattle.simulator.specs.Steps.{idle_ticks, samples_over, step_samples};
+ghost use Rattle.simulator.specs.Standing.{CanStand};
 
 use bit_bus::{Plan, drive_onto};
 use seq_program::Instr;
-use smbus::{Answer, Message, SmbusFault, frame_slots, slots_are_one_frame};
+use smbus::{
+    Answer, Contender, Message, SmbusFault, contender_over, contender_slots,
+    contenders_have_one_frame, frame_slots, slots_are_one_frame,
+};
 use std::alloc::{AllocError, Global};
 use targets::BusState;
 use wires::{Runs, Sample};
@@ -34,6 +41,34 @@ fn idle_samples(samples: &mut Runs, alert: bool, ticks: u32) -> Result<(), Alloc
     samples.push(idle(alert), u64::from(ticks))
 }
 
+/// Makes samples an idle one and the levels of a plan.
+fn driven(samples: &mut Runs, alert: bool, plan: &Plan) -> Result<(), AllocError>
+    ensures { OnOk result (samples.new ≡ idle alert ∷ levels alert plan.now) }
+{
+    samples.clear();
+    samples.push(idle(alert), 1)?;
+    drive_onto(samples, plan, alert)?;
+    Ok(())
+}
+
+/// Makes samples an idle one and the frame of another controller.
+fn foreign_samples(
+    alloc: Global,
+    samples: &mut Runs,
+    alert: bool,
+    contender: &Contender,
+) -> Result<(), AllocError>
+    requires { CanStart contender.now }
+    ensures { OnOk result (samples.new ≡ contender_samples alert contender.now) }
+{
+    contenders_have_one_frame();
+    let slots = contender_slots(alloc, contender)?;
+    let Some(plan) = Plan::new(slots, contender.holds.clone()?) else {
+        unreachable!()
+    };
+    driven(samples, alert, &plan)
+}
+
 /// Makes samples an idle one and the frame of a message.
 fn frame_samples(
     alloc: Global,
@@ -54,10 +89,26 @@ fn frame_samples(
     let Some(plan) = Plan::new(slots, answer.holds.clone()?) else {
         unreachable!()
     };
-    samples.clear();
-    samples.push(idle(alert), 1)?;
-    drive_onto(samples, &plan, alert)?;
-    Ok(())
+    driven(samples, alert, &plan)
+}
+
+/// Makes samples an idle one and the frame of a message, or of the controller that wins over it.
+fn message_samples(
+    alloc: Global,
+    samples: &mut Runs,
+    state: &BusState,
+    message: &Message,
+    answer: &Answer,
+) -> Result<(), AllocError>
+    requires { CanStand (winner message.now answer.now) message.now answer.now }
+    ensures { OnOk result (samples.new
+        ≡ samples_over (winner message.now answer.now) state.now message.now answer.now) }
+{
+    let alert = state.alerting == 0;
+    match contender_over(message, answer) {
+        Some(contender) => foreign_samples(alloc, samples, alert, contender),
+        None => frame_samples(alloc, samples, alert, message, answer),
+    }
 }
 
 /// For how many ticks more than one an instruction waits.
@@ -82,13 +133,13 @@ pub(crate) fn step_samples(
     answer: &Answer,
 ) -> Result<(), AllocError>
     requires instr { IsInstr instr.now }
-    requires sendable { IfSome (option_map (λ m. m.now) message) (λ m. CanBeSent m answer.now) }
+    requires sendable { IfSome (option_map (λ m. m.now) message)
+        (λ m. CanStand (winner m answer.now) m answer.now) }
     ensures { OnOk result (samples.new
         ≡ step_samples state.now instr.now (option_map (λ m. m.now) message.entry) answer.now) }
 {
-    let alert = state.alerting == 0;
     match message {
-        Some(message) => frame_samples(alloc, samples, alert, message, answer),
-        None => idle_samples(samples, alert, idle_ticks(instr) + 1),
+        Some(message) => message_samples(alloc, samples, state, message, answer),
+        None => idle_samples(samples, state.alerting == 0, idle_ticks(instr) + 1),
     }
 }

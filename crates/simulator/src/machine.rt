@@ -78,7 +78,7 @@ impl Entry {
     pub fn empty(alloc: Global) -> Entry
         ensures { result ≡ record {
           place = 0;
-          before = record { page = []; protect = []; alerting = 0 };
+          before = record { page = []; protect = []; alerting = 0; lost = 0 };
           samples = [];
           outcome = None;
           ticks = 0;
@@ -126,6 +126,7 @@ fn copied(state: &BusState) -> Result<BusState, AllocError>
         page: state.page.clone()?,
         protect: state.protect.clone()?,
         alerting: state.alerting,
+        lost: state.lost,
     })
 }
 

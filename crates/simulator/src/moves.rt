@@ -42,7 +42,7 @@ pub(crate) fn after_message(instr: &Instr, outcome: Outcome, machine: &mut Machi
             }
             machine.place += 1;
         }
-        Outcome::NotAcknowledged | Outcome::TimedOut => {
+        Outcome::NotAcknowledged | Outcome::TimedOut | Outcome::Lost => {
             machine.place = instr.jump().unwrap_or(machine.place);
         }
     }

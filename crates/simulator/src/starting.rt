@@ -37,6 +37,7 @@ pub fn start(
         page: pages.to_vec(alloc)?,
         protect: protects.to_vec(alloc)?,
         alerting: 0,
+        lost: 0,
     };
     if !starts(board, &bus) {
         return Err(RunFault::BadStart);

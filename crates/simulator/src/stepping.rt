@@ -21,10 +21,13 @@ use crate::moves::{after_message, silently};
 use bit_bus::reads_back;
 use board::{Board, board_is_valid};
 use seq_program::{Instr, Program, message_of, program_is_valid};
-use smbus::{Answer, Message, slots_are_one_frame};
+use smbus::{Answer, Message, contenders_have_one_frame, slots_are_one_frame};
 use std::alloc::{AllocError, Global};
 use std::mem::swap;
-use targets::{Outcome, after_into, fits, ranges_are_of_forms, states_belong};
+use targets::{
+    Outcome, after_into, contenders_change_this, contenders_may_win, fits, ranges_are_of_forms,
+    states_belong,
+};
 use wires::MOST_SAMPLES;
 
 /// The most ticks of a run, a sample each.
@@ -100,9 +103,12 @@ fn step_by(
 {
     board_is_valid(board);
     slots_are_one_frame();
+    contenders_have_one_frame();
     reads_back();
     states_belong();
     ranges_are_of_forms();
+    contenders_may_win();
+    contenders_change_this();
     step_samples(
         alloc,
         &mut entry.samples,

@@ -10,8 +10,8 @@ use std::alloc::{AllocError, Global};
 use targets::Outcome;
 use texts::push_word;
 
-/// How a message ended, as text: `done` with what it returned, `nak` or `timeout`. Fails only for
-/// want of memory.
+/// How a message ended, as text: `done` with what it returned, `nak`, `timeout` or `lost`. Fails
+/// only for want of memory.
 pub fn outcome_text(alloc: Global, outcome: Outcome) -> Result<String, AllocError>
     ensures { IfOk result (λ text. string_bytes text ≡ outcome_text outcome) }
 {
@@ -23,6 +23,7 @@ pub fn outcome_text(alloc: Global, outcome: Outcome) -> Result<String, AllocErro
         }
         Outcome::NotAcknowledged => String::from_str(alloc, "nak"),
         Outcome::TimedOut => String::from_str(alloc, "timeout"),
+        Outcome::Lost => String::from_str(alloc, "lost"),
     }
 }
 

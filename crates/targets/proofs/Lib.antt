@@ -17,3 +17,5 @@ pub mod SomeAnswerLaw
 pub mod StateLawProofs
 pub mod OneBoard
 pub mod WireAnswers
+pub mod Contended
+pub mod LostAnswering

@@ -9,15 +9,16 @@ use Rattle.smbus.specs.declared.message.Form.{Form}
 use Rattle.smbus.specs.declared.message.Form.TheVariants.{Alert}
 use Rattle.smbus.specs.Asked.{Asked}
 use Rattle.smbus.specs.Answered.{Answered}
+use Rattle.smbus.specs.Winners.{carried}
 use Rattle.wires.specs.Bits.{bit}
 use Rattle.pmbus_table.specs.Codes.{page_code, write_protect_code}
 use Rattle.pmbus_table.specs.Protect.{is_protection}
 use Rattle.board.specs.Boards.{Board}
 use Rattle.board.specs.Valid.{IsBoard, is_page_value}
-use Rattle.targets.specs.States.{BusState}
+use Rattle.targets.specs.States.{BusState, Belongs}
 use Rattle.targets.specs.Alerting.{alert_bytes, WinsAlert}
 use Rattle.targets.specs.AlertLaws.{SomeWinner, SomeTargetWins, OneTargetWins}
-use Rattle.targets.specs.Effects.{StopsAlerting, WritesPage, WritesProtect}
+use Rattle.targets.specs.Effects.{StopsAlerting, WritesPage, WritesProtect, IsAfter, lost_after}
 use Rattle.targets.specs.Stored.{with_write}
 use Rattle.targets.specs.StateLaws.{AnswersHaveStates}
 use Rattle.targets.proofs.Bits.{bit_joined, bit_without_left}
@@ -100,8 +101,16 @@ kept_bits : (stops : Option ℕ) (n : ℕ) → IfSome stops (λ k. k < 16)
 kept_bits None n few low i = (λ t. (t, λ e. cc), λ both. both.0)
 kept_bits (Some k) n few low i = bit_without_left n k few low i
 
-pub answers_have_states : SomeTargetWins → OneTargetWins → AnswersHaveStates
-answers_have_states wins one b s m a is belongs =
+-- after what the wire carries, whatever is lost
+record HasTargetsAfter (b : Board) (s : BusState) (m : Option Asked) (a : Answered)
+    (lost : ℕ) : Type 0 where
+  pub state : BusState
+  pub after : IsAfter b s m a state
+  pub counts : state.lost ≡ lost
+
+targets_after : SomeTargetWins → OneTargetWins → (b : Board) (s : BusState) (m : Option Asked)
+    (a : Answered) (lost : ℕ) → IsBoard b → Belongs b s → HasTargetsAfter b s m a lost
+targets_after wins one b s m a lost is belongs =
     let page = some_write page_code (λ t v. is_page_value t.pages v) b s m a is in
     let protect = some_write write_protect_code (λ t v. is_protection v) b s m a is in
     let stop = some_stop wins one b s m a is in
@@ -117,6 +126,7 @@ answers_have_states wins one b s m a is belongs =
             page = with_write page.write s.page;
             protect = with_write protect.write s.protect;
             alerting = bit_or a.alerts (kept stop.stops s.alerting);
+            lost = lost;
           };
       after =
           record {
@@ -130,4 +140,10 @@ answers_have_states wins one b s m a is belongs =
                 (kept_bits stop.stops s.alerting stop.few few)
                 (bit_joined a.alerts (kept stop.stops s.alerting));
           };
+      counts = refl;
     }
+
+pub answers_have_states : SomeTargetWins → OneTargetWins → AnswersHaveStates
+answers_have_states wins one b s m a is belongs =
+    let t = targets_after wins one b s (carried m a) a (lost_after m a s.lost) is belongs in
+    record { state = t.state; after = record { targets = t.after; lost = t.counts } }

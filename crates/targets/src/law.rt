@@ -1,5 +1,10 @@
 ghost use Rattle.targets.specs.SomeAnswer.{MessagesHaveAnswers, SilenceHasAnswers, SomeCase};
 ghost use Rattle.targets.specs.StateLaws.{StartsBelong, StepsBelong, AnswersHaveStates};
+ghost use Rattle.targets.specs.ContendedLaws.{AloneWithoutContenders, LosersChangeNothing};
+ghost use Rattle.targets.specs.ContendedLaws.{WinnersLeaveTargets, FewAreLost};
+ghost use Rattle.targets.specs.ContendedLaws.{NoneStartsWithoutForeign};
+ghost use Rattle.targets.specs.ContendedLaws.{NoneWinsWithoutContentions, AllowedCanStart};
+ghost use Rattle.targets.specs.LostAnswers.{ContendersMayWin, SomeMayWin};
 ghost use Rattle.targets.specs.AlertLaws.{SomeTargetWins, OneTargetWins, LowestAddressWins};
 ghost use Rattle.targets.specs.PlaceLaws.{TargetsAreFound};
 ghost use Rattle.targets.specs.RangeLaws.{ValuesAreOfForm, LengthsAreOfBlocks};
@@ -22,6 +27,26 @@ pub fn some_answer_fits()
 pub fn states_belong()
     ensures starts { StartsBelong }
     ensures steps { StepsBelong }
+{}
+
+/// What other controllers change. Beside a step where none starts, or one that doesn't win, all is
+/// as for targets alone; one that wins leaves the targets as they are.
+pub fn contenders_change_this()
+    ensures alone { AloneWithoutContenders }
+    ensures losers { LosersChangeNothing }
+    ensures winners { WinnersLeaveTargets }
+    ensures few { FewAreLost }
+    ensures no_foreign { NoneStartsWithoutForeign }
+    ensures no_contentions { NoneWinsWithoutContentions }
+{}
+
+/// Each controller that the board lets start can be driven, and may win over each message to a
+/// higher address, where fewer arbitrations were lost than may be.
+pub fn contenders_may_win()
+    ensures driven { AllowedCanStart }
+    ensures may { ContendersMayWin }
+    // There are such boards, states, messages and controllers.
+    ensures case { SomeMayWin }
 {}
 
 /// Where targets alert, one of them wins the alert response: the one with the lowest address.

@@ -13,8 +13,8 @@ mod step;
 pub use effect::value_goes_out;
 pub use fitting::fits;
 pub use law::{
-    answers_have_states, fitting_bytes_are_on_wire, lowest_address_wins, ranges_are_of_forms,
-    some_answer_fits, states_belong, targets_are_found,
+    answers_have_states, contenders_change_this, contenders_may_win, fitting_bytes_are_on_wire,
+    lowest_address_wins, ranges_are_of_forms, some_answer_fits, states_belong, targets_are_found,
 };
 pub use outcome::{Outcome, cut_of, ending_of};
 pub use start::starts;

@@ -1,8 +1,10 @@
 ghost use Rattle.std.specs.Prelude.{◌≡◌, ◌≢◌, ◌<◌, ◌⊎◌, ◌↔◌, ℕ, false, Some, IfOk, IfSome, IsTrue};
 ghost use Rattle.std.specs.Prelude.{option_map, OnOk};
 ghost use Rattle.wires.specs.Bits.{bit};
+ghost use Rattle.smbus.specs.Winners.{carried};
+ghost use Rattle.targets.specs.declared.outcome.Outcome.TheVariants.{Lost};
 ghost use Rattle.targets.specs.Outcomes.{outcome_of};
-ghost use Rattle.targets.specs.Effects.{StopsAlerting, IsAfter};
+ghost use Rattle.targets.specs.Effects.{StopsAlerting, lost_after, IsAfterStep};
 ghost use Rattle.targets.specs.Stored.{with_write};
 
 use crate::alerting::alert_winner;
@@ -10,7 +12,7 @@ use crate::effect::{is_done, writes_of};
 use crate::outcome::{Outcome, outcome_of};
 use crate::state::BusState;
 use board::{Board, board_is_valid};
-use smbus::{Answer, Form, Message};
+use smbus::{Answer, Form, Message, carried, contender_over};
 use std::alloc::{AllocError, Global};
 
 /// Makes bytes those that are stored. Of as many as there were before it takes no memory.
@@ -91,8 +93,22 @@ fn stops_alerting(
     }
 }
 
-/// Makes a state the one that `after` gives, and gives the outcome. Fails only for want of memory,
-/// and then the state is of no more use.
+/// How many arbitrations are lost after a step.
+fn lost_after(message: Option<&Message>, answer: &Answer, lost: u16) -> u16
+    requires { outcome_of (option_map (λ m. m.now) message) answer.now ≡ Lost → lost < 65535 }
+    ensures { result ≡ lost_after (option_map (λ m. m.now) message.entry) answer.now lost }
+{
+    let Some(message) = message else {
+        return lost;
+    };
+    match contender_over(message, answer) {
+        Some(_) => lost + 1,
+        None => lost,
+    }
+}
+
+/// Makes a state the one that `after` gives, under its condition, and gives the outcome. Fails only
+/// for want of memory, and then the state is of no more use.
 pub fn after_into(
     new: &mut BusState,
     board: &Board,
@@ -100,22 +116,28 @@ pub fn after_into(
     message: Option<&Message>,
     answer: &Answer,
 ) -> Result<Outcome, AllocError>
-    ensures state { OnOk result
-        (IsAfter board.now state.now (option_map (λ m. m.now) message.entry) answer.now new.new) }
+    requires { outcome_of (option_map (λ m. m.now) message) answer.now ≡ Lost
+        → state.now.lost < 65535 }
+    ensures state { OnOk result (IsAfterStep board.now state.now
+        (option_map (λ m. m.now) message.entry) answer.now new.new) }
     ensures outcome { IfOk result
         (λ outcome. outcome ≡ outcome_of (option_map (λ m. m.now) message.entry) answer.now) }
 {
     board_is_valid(board);
-    let stops = stops_alerting(board, state, message, answer);
-    let writes = writes_of(board, state, message, answer);
+    let sent = carried(message, answer);
+    let stops = stops_alerting(board, state, sent, answer);
+    let writes = writes_of(board, state, sent, answer);
     store_with_write(&mut new.page, &state.page, writes.page)?;
     store_with_write(&mut new.protect, &state.protect, writes.protect)?;
     new.alerting = joined(answer.alerts, kept_alerting(state.alerting, stops));
+    new.lost = lost_after(message, answer, state.lost);
     Ok(outcome_of(message, answer))
 }
 
 /// The state and the outcome after a message and an answer of the targets, or after a step that
-/// sends nothing. Fails only for want of memory.
+/// sends nothing. Where another controller wins over the message, the targets don't see it. The
+/// lost arbitrations must not be too many to count, and aren't where the answer fits. Fails only
+/// for want of memory.
 pub fn after(
     alloc: Global,
     board: &Board,
@@ -123,8 +145,10 @@ pub fn after(
     message: Option<&Message>,
     answer: &Answer,
 ) -> Result<(BusState, Outcome), AllocError>
+    requires { outcome_of (option_map (λ m. m.now) message) answer.now ≡ Lost
+        → state.now.lost < 65535 }
     ensures state { IfOk result (λ r.
-        IsAfter board.now state.now (option_map (λ m. m.now) message.entry) answer.now r.0) }
+        IsAfterStep board.now state.now (option_map (λ m. m.now) message.entry) answer.now r.0) }
     ensures outcome { IfOk result
         (λ r. r.1 ≡ outcome_of (option_map (λ m. m.now) message.entry) answer.now) }
 {

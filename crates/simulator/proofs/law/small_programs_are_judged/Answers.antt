@@ -48,6 +48,7 @@ pub returns-clause-lists : goal.returns-clause-lists
 returns-clause-lists c =
     unlisted_form_is_unsafe c.steps_are_seen.ensures.steps c.steps_are_seen.ensures.starts
     c.messages_have_one_frame.ensures.one c.targets_are_found.ensures
+    c.entries_read_back.ensures.foreign c.contenders_may_win.ensures.driven
 
 pub returns-clause-withdraws : goal.returns-clause-withdraws
 returns-clause-withdraws c =

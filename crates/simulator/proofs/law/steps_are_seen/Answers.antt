@@ -4,10 +4,15 @@ use Rattle.simulator.proofs.law.steps_are_seen.Goals as goal
 
 pub returns-clause-steps : goal.returns-clause-steps
 returns-clause-steps c =
-    steps_are_seen c.fitting_bytes_are_on_wire.ensures c.ranges_are_of_forms.ensures.lengths
-    c.entries_read_back.ensures.one
-    c.entries_read_back.ensures.does
-    c.entries_read_back.ensures.none c.states_belong.ensures.steps
+    steps_are_seen (record {
+      on_wire = c.fitting_bytes_are_on_wire.ensures;
+      lengths = c.ranges_are_of_forms.ensures.lengths;
+      start = c.contenders_may_win.ensures.driven;
+      reads = c.entries_read_back.ensures.one;
+      does = c.entries_read_back.ensures.does;
+      idle = c.entries_read_back.ensures.none;
+      foreign = c.entries_read_back.ensures.foreign;
+    }) c.states_belong.ensures.steps
 
 pub returns-clause-starts : goal.returns-clause-starts
 returns-clause-starts c = starts_are_ready c.states_belong.ensures.starts

@@ -1,6 +1,6 @@
 use Rattle.std.proofs.Common.{◌≡◌, ◌∙◌, option_map, sym, ap, subst}
 use Rattle.targets.specs.States.{BusState}
-use Rattle.targets.specs.Effects.{IsAfter}
+use Rattle.targets.specs.Effects.{IsAfterStep}
 use Rattle.simulator.specs.Machines.{Machine}
 use Rattle.simulator.specs.Steps.{step_samples, step_entry}
 use Rattle.simulator.specs.Traces.{HasItsFrame}
@@ -11,7 +11,8 @@ use Rattle.simulator.proofs.stepping.step_by.Goals as goal
 
 pub step_samples-requires-clause-sendable : goal.step_samples-requires-clause-sendable
 step_samples-requires-clause-sendable c =
-    sendable c.ranges_are_of_forms.ensures.lengths c.args.board.now c.args.machine.now.bus
+    sendable c.ranges_are_of_forms.ensures.lengths c.contenders_may_win.ensures.driven
+    c.args.board.now c.args.machine.now.bus
     c.args.instr.now c.args.machine.now.regs _ c.args.answer.now c.board_is_valid.ensures
     c.requires.instr c.requires.asked c.requires.fits
 
@@ -43,9 +44,9 @@ returns-clause-step c =
     let o = option_map (λ m. m.now) c.args.message in
     let m = c.args.machine.now in
     let a = c.args.answer.now in
-    let after : IsAfter b m.bus o a c.swap.new.y =
-    subst (λ (s : BusState). IsAfter b m.bus o a s) (sym c.swap.ensures.y_after)
-    (subst (λ (m : Machine). IsAfter b m.bus o a c.after_into.new.new) c.machine.view_is
+    let after : IsAfterStep b m.bus o a c.swap.new.y =
+    subst (λ (s : BusState). IsAfterStep b m.bus o a s) (sym c.swap.ensures.y_after)
+    (subst (λ (m : Machine). IsAfterStep b m.bus o a c.after_into.new.new) c.machine.view_is
     c.in_ok-outcome.ensures.state) in
     made_step b i o m a c.swap.new.y c.in_ok-outcome.outcome _ _ c.requires.fits after
     c.in_ok-outcome.ensures.outcome
@@ -60,5 +61,7 @@ returns-clause-seen c =
     let a = c.args.answer.now in
     subst HasItsFrame (sym (entry_is c))
     (seen_entry i o a m c.reads_back.ensures.word c.slots_are_one_frame.ensures.one
-    (sendable c.ranges_are_of_forms.ensures.lengths c.args.board.now m.bus i m.regs o a
+    c.contenders_have_one_frame.ensures.one
+    (sendable c.ranges_are_of_forms.ensures.lengths c.contenders_may_win.ensures.driven
+    c.args.board.now m.bus i m.regs o a
     c.board_is_valid.ensures c.requires.instr c.requires.asked c.requires.fits))
