@@ -14,5 +14,8 @@ pub mod RequestEdges
 pub mod WorstTicks
 pub mod Alerts
 pub mod Moved
+pub mod OwnSteps
+pub mod LostSteps
 pub mod Local
+pub mod Whole
 pub mod Sorts

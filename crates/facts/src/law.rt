@@ -5,6 +5,7 @@ ghost use Rattle.facts.specs.Witnesses.{SomeMachineStands, SomeRowIsWider};
 
 use simulator::{
     entries_read_back, safe_steps_are_safe_runs, small_programs_are_judged, steps_are_seen,
+    steps_stand_alone_or_are_lost,
 };
 
 /// A step from a row whose duties are met is safe and takes no more ticks than its instruction's
@@ -18,6 +19,7 @@ pub fn steps_are_sound()
 {
     entries_read_back();
     steps_are_seen();
+    steps_stand_alone_or_are_lost();
     safe_steps_are_safe_runs();
     small_programs_are_judged();
 }

@@ -16,7 +16,7 @@ use Rattle.board.specs.Boards.{target_of}
 use Rattle.board.specs.Valid.{IsBoard, full_values, full_length}
 use Rattle.targets.specs.declared.outcome.Outcome.{Outcome}
 use Rattle.targets.specs.declared.outcome.Outcome.TheVariants.{Done}
-use Rattle.targets.specs.Outcomes.{outcome_of}
+use Rattle.targets.specs.Outcomes.{outcome_alone}
 use Rattle.targets.specs.States.{Belongs, IsTargetAt}
 use Rattle.targets.specs.Effects.{IsAfter}
 use Rattle.targets.specs.Fitting.{values_for, lengths_for, Fits}
@@ -76,7 +76,7 @@ regs_after r regs other = regs
 
 -- how its message ends
 abbrev pub ending : Target → List ℕ → Transaction → Answered → Outcome
-ending t regs r a = outcome_of (Some (asked t regs r)) a
+ending t regs r a = outcome_alone (Some (asked t regs r)) a
 
 pub record Sending (b : Board) (row : Row) (h : List Entry) (m next : Machine) (i : ℕ) (t : Target)
     (r : Transaction) (a : Answered) (e : Entry) : Type 0 where

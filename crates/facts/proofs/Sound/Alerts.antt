@@ -10,7 +10,8 @@ use Rattle.smbus.specs.SlotCounts.{most_slots}
 use Rattle.board.specs.Boards.{Target, Board, largest_stretch}
 use Rattle.targets.specs.declared.outcome.Outcome.{Outcome}
 use Rattle.targets.specs.declared.outcome.Outcome.TheVariants.{Done, NotAcknowledged, TimedOut}
-use Rattle.targets.specs.Outcomes.{ending_of, cut_of, outcome_of}
+use Rattle.targets.specs.declared.outcome.Outcome.TheVariants.{Lost}
+use Rattle.targets.specs.Outcomes.{ending_of, cut_of, outcome_alone}
 use Rattle.targets.specs.States.{BusState, Belongs}
 use Rattle.targets.specs.Effects.{Writes, IsAfter}
 use Rattle.targets.specs.Fitting.{Fits}
@@ -92,18 +93,18 @@ pub record AlertStep (b : Board) (row : Row) (h : List Entry) (m next : Machine)
   pub after : IsAfter b m.bus (Some alert_message) a next.bus
   pub carries : CarriesMessage m.bus alert_message a e
   pub does : StepDoes b m.bus (Some alert_message) a e
-  pub done : (v : ℕ) → outcome_of (Some alert_message) a ≡ Done v
+  pub done : (v : ℕ) → outcome_alone (Some alert_message) a ≡ Done v
       → (next.place ≡ m.place + 1) × (next.regs ≡ slice_set m.regs r v)
-  pub other : ((v : ℕ) → outcome_of (Some alert_message) a ≡ Done v → ⊥)
+  pub other : ((v : ℕ) → outcome_alone (Some alert_message) a ≡ Done v → ⊥)
       → (next.place ≡ otherwise) × (next.regs ≡ m.regs)
   pub counters : next.counters ≡ m.counters
 
 pub leads_alert : (b : Board) (row : Row) (h : List Entry) (m next : Machine) (r otherwise : ℕ)
     (a : Answered) (e : Entry) → AlertStep b row h m next r otherwise a e
     → Leads b m.place (Alert r otherwise) row m next (e ∷ h)
-leads_alert b row h m next r otherwise a e k = by (outcome_of (Some alert_message) a) refl
+leads_alert b row h m next r otherwise a e k = by (outcome_alone (Some alert_message) a) refl
   where
-    lost : ((v : ℕ) → outcome_of (Some alert_message) a ≡ Done v → ⊥)
+    lost : ((v : ℕ) → outcome_alone (Some alert_message) a ≡ Done v → ⊥)
         → Leads b m.place (Alert r otherwise) row m next (e ∷ h)
     lost never = record {
       by = edge otherwise row;
@@ -114,7 +115,7 @@ leads_alert b row h m next r otherwise a e k = by (outcome_of (Some alert_messag
       falls = same_rank row m.counters next.counters k.counters;
     }
 
-    by : (o : Outcome) → outcome_of (Some alert_message) a ≡ o
+    by : (o : Outcome) → outcome_alone (Some alert_message) a ≡ o
         → Leads b m.place (Alert r otherwise) row m next (e ∷ h)
     by (Done v) is =
         let value : v ≡ a.value % 256 =
@@ -137,6 +138,10 @@ leads_alert b row h m next r otherwise a e k = by (outcome_of (Some alert_messag
     by TimedOut is = lost (λ v z. apart v (sym is ∙ z))
       where
         apart : (v : ℕ) → TimedOut ≡ Done v → ⊥
+        apart v z = cc
+    by Lost is = lost (λ v z. apart v (sym is ∙ z))
+      where
+        apart : (v : ℕ) → Lost ≡ Done v → ⊥
         apart v z = cc
 
 pub alert_ticks : (b : Board) (row : Row) (h : List Entry) (m next : Machine) (r otherwise : ℕ)

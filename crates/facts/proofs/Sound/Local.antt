@@ -1,4 +1,4 @@
--- One step from a row whose duties are met.
+-- One step from a row whose duties are met, over whose message no other controller wins.
 use Rattle.std.proofs.Common.{◌≡◌, ◌≤◌, ◌+◌, ◌⊎◌, ℕ, suc, Option, Some, None, List, ◌∷◌, length}
 use Rattle.std.proofs.Common.{inl, inr, refl, sym, ap, subst, ◌∙◌, arith}
 use Rattle.std.specs.Prelude.{IsTrue, option_map}
@@ -9,96 +9,63 @@ use Rattle.smbus.specs.SlotCounts.{most_slots}
 use Rattle.board.specs.Boards.{Target, Board}
 use Rattle.targets.specs.declared.outcome.Outcome.{Outcome}
 use Rattle.targets.specs.declared.outcome.Outcome.TheVariants.{Done, NotAcknowledged, TimedOut}
-use Rattle.targets.specs.Outcomes.{outcome_of}
+use Rattle.targets.specs.declared.outcome.Outcome.TheVariants.{Lost}
+use Rattle.targets.specs.Outcomes.{outcome_alone}
 use Rattle.seq_program.specs.declared.instr.Instr.{Instr}
 use Rattle.seq_program.specs.declared.instr.Instr.TheVariants as instr
 use Rattle.seq_program.specs.Messages.{alert_message, message_of}
 use Rattle.seq_program.specs.Programs.{is_end}
 use Rattle.seq_program.specs.Valid.{IsInstr}
 use Rattle.simulator.specs.declared.machine.Ending.TheVariants.{Running, Finished, Failed}
-use Rattle.simulator.specs.EntryLaws.{IdleReadsBack}
 use Rattle.simulator.specs.Machines.{Machine, Entry}
 use Rattle.simulator.specs.Moves.{silently}
 use Rattle.simulator.specs.Safe.{IsSafe}
-use Rattle.simulator.specs.SafeLaws.{AllowedFramesAreSeen}
-use Rattle.simulator.specs.StepDoes.{StepDoes}
-use Rattle.simulator.specs.StepLaws.{Carries, StepsAreSeen}
-use Rattle.simulator.specs.Steps.{alert_level, idle_ticks, IsStepOf}
+use Rattle.simulator.specs.ContendedSteps.{IsStepAlone}
+use Rattle.simulator.specs.Steps.{alert_level, idle_ticks}
 use Rattle.facts.specs.declared.duties.rule.Rule.TheVariants.{K1}
 use Rattle.facts.specs.domain.Sets.{empty}
 use Rattle.facts.specs.domain.Rows.{Row}
 use Rattle.seq_program.specs.Requests.{Transaction, quick, send, receive, write, read, call}
-use Rattle.seq_program.specs.Requests.{write_block}
-use Rattle.seq_program.specs.Requests.{read_block, call_block, request}
+use Rattle.seq_program.specs.Requests.{write_block, read_block, call_block, request}
 use Rattle.facts.specs.duties.Duties.{MayBeSent}
-use Rattle.facts.specs.transfer.Ticks.{frame_ticks, longest_slots, ticks_of, worst_ticks}
-use Rattle.facts.specs.Steps.{Leads, Stands, IsSoundStep, StepsAreSound}
-use Rattle.facts.proofs.Shared.Places.{all_at, same_at}
+use Rattle.facts.specs.transfer.Ticks.{frame_ticks, longest_slots, ticks_of, own_ticks}
+use Rattle.facts.specs.Steps.{Leads, Stands}
 use Rattle.facts.proofs.Sound.Moved.{place_after, leads_request, moved_counters, moved_ended}
-use Rattle.facts.proofs.Sound.Moved.{moved_place, moved_regs, place_after, step_ticks}
+use Rattle.facts.proofs.Sound.Moved.{moved_place, moved_regs, alone_ticks}
 use Rattle.facts.proofs.Sound.RowChanges.{Change}
 use Rattle.facts.proofs.Sound.Seen.{silent_changes}
 use Rattle.facts.proofs.Sound.Silent.{leads_same, leads_again}
 use Rattle.facts.proofs.Sound.Ifs.{leads_if}
 use Rattle.facts.proofs.Sound.Counters.{leads_ifalert, leads_set, leads_add, leads_above}
 use Rattle.facts.proofs.Sound.Counters.{leads_count}
-use Rattle.facts.proofs.Shared.Asking.{Quick, Send, Receive, Write, Read, Call, PutBlock}
-use Rattle.facts.proofs.Shared.Asking.{GetBlock, CallBlock}
-use Rattle.facts.proofs.Shared.Asking.{asked, regs_after, Sending}
+use Rattle.facts.proofs.Shared.Asking.{Quick, Send, Receive, Write, Read, Call, PutBlock, GetBlock}
+use Rattle.facts.proofs.Shared.Asking.{CallBlock, asked, regs_after, Sending}
 use Rattle.facts.proofs.Sound.SafeSteps.{safe_message, safe_silence}
+use Rattle.facts.proofs.Sound.OwnSteps.{Laws, IsOwnStep, SeenStep, seen_alone, is_instr}
 use Rattle.facts.proofs.Sound.Sorts.{Requests, request_duty}
 use Rattle.facts.proofs.Sound.SafeRequests.{request_is_safe}
 use Rattle.facts.proofs.Sound.RequestEdges.{request_edges}
 use Rattle.facts.proofs.Sound.WorstTicks.{request_ticks}
 use Rattle.facts.proofs.Sound.Alerts.{alert_is_safe, AlertStep, leads_alert, alert_ticks}
 
--- what the layers below give
-pub record Laws : Type 0 where
-  pub steps : StepsAreSeen
-  pub idle : IdleReadsBack
-  pub frames : AllowedFramesAreSeen
-
--- a step as it is seen
-record SeenStep (b : Board) (o : Option Asked) (m : Machine) (a : Answered)
-    (e : Entry) : Type 0 where
-  pub carries : Carries m.bus o a e
-  pub does : StepDoes b m.bus o a e
-
-seen_step : Laws
-    → (b : Board) (p : List Instr) (i : Instr) (row : Row) (m : Machine) (h : List Entry)
-    (a : Answered) (e : Entry) (next : Machine)
-    → Stands b p i row m h → IsStepOf b i (message_of b i m.regs) m a e next
-    → SeenStep b (message_of b i m.regs) m a e
-seen_step laws b p i row m h a e next k step =
-    let seen = laws.steps b p m next a e k.board k.program k.ready
-    (record { running = k.running; instr = i; here = k.here; step = step }) in
-    let same : seen.instr ≡ i = same_at p m.place seen.instr i seen.here k.here in
-    let P : Instr → Type 0 = λ x. Carries m.bus (message_of b x m.regs) a e in
-    let Q : Instr → Type 0 = λ x. StepDoes b m.bus (message_of b x m.regs) a e in
-    record { carries = subst P same seen.carries; does = subst Q same seen.does }
-
-is_instr : (b : Board) (p : List Instr) (i : Instr) (row : Row) (m : Machine) (h : List Entry)
-    → Stands b p i row m h → IsInstr i
-is_instr b p i row m h k = all_at (λ (x : Instr). IsInstr x) p m.place i k.program.each k.here
-
 request_sound : Laws → (b : Board) (p : List Instr) (i : Instr) (row : Row) (m : Machine)
     (h : List Entry) (a : Answered) (e : Entry) (next : Machine) (target otherwise : ℕ)
     (r : Transaction)
     → Stands b p i row m h → Requests b i m.regs target r otherwise
-    → IsStepOf b i (message_of b i m.regs) m a e next → IsSoundStep b i row m h e next
-request_sound laws b p i row m h a e next target otherwise r k q step =
-    let seen = seen_step laws b p i row m h a e next k step in
+    → SeenStep b (message_of b i m.regs) m a e
+    → IsStepAlone b i (message_of b i m.regs) m a e next → IsOwnStep b i row m h e next
+request_sound laws b p i row m h a e next target otherwise r k q told step =
     let duty = request_duty b row i target otherwise r q.sent k.duties in
     let first : MayBeSent b row target r = duty K1 in
     let t = first.target in
     let msg = asked t m.regs r in
     let is : message_of b i m.regs ≡ Some msg = q.asks
     ∙ ap (option_map (λ (t : Target). asked t m.regs r)) first.at in
-    let A : Option Asked → Type 0 = λ o. IsStepOf b i o m a e next in
-    let S : Option Asked → Type 0 = λ o. Carries m.bus o a e in
-    let D : Option Asked → Type 0 = λ o. StepDoes b m.bus o a e in
-    let by : IsStepOf b i (Some msg) m a e next = subst A is step in
-    let o = outcome_of (Some msg) a in
+    let A : Option Asked → Type 0 = λ o. IsStepAlone b i o m a e next in
+    let by : IsStepAlone b i (Some msg) m a e next = subst A is step in
+    let whole = subst (λ (o : Option Asked). SeenStep b o m a e) is told in
+    let seen = seen_alone b msg m a e by.kept whole in
+    let o = outcome_alone (Some msg) a in
     let k' : Sending b row h m next target t r a e = record {
       board = k.board;
       at = first.at;
@@ -109,18 +76,18 @@ request_sound laws b p i row m h a e next target otherwise r k q step =
       duty = duty;
       fits = by.fits;
       after = by.bus;
-      carries = subst S is seen.carries;
-      does = subst D is seen.does;
+      carries = seen.carries;
+      does = seen.does;
       regs = ap (λ (z : Machine). z.regs) by.next_is ∙ moved_regs i r msg o next.bus m q.result;
       counters = ap (λ (z : Machine). z.counters) by.next_is ∙ moved_counters i msg o next.bus m;
     } in
-    let worst : worst_ticks b i ≡ frame_ticks b (longest_slots b (request target r otherwise)) =
+    let worst : own_ticks b i ≡ frame_ticks b (longest_slots b (request target r otherwise)) =
     ap (ticks_of b i) q.sent in
     let few : length e.samples ≤ frame_ticks b (longest_slots b (request target r otherwise)) =
     request_ticks b row h m next target t r otherwise a e k' in
-    let ticks : e.ticks ≡ length e.samples = step_ticks b i (Some msg) m a e next by in
+    let ticks : e.ticks ≡ length e.samples = alone_ticks b i (Some msg) m a e next by in
     record {
-      safe = safe_message laws.frames b h m.bus msg a e k'.carries k'.does
+      safe = safe_message laws.frames b h m.bus msg a e by.kept whole.carries k'.does
           (request_is_safe b row h m next target t r a e k');
       ticks = omega (arith, worst, few, ticks);
       goes = inr (
@@ -135,12 +102,12 @@ request_sound laws b p i row m h a e next target otherwise r k q step =
 alert_sound : Laws
     → (b : Board) (p : List Instr) (r l : ℕ) (row : Row) (m : Machine) (h : List Entry)
     (a : Answered) (e : Entry) (next : Machine)
-    → Stands b p (instr.Alert r l) row m h
-    → IsStepOf b (instr.Alert r l) (Some alert_message) m a e next
-    → IsSoundStep b (instr.Alert r l) row m h e next
-alert_sound laws b p r l row m h a e next k step =
-    let seen = seen_step laws b p (instr.Alert r l) row m h a e next k step in
-    let o = outcome_of (Some alert_message) a in
+    → Stands b p (instr.Alert r l) row m h → SeenStep b (Some alert_message) m a e
+    → IsStepAlone b (instr.Alert r l) (Some alert_message) m a e next
+    → IsOwnStep b (instr.Alert r l) row m h e next
+alert_sound laws b p r l row m h a e next k told step =
+    let seen = seen_alone b alert_message m a e step.kept told in
+    let o = outcome_alone (Some alert_message) a in
     let place : next.place ≡ place_after (instr.Alert r l) m.place o =
     ap (λ (z : Machine). z.place) step.next_is
     ∙ moved_place (instr.Alert r l) alert_message o next.bus
@@ -170,11 +137,10 @@ alert_sound laws b p r l row m h a e next k step =
     let few : length e.samples ≤ frame_ticks b (most_slots form.Alert 0 0) =
     alert_ticks b row h m next r l a e k' in
     let ticks : e.ticks ≡ length e.samples =
-    step_ticks b (instr.Alert r l) (Some alert_message) m a e next
-    step in
+    alone_ticks b (instr.Alert r l) (Some alert_message) m a e next step in
     record {
       safe =
-          safe_message laws.frames b h m.bus alert_message a e k'.carries k'.does
+          safe_message laws.frames b h m.bus alert_message a e step.kept told.carries k'.does
           (alert_is_safe b h m.bus a);
       ticks = omega (arith, few, ticks);
       goes = inr (
@@ -190,12 +156,14 @@ alert_sound laws b p r l row m h a e next k step =
     otherwise (Done v) never = absurd (never v refl)
     otherwise NotAcknowledged never = refl
     otherwise TimedOut never = refl
+    otherwise Lost never = refl
 
     unchanged : (o : Outcome) → ((v : ℕ) → o ≡ Done v → ⊥)
         → regs_after (receive r) m.regs o ≡ m.regs
     unchanged (Done v) never = absurd (never v refl)
     unchanged NotAcknowledged never = refl
     unchanged TimedOut never = refl
+    unchanged Lost never = refl
 
 -- a step that sends nothing
 record Silence (b : Board) (i : Instr) (m : Machine) (h : List Entry) (e : Entry)
@@ -209,10 +177,10 @@ record Silence (b : Board) (i : Instr) (m : Machine) (h : List Entry) (e : Entry
 silence : Laws → (b : Board) (i : Instr) (m : Machine) (h : List Entry) (a : Answered) (e : Entry)
     (next : Machine)
     → Rattle.targets.specs.States.Belongs b m.bus → SeenStep b None m a e
-    → IsStepOf b i None m a e next
+    → IsStepAlone b i None m a e next
     → Silence b i m h e next
 silence laws b i m h a e next belongs seen step = record {
-  safe = safe_silence laws.frames b h m.bus a e seen.carries seen.does;
+  safe = safe_silence laws.frames b h m.bus a e None refl seen.carries seen.does;
   ticks = ap (λ (x : Entry). x.ticks) step.entry_is
       ∙ (laws.idle (alert_level m.bus) (suc (idle_ticks i))).count;
   changes = silent_changes b m next h a e belongs step.bus seen.does;
@@ -221,23 +189,22 @@ silence laws b i m h a e next belongs seen step = record {
 
 -- its ticks are the worst, and it goes somewhere
 quiet_sound : (b : Board) (i : Instr) (row : Row) (m : Machine) (h : List Entry) (e : Entry)
-    (next : Machine) → Silence b i m h e next → worst_ticks b i ≡ suc (idle_ticks i)
+    (next : Machine) → Silence b i m h e next → own_ticks b i ≡ suc (idle_ticks i)
     → (((next.ended ≡ Running → ⊥) × IsTrue (is_end i))
     ⊎ ((next.ended ≡ Running) × Leads b m.place i row m next (e ∷ h)))
-    → IsSoundStep b i row m h e next
+    → IsOwnStep b i row m h e next
 quiet_sound b i row m h e next s worst goes = let ticks = s.ticks in
     record { safe = s.safe; ticks = omega (arith, ticks, worst); goes = goes }
 
 silent_step : Laws → (b : Board) (p : List Instr) (i : Instr) (row : Row) (m : Machine)
     (h : List Entry) (a : Answered) (e : Entry) (next : Machine)
-    → Stands b p i row m h → message_of b i m.regs ≡ None
-    → IsStepOf b i (message_of b i m.regs) m a e next
+    → Stands b p i row m h → SeenStep b (message_of b i m.regs) m a e
+    → message_of b i m.regs ≡ None → IsStepAlone b i (message_of b i m.regs) m a e next
     → Silence b i m h e next
-silent_step laws b p i row m h a e next k none step =
+silent_step laws b p i row m h a e next k seen none step =
     let P : Option Asked → Type 0 = λ o. SeenStep b o m a e in
-    let Q : Option Asked → Type 0 = λ o. IsStepOf b i o m a e next in
-    silence laws b i m h a e next k.ready.machine.bus
-    (subst P none (seen_step laws b p i row m h a e next k step)) (subst Q none step)
+    let Q : Option Asked → Type 0 = λ o. IsStepAlone b i o m a e next in
+    silence laws b i m h a e next k.ready.machine.bus (subst P none seen) (subst Q none step)
 
 not_finished : Finished ≡ Running → ⊥
 not_finished e = cc
@@ -249,12 +216,12 @@ still_runs : (i : Instr) (m next : Machine) → next ≡ record (silently i m) {
     → (silently i m).ended ≡ m.ended → m.ended ≡ Running → next.ended ≡ Running
 still_runs i m next goes same running = ap (λ (z : Machine). z.ended) goes ∙ (same ∙ running)
 
-sound : Laws
+pub sound : Laws
     → (b : Board) (p : List Instr) (i : Instr) (row : Row) (m : Machine) (h : List Entry)
     (a : Answered) (e : Entry) (next : Machine)
-    → Stands b p i row m h → IsInstr i → IsStepOf b i (message_of b i m.regs) m a e next
-    → IsSoundStep b i row m h e next
-sound laws b p (instr.Quick t read l) row m h a e next k ok step =
+    → Stands b p i row m h → IsInstr i → SeenStep b (message_of b i m.regs) m a e
+    → IsStepAlone b i (message_of b i m.regs) m a e next → IsOwnStep b i row m h e next
+sound laws b p (instr.Quick t read l) row m h a e next k ok seen step =
     request_sound laws b p (instr.Quick t read l) row m h a e next t l (quick read) k
     (record {
       sent = refl;
@@ -262,8 +229,8 @@ sound laws b p (instr.Quick t read l) row m h a e next k ok step =
       result = refl;
       jump = refl;
       request = Quick read;
-    }) step
-sound laws b p (instr.Send t c l) row m h a e next k ok step =
+    }) seen step
+sound laws b p (instr.Send t c l) row m h a e next k ok seen step =
     request_sound laws b p (instr.Send t c l) row m h a e next t l (send c) k
     (record {
       sent = refl;
@@ -271,8 +238,8 @@ sound laws b p (instr.Send t c l) row m h a e next k ok step =
       result = refl;
       jump = refl;
       request = Send c ok;
-    }) step
-sound laws b p (instr.Receive t r l) row m h a e next k ok step =
+    }) seen step
+sound laws b p (instr.Receive t r l) row m h a e next k ok seen step =
     request_sound laws b p (instr.Receive t r l) row m h a e next t l (receive r) k
     (record {
       sent = refl;
@@ -280,8 +247,8 @@ sound laws b p (instr.Receive t r l) row m h a e next k ok step =
       result = refl;
       jump = refl;
       request = Receive r ok;
-    }) step
-sound laws b p (instr.Write t c v l) row m h a e next k ok step =
+    }) seen step
+sound laws b p (instr.Write t c v l) row m h a e next k ok seen step =
     request_sound laws b p (instr.Write t c v l) row m h a e next t l (write c v) k
     (record {
       sent = refl;
@@ -289,8 +256,8 @@ sound laws b p (instr.Write t c v l) row m h a e next k ok step =
       result = refl;
       jump = refl;
       request = Write c v ok;
-    }) step
-sound laws b p (instr.Read t c w r l) row m h a e next k ok step =
+    }) seen step
+sound laws b p (instr.Read t c w r l) row m h a e next k ok seen step =
     request_sound laws b p (instr.Read t c w r l) row m h a e next t l (read c w r) k
     (record {
       sent = refl;
@@ -298,8 +265,8 @@ sound laws b p (instr.Read t c w r l) row m h a e next k ok step =
       result = refl;
       jump = refl;
       request = Read c w r ok.0 ok.1;
-    }) step
-sound laws b p (instr.Call t c v r l) row m h a e next k ok step =
+    }) seen step
+sound laws b p (instr.Call t c v r l) row m h a e next k ok seen step =
     request_sound laws b p (instr.Call t c v r l) row m h a e next t l (call c v r) k
     (record {
       sent = refl;
@@ -307,8 +274,8 @@ sound laws b p (instr.Call t c v r l) row m h a e next k ok step =
       result = refl;
       jump = refl;
       request = Call c v r ok.0 ok.1 ok.2;
-    }) step
-sound laws b p (instr.BlockWrite t c bytes l) row m h a e next k ok step =
+    }) seen step
+sound laws b p (instr.BlockWrite t c bytes l) row m h a e next k ok seen step =
     request_sound laws b p (instr.BlockWrite t c bytes l) row m h a e next t l
     (write_block c bytes) k
     (record {
@@ -317,8 +284,8 @@ sound laws b p (instr.BlockWrite t c bytes l) row m h a e next k ok step =
       result = refl;
       jump = refl;
       request = PutBlock c bytes ok.0 ok.1;
-    }) step
-sound laws b p (instr.BlockRead t c r l) row m h a e next k ok step =
+    }) seen step
+sound laws b p (instr.BlockRead t c r l) row m h a e next k ok seen step =
     request_sound laws b p (instr.BlockRead t c r l) row m h a e next t l (read_block c r) k
     (record {
       sent = refl;
@@ -326,8 +293,8 @@ sound laws b p (instr.BlockRead t c r l) row m h a e next k ok step =
       result = refl;
       jump = refl;
       request = GetBlock c r ok.0 ok.1;
-    }) step
-sound laws b p (instr.BlockCall t c bytes r l) row m h a e next k ok step =
+    }) seen step
+sound laws b p (instr.BlockCall t c bytes r l) row m h a e next k ok seen step =
     request_sound laws b p (instr.BlockCall t c bytes r l) row m h a e next t l
     (call_block c bytes r) k
     (record {
@@ -336,55 +303,55 @@ sound laws b p (instr.BlockCall t c bytes r l) row m h a e next k ok step =
       result = refl;
       jump = refl;
       request = CallBlock c bytes r ok.0 ok.1 ok.2;
-    }) step
-sound laws b p (instr.Alert r l) row m h a e next k ok step =
-    alert_sound laws b p r l row m h a e next k step
-sound laws b p (instr.IfAlert l) row m h a e next k ok step =
-    let s = silent_step laws b p (instr.IfAlert l) row m h a e next k refl step in
+    }) seen step
+sound laws b p (instr.Alert r l) row m h a e next k ok seen step =
+    alert_sound laws b p r l row m h a e next k seen step
+sound laws b p (instr.IfAlert l) row m h a e next k ok seen step =
+    let s = silent_step laws b p (instr.IfAlert l) row m h a e next k seen refl step in
     quiet_sound b (instr.IfAlert l) row m h e next s refl (inr (
       still_runs (instr.IfAlert l) m next s.goes refl k.running,
       leads_ifalert b row m h next (e ∷ h) next.bus l k.admits s.changes s.goes,
     ))
-sound laws b p (instr.Set r v) row m h a e next k ok step =
-    let s = silent_step laws b p (instr.Set r v) row m h a e next k refl step in
+sound laws b p (instr.Set r v) row m h a e next k ok seen step =
+    let s = silent_step laws b p (instr.Set r v) row m h a e next k seen refl step in
     quiet_sound b (instr.Set r v) row m h e next s refl (inr (
       still_runs (instr.Set r v) m next s.goes refl k.running,
       leads_set b row m h next (e ∷ h) next.bus r v k.shaped k.admits s.changes ok.0 s.goes,
     ))
-sound laws b p (instr.Add r v) row m h a e next k ok step =
-    let s = silent_step laws b p (instr.Add r v) row m h a e next k refl step in
+sound laws b p (instr.Add r v) row m h a e next k ok seen step =
+    let s = silent_step laws b p (instr.Add r v) row m h a e next k seen refl step in
     quiet_sound b (instr.Add r v) row m h e next s refl (inr (
       still_runs (instr.Add r v) m next s.goes refl k.running,
       leads_add b row m h next (e ∷ h) next.bus r v k.shaped k.admits s.changes ok.0 s.goes,
     ))
-sound laws b p (instr.If r x v l) row m h a e next k ok step =
-    let s = silent_step laws b p (instr.If r x v l) row m h a e next k refl step in
+sound laws b p (instr.If r x v l) row m h a e next k ok seen step =
+    let s = silent_step laws b p (instr.If r x v l) row m h a e next k seen refl step in
     quiet_sound b (instr.If r x v l) row m h e next s refl (inr (
       still_runs (instr.If r x v l) m next s.goes refl k.running,
       leads_if b row m h next
           (e ∷ h) next.bus r x v l k.board k.shaped k.admits s.changes ok.0 s.goes,
     ))
-sound laws b p (instr.Above r v l) row m h a e next k ok step =
-    let s = silent_step laws b p (instr.Above r v l) row m h a e next k refl step in
+sound laws b p (instr.Above r v l) row m h a e next k ok seen step =
+    let s = silent_step laws b p (instr.Above r v l) row m h a e next k seen refl step in
     quiet_sound b (instr.Above r v l) row m h e next s refl (inr (
       still_runs (instr.Above r v l) m next s.goes refl k.running,
       leads_above b row m h next (e ∷ h) next.bus r v l k.shaped k.admits s.changes ok.0 s.goes,
     ))
-sound laws b p (instr.Count c v) row m h a e next k ok step =
-    let s = silent_step laws b p (instr.Count c v) row m h a e next k refl step in
+sound laws b p (instr.Count c v) row m h a e next k ok seen step =
+    let s = silent_step laws b p (instr.Count c v) row m h a e next k seen refl step in
     quiet_sound b (instr.Count c v) row m h e next s refl (inr (
       still_runs (instr.Count c v) m next s.goes refl k.running,
       leads_count b row m h next (e ∷ h) next.bus c v k.shaped k.admits s.changes ok.0 s.goes,
     ))
-sound laws b p (instr.Again c l) row m h a e next k ok step =
-    let s = silent_step laws b p (instr.Again c l) row m h a e next k refl step in
+sound laws b p (instr.Again c l) row m h a e next k ok seen step =
+    let s = silent_step laws b p (instr.Again c l) row m h a e next k seen refl step in
     quiet_sound b (instr.Again c l) row m h e next s refl (inr (
       still_runs (instr.Again c l) m next s.goes refl k.running,
       leads_again b row m h next
           (e ∷ h) next.bus c l k.admits s.changes ok k.shaped.counter_count s.goes,
     ))
-sound laws b p (instr.Wait n) row m h a e next k ok step =
-    let s = silent_step laws b p (instr.Wait n) row m h a e next k refl step in
+sound laws b p (instr.Wait n) row m h a e next k ok seen step =
+    let s = silent_step laws b p (instr.Wait n) row m h a e next k seen refl step in
     let worst : n + 1 ≡ suc n = omega arith in
     quiet_sound b (instr.Wait n) row m h e next s worst (inr (
       still_runs (instr.Wait n) m next s.goes refl k.running,
@@ -393,23 +360,19 @@ sound laws b p (instr.Wait n) row m h a e next k ok step =
           (ap (λ (z : Machine). z.place) s.goes) (ap (λ (z : Machine). z.regs) s.goes)
           (ap (λ (z : Machine). z.counters) s.goes),
     ))
-sound laws b p (instr.Goto l) row m h a e next k ok step =
-    let s = silent_step laws b p (instr.Goto l) row m h a e next k refl step in
+sound laws b p (instr.Goto l) row m h a e next k ok seen step =
+    let s = silent_step laws b p (instr.Goto l) row m h a e next k seen refl step in
     quiet_sound b (instr.Goto l) row m h e next s refl (inr (
       still_runs (instr.Goto l) m next s.goes refl k.running,
       leads_same b m.place l (instr.Goto l) row m h next (e ∷ h) k.admits s.changes (inl refl)
           (ap (λ (z : Machine). z.place) s.goes) (ap (λ (z : Machine). z.regs) s.goes)
           (ap (λ (z : Machine). z.counters) s.goes),
     ))
-sound laws b p instr.End row m h a e next k ok step =
-    let s = silent_step laws b p instr.End row m h a e next k refl step in
+sound laws b p instr.End row m h a e next k ok seen step =
+    let s = silent_step laws b p instr.End row m h a e next k seen refl step in
     quiet_sound b instr.End row m h e next s refl
     (inl ((λ r. not_finished (sym (ap (λ (z : Machine). z.ended) s.goes) ∙ r)), refl))
-sound laws b p instr.Fail row m h a e next k ok step =
-    let s = silent_step laws b p instr.Fail row m h a e next k refl step in
+sound laws b p instr.Fail row m h a e next k ok seen step =
+    let s = silent_step laws b p instr.Fail row m h a e next k seen refl step in
     quiet_sound b instr.Fail row m h e next s refl
     (inl ((λ r. not_failed (sym (ap (λ (z : Machine). z.ended) s.goes) ∙ r)), refl))
-
-pub steps_are_sound : Laws → StepsAreSound
-steps_are_sound laws b p i row m h a e next k step =
-    sound laws b p i row m h a e next k (is_instr b p i row m h k) step

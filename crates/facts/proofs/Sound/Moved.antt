@@ -4,16 +4,18 @@ use Rattle.std.proofs.Common.{inl, inr, refl, sym, ap, subst, ◌∙◌, arith}
 use Rattle.std.specs.Prelude.{unwrap_or}
 use Rattle.smbus.specs.Asked.{Asked}
 use Rattle.smbus.specs.Answered.{Answered}
+use Rattle.smbus.specs.Contenders.{Contender}
 use Rattle.board.specs.Boards.{Board}
 use Rattle.targets.specs.declared.outcome.Outcome.{Outcome}
 use Rattle.targets.specs.declared.outcome.Outcome.TheVariants.{Done, NotAcknowledged, TimedOut}
+use Rattle.targets.specs.declared.outcome.Outcome.TheVariants.{Lost}
 use Rattle.targets.specs.States.{BusState}
 use Rattle.seq_program.specs.declared.instr.Instr.{Instr}
 use Rattle.seq_program.specs.Valid.{jump_in}
 use Rattle.simulator.specs.Machines.{Machine, Entry}
 use Rattle.simulator.specs.Moves.{moved}
 use Rattle.seq_program.specs.Requests.{result_in}
-use Rattle.simulator.specs.Steps.{IsStepOf}
+use Rattle.simulator.specs.ContendedSteps.{IsStepAlone, IsStepLost}
 use Rattle.facts.specs.domain.Rows.{Row, Admits, rank}
 use Rattle.seq_program.specs.Requests.{Transaction}
 use Rattle.seq_program.specs.Requests.{request, request_in}
@@ -26,9 +28,15 @@ use Rattle.facts.specs.Steps.{HasEdge, Leads}
 use Rattle.facts.proofs.Shared.Asking.{regs_after}
 use Rattle.facts.proofs.Sound.WriteEdges.{row_by}
 
-pub step_ticks : (b : Board) (i : Instr) (o : Option Asked) (m : Machine) (a : Answered) (e : Entry)
-    (next : Machine) → IsStepOf b i o m a e next → e.ticks ≡ length e.samples
-step_ticks b i o m a e next step = ap (λ (x : Entry). x.ticks) step.entry_is
+pub alone_ticks : (b : Board) (i : Instr) (o : Option Asked) (m : Machine) (a : Answered)
+    (e : Entry) (next : Machine) → IsStepAlone b i o m a e next → e.ticks ≡ length e.samples
+alone_ticks b i o m a e next step = ap (λ (x : Entry). x.ticks) step.entry_is
+    ∙ sym (ap (λ (x : Entry). length x.samples) step.entry_is)
+
+pub lost_ticks : (b : Board) (i : Instr) (msg : Asked) (c : Contender) (m : Machine)
+    (a : Answered) (e : Entry) (next : Machine) → IsStepLost b i msg c m a e next
+    → e.ticks ≡ length e.samples
+lost_ticks b i msg c m a e next step = ap (λ (x : Entry). x.ticks) step.entry_is
     ∙ sym (ap (λ (x : Entry). length x.samples) step.entry_is)
 
 -- ranks along the edges of a request
@@ -68,18 +76,21 @@ pub moved_place : (i : Instr) (msg : Asked) (o : Outcome) (s : BusState) (m : Ma
 moved_place i msg (Done v) s m = refl
 moved_place i msg NotAcknowledged s m = refl
 moved_place i msg TimedOut s m = refl
+moved_place i msg Lost s m = refl
 
 pub moved_counters : (i : Instr) (msg : Asked) (o : Outcome) (s : BusState) (m : Machine)
     → (moved i (Some msg) o s m).counters ≡ m.counters
 moved_counters i msg (Done v) s m = refl
 moved_counters i msg NotAcknowledged s m = refl
 moved_counters i msg TimedOut s m = refl
+moved_counters i msg Lost s m = refl
 
 pub moved_ended : (i : Instr) (msg : Asked) (o : Outcome) (s : BusState) (m : Machine)
     → (moved i (Some msg) o s m).ended ≡ m.ended
 moved_ended i msg (Done v) s m = refl
 moved_ended i msg NotAcknowledged s m = refl
 moved_ended i msg TimedOut s m = refl
+moved_ended i msg Lost s m = refl
 
 pub moved_regs : (i : Instr) (r : Transaction) (msg : Asked) (o : Outcome) (s : BusState)
     (m : Machine)
@@ -89,6 +100,7 @@ moved_regs i r msg (Done v) s m e =
     m.regs) e
 moved_regs i r msg NotAcknowledged s m e = refl
 moved_regs i r msg TimedOut s m e = refl
+moved_regs i r msg Lost s m e = refl
 
 -- the edge that the outcome takes
 pub leads_request : (b : Board) (row : Row) (m : Machine) (next : Machine) (h' : List Entry)
@@ -132,3 +144,4 @@ leads_request b row m next h' i target otherwise r o sends jump place admits cou
     }
     by NotAcknowledged place admits = other place admits
     by TimedOut place admits = other place admits
+    by Lost place admits = other place admits

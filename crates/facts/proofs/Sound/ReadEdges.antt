@@ -15,6 +15,7 @@ use Rattle.board.specs.Boards.{Allow, Target, Rail, Board, entry_of}
 use Rattle.board.specs.Valid.{full_values}
 use Rattle.targets.specs.declared.outcome.Outcome.{Outcome}
 use Rattle.targets.specs.declared.outcome.Outcome.TheVariants.{Done, NotAcknowledged, TimedOut}
+use Rattle.targets.specs.declared.outcome.Outcome.TheVariants.{Lost}
 use Rattle.targets.specs.Outcomes.{IsDone, returned_by}
 use Rattle.targets.specs.States.{IsTargetAt}
 use Rattle.targets.specs.Fitting.{IsIn, IsStoredBy}
@@ -62,6 +63,12 @@ by_effect b row next h' i r f TimedOut e done other = let P : Effect
   where
     apart : (v : ℕ) → TimedOut ≡ Done v → ⊥
     apart v z = cc
+by_effect b row next h' i r f Lost e done other = let P : Effect
+    → Type 0 = λ x. Admits b (else_row b row i x) next h' in
+    subst P (sym e) (other (λ v z. apart v z))
+  where
+    apart : (v : ℕ) → Lost ≡ Done v → ⊥
+    apart v z = cc
 
 -- where it isn't done no register changes
 pub regs_kept : (r : Transaction) (regs : List ℕ) (o : Outcome) → ((v : ℕ) → o ≡ Done v → ⊥)
@@ -69,6 +76,7 @@ pub regs_kept : (r : Transaction) (regs : List ℕ) (o : Outcome) → ((v : ℕ)
 regs_kept r regs (Done v) never = absurd (never v refl)
 regs_kept r regs NotAcknowledged never = refl
 regs_kept r regs TimedOut never = refl
+regs_kept r regs Lost never = refl
 
 -- neither a byte write nor a read of STATUS_WORD
 pub record IsQuiet (r : Transaction) : Type 0 where

@@ -10,6 +10,7 @@ use Rattle.board.specs.declared.entry.Range.{Range}
 use Rattle.board.specs.Boards.{Target, Board}
 use Rattle.targets.specs.declared.outcome.Outcome.{Outcome}
 use Rattle.targets.specs.declared.outcome.Outcome.TheVariants.{Done, NotAcknowledged, TimedOut}
+use Rattle.targets.specs.declared.outcome.Outcome.TheVariants.{Lost}
 use Rattle.targets.specs.Fitting.{IsIn, FitsBlock}
 use Rattle.seq_program.specs.declared.instr.Width.TheVariants as width
 use Rattle.seq_program.specs.declared.instr.Written.TheVariants as written
@@ -64,6 +65,8 @@ row_by_other b row i c v (Done x) np nw =
 row_by_other b row i c v NotAcknowledged np nw = ap (else_row b row i) (effect_other c v np nw)
     ∙ else_by b row i ((c == operation_code) && not (enables v))
 row_by_other b row i c v TimedOut np nw = ap (else_row b row i) (effect_other c v np nw)
+    ∙ else_by b row i ((c == operation_code) && not (enables v))
+row_by_other b row i c v Lost np nw = ap (else_row b row i) (effect_other c v np nw)
     ∙ else_by b row i ((c == operation_code) && not (enables v))
 
 write_edges : (b : Board) (row : Row) (h : List Entry) (m next : Machine) (i : ℕ) (t : Target)

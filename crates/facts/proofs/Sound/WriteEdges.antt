@@ -14,6 +14,7 @@ use Rattle.board.specs.Boards.{Target, Board}
 use Rattle.board.specs.Valid.{is_page_value}
 use Rattle.targets.specs.declared.outcome.Outcome.{Outcome}
 use Rattle.targets.specs.declared.outcome.Outcome.TheVariants.{Done, NotAcknowledged, TimedOut}
+use Rattle.targets.specs.declared.outcome.Outcome.TheVariants.{Lost}
 use Rattle.targets.specs.Effects.{Writes, IsStored}
 use Rattle.seq_program.specs.declared.instr.Written.TheVariants as written
 use Rattle.simulator.specs.Machines.{Machine, Entry}
@@ -47,6 +48,7 @@ regs_same r regs (Done v) e =
     ap (λ (z : Option ℕ). Rattle.simulator.specs.Moves.with_result z v regs) e
 regs_same r regs NotAcknowledged e = refl
 regs_same r regs TimedOut e = refl
+regs_same r regs Lost e = refl
 
 same_value : (v w : ℕ) → v ∷ [] ≡ w ∷ [] → w ≡ v
 same_value v w e = cc
@@ -131,7 +133,7 @@ byte_changes b row h m next i t c v a e P W D k page protect off =
 gains_new : (s : Set) (x n : ℕ) → x ≡ n → gains s n x ≡ true
 gains_new s x n e = or_right (s x) (x == n) (eq-eqb x n e)
 
-gains_old : (s : Set) (x y n : ℕ) → x ≡ y → s y ≡ true → gains s n x ≡ true
+pub gains_old : (s : Set) (x y n : ℕ) → x ≡ y → s y ≡ true → gains s n x ≡ true
 gains_old s x y n e k = or_left (s x) (x == n) (ap s e ∙ k)
 
 -- a write of PAGE
@@ -189,6 +191,8 @@ page_write b row h m next i t v a e o k is = by o is
         (within b.targets i t k.at) k.admits changes gained same k.counters
     by TimedOut is = admits_page b row m h next (e ∷ h) i (gains (set_at row.pages i) v) k.shaped
         (within b.targets i t k.at) k.admits changes gained same k.counters
+    by Lost is = admits_page b row m h next (e ∷ h) i (gains (set_at row.pages i) v) k.shaped
+        (within b.targets i t k.at) k.admits changes gained same k.counters
 
 -- a write of WRITE_PROTECT
 pub protect_write : (b : Board) (row : Row) (h : List Entry) (m next : Machine) (i : ℕ) (t : Target)
@@ -239,6 +243,9 @@ protect_write b row h m next i t v a e o k is = by o is
         admits_protect b row m h next (e ∷ h) i (gains (set_at row.protects i) v)
         k.shaped (within b.targets i t k.at) k.admits changes gained same k.counters
     by TimedOut is =
+        admits_protect b row m h next (e ∷ h) i (gains (set_at row.protects i) v) k.shaped
+        (within b.targets i t k.at) k.admits changes gained same k.counters
+    by Lost is =
         admits_protect b row m h next (e ∷ h) i (gains (set_at row.protects i) v) k.shaped
         (within b.targets i t k.at) k.admits changes gained same k.counters
 

@@ -82,6 +82,7 @@ quiet = record {
   bytes = [];
   took = false;
   alerts = 0;
+  contender = None;
 }
 
 -- the first step
@@ -103,22 +104,28 @@ still b s i (inr kept) = kept.0
 
 step : (b : Board) (s : BusState) → IsStepOf b first None (start_at s) quiet (entry s) (next s)
 step b s = record {
-  fits = record {
-    alerts = λ i on. absurd (false≢true (sym (no_bit i) ∙ on));
-    holds = refl;
-    refuse = refl;
-    reads = record { value = refl; bytes = refl };
-    took = refl;
-  };
+  fits = (
+    record {
+      alerts = λ i on. absurd (false≢true (sym (no_bit i) ∙ on));
+      holds = refl;
+      refuse = refl;
+      reads = record { value = refl; bytes = refl };
+      took = refl;
+    },
+    refl,
+  );
   bus = record {
-    pages = refl;
-    protects = refl;
-    page = λ i lt. inr ((λ v writes. no_message writes.asked writes.sent), refl);
-    protect = λ i lt. inr ((λ v writes. no_message writes.asked writes.sent), refl);
-    alerting = λ i. (
-      (λ on. inr (on, (λ stops. no_message stops.asked stops.sent))),
-      still b s i,
-    );
+    targets = record {
+      pages = refl;
+      protects = refl;
+      page = λ i lt. inr ((λ v writes. no_message writes.asked writes.sent), refl);
+      protect = λ i lt. inr ((λ v writes. no_message writes.asked writes.sent), refl);
+      alerting = λ i. (
+        (λ on. inr (on, (λ stops. no_message stops.asked stops.sent))),
+        still b s i,
+      );
+    };
+    lost = refl;
   };
   next_is = refl;
   entry_is = refl;

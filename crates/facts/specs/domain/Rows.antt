@@ -1,5 +1,5 @@
 -- What is known at a place of a program, and of which machines and histories it is true.
-use Rattle.std.specs.Prelude.{◌≡◌, ℕ, ◌+◌, ◌*◌, ◌^◌, ◌<◌, ◌≤◌, ◌⊎◌, IsTrue, List, [], ◌∷◌, length}
+use Rattle.std.specs.Prelude.{◌≡◌, ℕ, ◌+◌, ◌*◌, ◌<◌, ◌≤◌, ◌⊎◌, IsTrue, List, [], ◌∷◌, length}
 use Rattle.std.specs.Prelude.{map, slice_index, slice_index_or}
 use Rattle.board.specs.Boards.{Target, Board}
 use Rattle.board.specs.Valid.{is_page_value}

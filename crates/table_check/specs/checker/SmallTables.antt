@@ -54,6 +54,10 @@ two_rails = record {
   target_names = codes "a" ∷ codes "b" ∷ [];
   rails = small_rail 0 1100000 [] ∷ small_rail 1 3300000 (0 ∷ []) ∷ [];
   rail_names = codes "va" ∷ codes "vb" ∷ [];
+  foreign = [];
+  foreign_bytes = 0;
+  foreign_stretch = 0;
+  contentions = 0;
 }
 
 -- both targets are on page 0 and unprotected; these rails are good, r0 is in a span and equals what

@@ -132,8 +132,9 @@ fn verdict_on(
 ///
 /// A table that keeps the rule book is accepted. Then, whatever the targets answer within the
 /// board's ranges, the program ends within `bound` ticks with SCL and SDA high, every frame on the
-/// wire is one its target allows or a beginning that a target broke off, no write is protected, no
-/// commanded voltage exceeds its limit, and no rail is enabled before its needs reported good.
+/// wire is one its target allows, a beginning that a target broke off, or a whole frame of another
+/// controller to an address that the board names for them, no write is protected, no commanded
+/// voltage exceeds its limit, and no rail is enabled before its needs reported good.
 /// Otherwise the first place that breaks a rule is told, and the rule: first K9, the length and the
 /// rows of the table, then K8, its start, then places upwards, at each K1 to K5 and then K6 and K7
 /// along its edges. The table may be any. Fails only for want of memory.

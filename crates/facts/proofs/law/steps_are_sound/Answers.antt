@@ -1,6 +1,6 @@
 use Rattle.facts.specs.Steps.{StepsAreSound}
 use Rattle.facts.proofs.Sound.Sorts.{sends_message}
-use Rattle.facts.proofs.Sound.Local.{steps_are_sound}
+use Rattle.facts.proofs.Sound.Whole.{steps_are_sound}
 use Rattle.facts.proofs.Witness.Steps.{some_machine_stands}
 use Rattle.facts.proofs.law.steps_are_sound.Goals as goal
 
@@ -10,6 +10,7 @@ returns-clause-steps c =
       steps = c.steps_are_seen.ensures.steps;
       idle = c.entries_read_back.ensures.none;
       frames = c.safe_steps_are_safe_runs.ensures.frames;
+      either = c.steps_stand_alone_or_are_lost.ensures.either;
     })
 
 pub returns-clause-some : goal.returns-clause-some
@@ -19,6 +20,7 @@ returns-clause-some c =
       steps = c.steps_are_seen.ensures.steps;
       idle = c.entries_read_back.ensures.none;
       frames = c.safe_steps_are_safe_runs.ensures.frames;
+      either = c.steps_stand_alone_or_are_lost.ensures.either;
     }) in
     some_machine_stands sound c.steps_are_seen.ensures.steps c.steps_are_seen.ensures.starts
     c.small_programs_are_judged.ensures.some_clearing
