@@ -1,9 +1,15 @@
 -- The lines that are read as answers are those that spell one.
-use Rattle.std.proofs.Common.{◌≡◌, ℕ, true, false, Bool, ◌==◌, List, [], length, Some, Ok, codes}
+use Rattle.std.proofs.Common.{◌≡◌, ℕ, true, false, Bool, ◌==◌, List, [], length, Option, Some, None}
+use Rattle.std.proofs.Common.{Ok, option_and_then}
+use Rattle.std.proofs.Common.{codes}
 use Rattle.std.proofs.Common.{refl, ap, subst, ◌∙◌}
-use Rattle.texts.specs.Reading.{some_or}
+use Rattle.texts.specs.Reading.{◌>>=◌, some_or}
 use Rattle.texts.specs.Words.{words_of}
 use Rattle.smbus.specs.Answered.{Answered}
+use Rattle.smbus.specs.Contenders.{Contender}
+use Rattle.bundles.specs.declared.fault.BundleFault.{BundleFault}
+use Rattle.bundles.specs.ContenderWords.{contender_of, with_holds, contender_in}
+use Rattle.bundles.specs.ContenderWords.{past_contender, past_cholds}
 use Rattle.bundles.specs.Bundles.{Line}
 use Rattle.bundles.specs.Fields.{value_of, number_of}
 use Rattle.bundles.specs.AnswerWords.{past_bytes, answer_of}
@@ -21,16 +27,18 @@ use Rattle.bundles.proofs.AnswerReading.{answer_values, Answers, answers, answer
 use Rattle.bundles.proofs.AnswerReading.{answer_spelled}
 use Rattle.bundles.proofs.AnswerReading.{taken, answer_taken, answer_fails}
 
-abbrev whole : Answered → Bool → ℕ → Answered
-whole answer took alerts = record answer { took = took; alerts = alerts }
+abbrev whole : Answered → Bool → ℕ → Option Contender → Answered
+whole answer took alerts contender =
+    record answer { took = took; alerts = alerts; contender = contender }
 
 -- the answer of the words that messages have too
 abbrev front_of : Answered → Answered
-front_of answer = whole answer false 0
+front_of answer = whole answer false 0 None
 
-same_said : (values : AnswerValues) (a : Answered) (took : Bool) (alerts : ℕ) → SaysAnswer values a
-    → SaysAnswer values (whole a took alerts)
-same_said values a took alerts s =
+same_said : (values : AnswerValues) (a : Answered) (took : Bool) (alerts : ℕ)
+    (contender : Option Contender) → SaysAnswer values a
+    → SaysAnswer values (whole a took alerts contender)
+same_said values a took alerts contender s =
     record { holds = s.holds; refuse = s.refuse; value = s.value; bytes = s.bytes }
 
 abbrev line_values : List Line → AnswerLineValues
@@ -38,7 +46,13 @@ line_values words = record {
   answer = answer_values words;
   took = value_of (codes "took=") (past_bytes words);
   alerts = value_of (codes "alerts=") (past_took words);
+  contender = value_of (codes "contender=") (past_alerts words);
+  cholds = value_of (codes "cholds=") (past_contender (past_alerts words));
 }
+
+-- the other controller that two words say
+abbrev says_contender : Option (List ℕ) → Option (List ℕ) → Option (Option Contender)
+says_contender said holds = option_and_then (λ s. with_holds s holds) (contender_of said)
 
 -- what some words spell
 record Spells (words : List Line) (answer : Answered) : Type 0 where
@@ -47,14 +61,49 @@ record Spells (words : List Line) (answer : Answered) : Type 0 where
   says : SaysAnswer values.answer answer
   took : took_of values.took ≡ Some answer.took
   alerts : number_of values.alerts ≡ Some answer.alerts
+  contender : says_contender values.contender values.cholds ≡ Some answer.contender
 
 -- ---- what is read is what the words spell
 
-all_spelled : (words : List Line) → past_alerts words ≡ []
+all_spelled : (words : List Line) → past_cholds (past_alerts words) ≡ []
     → words ≡ spelled (key_values (line_values words))
 all_spelled words none =
     answer_spelled words _ (spelled_by (codes "took=") (past_bytes words) _
-    (spelled_by (codes "alerts=") (past_took words) [] none))
+    (spelled_by (codes "alerts=") (past_took words) _
+    (spelled_by (codes "contender=") (past_alerts words) _
+    (spelled_by (codes "cholds=") (past_contender (past_alerts words)) [] none))))
+
+contender_spelled : (fault : BundleFault) (words : List Line) (c : Option Contender)
+    → contender_in fault words ≡ Ok c
+    → says_contender (value_of (codes "contender=") words)
+    (value_of (codes "cholds=") (past_contender words)) ≡ Some c
+unfolding contender_in
+contender_spelled fault words c e =
+    let said =
+    bind_ok (some_or fault (contender_of (value_of (codes "contender=") words))) _ c e in
+    let whole = some_ok fault _ c said.2 in
+    let first = some_ok fault _ said.0 said.1 in
+    rw first whole
+
+contender_read : (fault : BundleFault) (words : List Line) (c : Option Contender)
+    → says_contender (value_of (codes "contender=") words)
+    (value_of (codes "cholds=") (past_contender words)) ≡ Some c
+    → contender_in fault words ≡ Ok c
+unfolding contender_in
+contender_read fault words c e =
+    by (contender_of (value_of (codes "contender=") words)) refl
+  where
+    holds : Option (List ℕ)
+    holds = value_of (codes "cholds=") (past_contender words)
+
+    by : (o : Option (Option Contender))
+        → contender_of (value_of (codes "contender=") words) ≡ o
+        → (some_or fault (contender_of (value_of (codes "contender=") words))
+        >>= (λ said. some_or fault (with_holds said holds))) ≡ Ok c
+    by None is = let bad : None ≡ Some c = rw is at e in absurd cc
+    by (Some said) is =
+        let some : with_holds said holds ≡ Some c = rw is at e in
+        rw (is, some) refl
 
 spells : (number : ℕ) (words : List Line) (answer : Answered) → answer_in number words ≡ Ok answer
     → Spells words answer
@@ -66,13 +115,16 @@ spells number words answer e =
     bind_ok (some_or fault (took_of (value_of (codes "took=") (past_bytes words)))) _ answer a.2 in
     let c = bind_ok (some_or fault (number_of (value_of (codes "alerts=") (past_took words)))) _
     answer b.2 in
-    let w = if_ok fault (length (past_alerts words) == 0) (whole a.0 b.0 c.0) answer c.2 in
+    let d = bind_ok (contender_in fault (past_alerts words)) _ answer c.2 in
+    let w = if_ok fault (length (past_cholds (past_alerts words)) == 0) (whole a.0 b.0 c.0 d.0)
+    answer d.2 in
     subst (Spells words) w.1 (record {
       values = line_values words;
-      spelling = all_spelled words (none_left (past_alerts words) w.0);
-      says = same_said (answer_values words) a.0 b.0 c.0 (answers fault words a.0 a.1).says;
+      spelling = all_spelled words (none_left (past_cholds (past_alerts words)) w.0);
+      says = same_said (answer_values words) a.0 b.0 c.0 d.0 (answers fault words a.0 a.1).says;
       took = some_ok fault _ b.0 b.1;
       alerts = some_ok fault _ c.0 c.1;
+      contender = contender_spelled fault (past_alerts words) d.0 d.1;
     })
 
 -- ---- and back
@@ -88,19 +140,32 @@ reads number words answer h =
       bytes = refl;
     }) in
     let took = taken (codes "took=") h.values.took _ (past_bytes words) behind.rest refl in
-    let alerts = taken (codes "alerts=") h.values.alerts [] (past_took words) took.rest refl in
+    let alerts = taken (codes "alerts=") h.values.alerts _ (past_took words) took.rest refl in
+    let said =
+    taken (codes "contender=") h.values.contender _ (past_alerts words) alerts.rest refl in
+    let holds = taken (codes "cholds=") h.values.cholds [] (past_contender (past_alerts words))
+    said.rest refl in
+    let other = contender_read (bad_answer number) (past_alerts words) answer.contender
+    (rw (said.value, holds.value) h.contender) in
     let front : Answers (answer_values words) (front_of answer) = record {
-      says = same_said (answer_values words) answer false 0 (behind.says answer h.says);
+      says = same_said (answer_values words) answer false 0 None (behind.says answer h.says);
       took = refl;
       alerts = refl;
+      contender = refl;
     } in
     let takes : took_of (value_of (codes "took=") (past_bytes words)) ≡ Some answer.took =
     ap took_of took.value ∙ h.took in
     let pulls : number_of (value_of (codes "alerts=") (past_took words)) ≡ Some answer.alerts =
     ap number_of alerts.value ∙ h.alerts in
-    let none : (length (past_alerts words) == 0) ≡ true =
-    ap (λ (ws : List Line). length ws == 0) alerts.rest in
-    rw (answered_if (bad_answer number) words (front_of answer) front, takes, pulls, none) refl
+    let none : (length (past_cholds (past_alerts words)) == 0) ≡ true =
+    ap (λ (ws : List Line). length ws == 0) holds.rest in
+    rw (
+      answered_if (bad_answer number) words (front_of answer) front,
+      takes,
+      pulls,
+      other,
+      none,
+    ) refl
 
 line_spells : (number : ℕ) (line : Line) (answer : Answered)
     → answer_line_of number line ≡ Ok answer → IsAnswerLine line answer
@@ -112,6 +177,7 @@ line_spells number line answer e =
       says = s.says;
       took = s.took;
       alerts = s.alerts;
+      contender = s.contender;
     }
 
 spelled_line : (number : ℕ) (line : Line) (answer : Answered) → IsAnswerLine line answer
@@ -122,12 +188,20 @@ spelled_line number line answer h = reads number (without_dash (words_of line)) 
   says = h.says;
   took = h.took;
   alerts = h.alerts;
+  contender = h.contender;
 })
 
 pub all_lines : AnswerLinesAreRead
 all_lines number line answer = (line_spells number line answer, spelled_line number line answer)
 
 -- ---- the one fault
+
+contender_fails : (fault : BundleFault) (words : List Line)
+    → FailsBy fault (contender_in fault words)
+unfolding contender_in
+contender_fails fault words =
+    fails_then fault (some_or fault (contender_of (value_of (codes "contender=") words))) _
+    (fails_some fault _) (λ said. fails_some fault _)
 
 line_fails : (number : ℕ) (words : List Line) → FailsBy (bad_answer number) (answer_in number words)
 unfolding answer_in
@@ -138,7 +212,10 @@ line_fails number words =
     (some_or fault (took_of (value_of (codes "took=") (past_bytes words)))) _ (fails_some fault _)
     (λ took. fails_then fault (some_or fault
     (number_of (value_of (codes "alerts=") (past_took words)))) _ (fails_some fault _)
-    (λ alerts. fails_if fault (length (past_alerts words) == 0) (whole answer took alerts))))
+    (λ alerts. fails_then fault (contender_in fault (past_alerts words)) _
+    (contender_fails fault (past_alerts words))
+    (λ contender. fails_if fault (length (past_cholds (past_alerts words)) == 0)
+    (whole answer took alerts contender)))))
 
 pub other_lines : OtherLinesAreBad
 other_lines number line = line_fails number (without_dash (words_of line))

@@ -1,6 +1,6 @@
 -- The words of an answer are read as what they spell.
-use Rattle.std.proofs.Common.{◌≡◌, ℕ, true, false, List, ◌∷◌, Option, Ok, codes, refl, ap, subst}
-use Rattle.std.proofs.Common.{◌∙◌}
+use Rattle.std.proofs.Common.{◌≡◌, ℕ, true, false, List, ◌∷◌, Option, None, Ok, codes, refl, ap}
+use Rattle.std.proofs.Common.{◌∙◌, subst}
 use Rattle.texts.specs.Reading.{some_or}
 use Rattle.smbus.specs.Answered.{Answered}
 use Rattle.bundles.specs.declared.fault.BundleFault.{BundleFault}
@@ -28,6 +28,7 @@ pub record Answers (values : AnswerValues) (a : Answered) : Type 0 where
   pub says : SaysAnswer values a
   pub took : a.took ≡ false
   pub alerts : a.alerts ≡ 0
+  pub contender : a.contender ≡ None
 
 pub answers : (fault : BundleFault) (words : List Line) (m : Answered)
     → answer_of fault words ≡ Ok m
@@ -42,7 +43,15 @@ answers fault words m e =
     let d =
     bind_ok (some_or fault (bytes_of (value_of (codes "bytes=") (past_value words)))) _ m c.2 in
     let made : Answered =
-    record { holds = a.0; refuse = b.0; value = c.0; bytes = d.0; took = false; alerts = 0 } in
+    record {
+      holds = a.0;
+      refuse = b.0;
+      value = c.0;
+      bytes = d.0;
+      took = false;
+      alerts = 0;
+      contender = None;
+    } in
     let says : SaysAnswer (answer_values words) made = record {
       holds = some_ok fault _ a.0 a.1;
       refuse = some_ok fault _ b.0 b.1;
@@ -50,13 +59,21 @@ answers fault words m e =
       bytes = some_ok fault _ d.0 d.1;
     } in
     subst (Answers (answer_values words)) (ok_is made m d.2)
-    (record { says = says; took = refl; alerts = refl })
+    (record { says = says; took = refl; alerts = refl; contender = refl })
 
 pub answered_if : (fault : BundleFault) (words : List Line) (m : Answered)
     → Answers (answer_values words) m → answer_of fault words ≡ Ok m
 unfolding answer_of
 answered_if fault words m a =
-    rw (a.says.holds, a.says.refuse, a.says.value, a.says.bytes, ← a.took, ← a.alerts) refl
+    rw (
+      a.says.holds,
+      a.says.refuse,
+      a.says.value,
+      a.says.bytes,
+      ← a.took,
+      ← a.alerts,
+      ← a.contender,
+    ) refl
 
 -- ---- what is spelled
 
@@ -123,6 +140,7 @@ the_answer holds refuse value bytes = record {
   bytes = bytes;
   took = false;
   alerts = 0;
+  contender = None;
 }
 
 pub answer_fails : (fault : BundleFault) (words : List Line) → FailsBy fault (answer_of fault words)

@@ -1,5 +1,6 @@
 -- Words in the order of their keys.
-use Rattle.std.proofs.Common.{◌≡◌, ℕ, Bool, true, false, ◌==◌, not, List, [], ◌∷◌, ◌++◌, length}
+use Rattle.std.proofs.Common.{◌≡◌, ℕ, Bool, true, false, ◌==◌, ◌&&◌, ◌||◌, not, List, [], ◌∷◌, ◌++◌}
+use Rattle.std.proofs.Common.{length}
 use Rattle.std.proofs.Common.{drop, Option, Some, None, is_some, if◌then◌else◌, refl, ap, ◌∙◌, inl}
 use Rattle.std.proofs.Common.{inr}
 use Rattle.std.specs.Prelude.{nat_eq}
@@ -33,22 +34,28 @@ spells key word value e = elim (cases_Bool (starts_with nat_eq word key)) [
     some_of : {v w : List ℕ} → Some v ≡ Some w → v ≡ w
     some_of e = cc
 
--- keys that differ in their first letter
+-- keys that differ in a letter, and not in length alone
 abbrev are_apart : List ℕ → List ℕ → Bool
 are_apart [] other = false
 are_apart (a ∷ more) [] = false
-are_apart (a ∷ more) (b ∷ others) = not (a == b)
+are_apart (a ∷ more) (b ∷ others) = not (a == b) || are_apart more others
+
+not_started : (key other value : List ℕ) → are_apart key other ≡ true
+    → starts_with nat_eq (other ++ value) key ≡ false
+not_started [] other value t = absurd (cc)
+not_started (a ∷ more) [] value t = absurd (cc)
+not_started (a ∷ more) (b ∷ others) value t = by (a == b) t (not_started more others value)
+  where
+    by : (same : Bool) → (not same || are_apart more others) ≡ true
+        → (are_apart more others ≡ true → starts_with nat_eq (others ++ value) more ≡ false)
+        → (same && starts_with nat_eq (others ++ value) more) ≡ false
+    by true t rest = rest t
+    by false t rest = refl
 
 behind_another : (key other value : List ℕ) → are_apart key other ≡ true
     → after_key key (other ++ value) ≡ None
 unfolding after_key
-behind_another [] other value t = absurd (cc)
-behind_another (a ∷ more) [] value t = absurd (cc)
-behind_another (a ∷ more) (b ∷ others) value t = rw (differ (a == b) t) refl
-  where
-    differ : (x : Bool) → not x ≡ true → x ≡ false
-    differ true t = absurd (cc)
-    differ false t = refl
+behind_another key other value t = rw (not_started key other value t) refl
 
 -- ---- a list of words
 

@@ -102,6 +102,7 @@ line_spells number line exchange e =
       says = answered.says;
       took = answered.took;
       alerts = answered.alerts;
+      contender = answered.contender;
     })
 
 -- ---- a line that spells a message is read
@@ -132,6 +133,7 @@ spelled_line number line exchange h =
       says = behind.says exchange.answer h.says;
       took = h.took;
       alerts = h.alerts;
+      contender = h.contender;
     } in
     let none : (length (past_bytes rest) == 0) ≡ true =
     ap (λ (ws : List Line). length ws == 0) behind.rest in

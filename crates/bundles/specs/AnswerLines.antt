@@ -10,6 +10,7 @@ use Rattle.bundles.specs.declared.fault.BundleFault.TheVariants.{BadAnswer}
 use Rattle.bundles.specs.Bundles.{Line}
 use Rattle.bundles.specs.Fields.{value_of, rest_of, number_of}
 use Rattle.bundles.specs.AnswerWords.{answer_of, past_bytes}
+use Rattle.bundles.specs.ContenderWords.{contender_in, past_cholds}
 
 -- `1`, or no word
 abbrev pub took_of : Option (List ℕ) → Option Bool
@@ -25,14 +26,16 @@ past_alerts words = rest_of (codes "alerts=") (past_took words)
 abbrev pub bad_answer : ℕ → BundleFault
 bad_answer number = BadAnswer number
 
--- `took=1 alerts=DIGITS` behind the words of an answer, and no more
+-- `took=1 alerts=DIGITS` behind the words of an answer, then those of another controller, and no
+-- more
 unfoldable pub answer_in : ℕ → List Line → Result Answered BundleFault
 answer_in number words = do
   answer ← answer_of (bad_answer number) words
   took ← some_or (bad_answer number) (took_of (value_of (codes "took=") (past_bytes words)))
   alerts ← some_or (bad_answer number) (number_of (value_of (codes "alerts=") (past_took words)))
-  value_if (bad_answer number) (length (past_alerts words) == 0)
-      (record answer { took = took; alerts = alerts })
+  contender ← contender_in (bad_answer number) (past_alerts words)
+  value_if (bad_answer number) (length (past_cholds (past_alerts words)) == 0)
+      (record answer { took = took; alerts = alerts; contender = contender })
 
 -- the answer of no words
 abbrev pub silence : Answered
@@ -43,6 +46,7 @@ silence = record {
   bytes = [];
   took = false;
   alerts = 0;
+  contender = None;
 }
 
 -- `-` alone stands for no words

@@ -1,5 +1,5 @@
 -- The words of an answer: how long each slot is held, which byte is refused, and what is read.
-use Rattle.std.specs.Prelude.{ℕ, List, false, Result, Ok, codes}
+use Rattle.std.specs.Prelude.{ℕ, List, false, None, Result, Ok, codes}
 use Rattle.texts.specs.Reading.{◌>>=◌, some_or}
 use Rattle.smbus.specs.Answered.{Answered}
 use Rattle.bundles.specs.declared.fault.BundleFault.{BundleFault}
@@ -32,4 +32,5 @@ answer_of fault words = do
     bytes = bytes;
     took = false;
     alerts = 0;
+    contender = None;
   })

@@ -58,6 +58,7 @@ read_or_silent (Err fault) = record {
   bytes = [];
   took = false;
   alerts = 0;
+  contender = None;
 }
 
 abbrev pub answer_said : ℕ × Line → Answered

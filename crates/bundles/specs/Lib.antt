@@ -7,6 +7,7 @@ pub mod Fields
 pub mod Holds
 pub mod HoldsRead
 pub mod AnswerWords
+pub mod ContenderWords
 pub mod AnswerLines
 pub mod CountedLines
 pub mod Messages

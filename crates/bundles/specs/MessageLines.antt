@@ -1,6 +1,6 @@
 -- Which lines are messages: those whose words spell one, KEY=VALUE in the order of the keys.
 use Rattle.std.specs.Prelude.{◌≡◌, ◌↔◌, ℕ, List, [], ◌∷◌, false, Option, Some, option_and_then, Ok}
-use Rattle.std.specs.Prelude.{Err, codes}
+use Rattle.std.specs.Prelude.{Err, None, codes}
 use Rattle.texts.specs.Words.{words_of}
 use Rattle.bundles.specs.declared.fault.BundleFault.{BundleFault}
 use Rattle.bundles.specs.declared.message.Exchange.{Exchange}
@@ -35,6 +35,7 @@ pub record IsMessageLine (line : Line) (exchange : Exchange) : Type 0 where
   pub says : SaysAnswer answered exchange.answer
   pub took : exchange.answer.took ≡ false
   pub alerts : exchange.answer.alerts ≡ 0
+  pub contender : exchange.answer.contender ≡ None
 
 abbrev pub MessageLinesAreRead : Type 0
 MessageLinesAreRead = (number : ℕ) (line : Line) (exchange : Exchange)

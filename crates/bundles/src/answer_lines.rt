@@ -7,6 +7,7 @@ ghost use Rattle.bundles.specs.Texts.{texts_of};
 ghost use Rattle.bit_bus.specs.declared.plan.TheConstants.{LONGEST_HOLD};
 
 use crate::answer_words::answer_of;
+use crate::contender_words::contender_in;
 use crate::fault::BundleFault;
 use crate::field::{Fields, number_of};
 use smbus::Answer;
@@ -52,12 +53,14 @@ fn answer_in(
     let Some(alerts) = number_of(words.take("alerts=")) else {
         return Err(fault.error());
     };
+    let contender = contender_in(alloc, fault, words)?;
     if !words.words.is_empty() {
         return Err(fault.error());
     }
     Ok(Answer {
         took,
         alerts,
+        contender,
         ..answer
     })
 }
@@ -73,6 +76,7 @@ fn silence(alloc: Global) -> Answer
         bytes: Vec::new(alloc),
         took: false,
         alerts: 0,
+        contender: None,
     }
 }
 

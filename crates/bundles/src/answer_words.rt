@@ -42,5 +42,6 @@ pub fn answer_of(
         bytes,
         took: false,
         alerts: 0,
+        contender: None,
     })
 }

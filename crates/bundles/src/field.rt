@@ -81,7 +81,7 @@ pub fn bytes_of(alloc: Global, text: Option<&str>) -> Result<Option<Vec<u8>>, Al
 }
 
 /// What stands before the first colon, and after it.
-fn cut_at_colon(text: &str) -> Option<(&str, &str)>
+pub(crate) fn cut_at_colon(text: &str) -> Option<(&str, &str)>
     ensures { option_map (λ p. (p.0.now, p.1.now)) result ≡ cut_at 58 text.now }
 {
     text.split_once(':')
@@ -112,9 +112,9 @@ pub fn parts_of<'a>(alloc: Global, text: &'a str) -> Result<Vec<&'a str>, AllocE
 /// Adds the hold of a slot behind the others.
 fn push_hold(holds: &mut Vec<u16>, slot: usize, hold: u16) -> Result<(), AllocError>
     requires behind { vec_len holds.old ≤ slot }
-    requires hold_held { hold ≤ 6999 }
-    requires held { All (λ hold. hold ≤ 6999) holds.old.items }
-    ensures held { OnOk result (All (λ hold. hold ≤ 6999) holds.new.items) }
+    requires hold_held { hold ≤ LONGEST_HOLD }
+    requires held { All (λ hold. hold ≤ LONGEST_HOLD) holds.old.items }
+    ensures held { OnOk result (All (λ hold. hold ≤ LONGEST_HOLD) holds.new.items) }
     ensures added { OnOk result
         (holds.new.items ≡ holds.old.items ++ replicate (slot - vec_len holds.old) 0 ++ hold ∷ []) }
 {
@@ -125,8 +125,8 @@ fn push_hold(holds: &mut Vec<u16>, slot: usize, hold: u16) -> Result<(), AllocEr
 
 /// Adds the hold that a part names, if its slot stands behind the others.
 fn push_named(holds: &mut Vec<u16>, part: &str) -> Result<bool, AllocError>
-    requires { All (λ hold. hold ≤ 6999) holds.old.items }
-    ensures held { OnOk result (All (λ hold. hold ≤ 6999) holds.new.items) }
+    requires { All (λ hold. hold ≤ LONGEST_HOLD) holds.old.items }
+    ensures held { OnOk result (All (λ hold. hold ≤ LONGEST_HOLD) holds.new.items) }
     ensures added { IfOk result
         (λ is_added. option_and_then (with_hold holds.old.items) (hold_of part.now)
         ≡ (if is_added then Some holds.new.items else None)) }
@@ -143,7 +143,8 @@ fn push_named(holds: &mut Vec<u16>, part: &str) -> Result<bool, AllocError>
 /// The holds of all slots up to the last that is named.
 #[tactic(auto, unfolding(crate::specs::HoldsRead::holds_from))]
 fn listed_holds(alloc: Global, parts: &[&str]) -> Result<Option<Vec<u16>>, AllocError>
-    ensures held { IfOk result (λ holds. IfSome holds (λ h. All (λ hold. hold ≤ 6999) h.items)) }
+    ensures held { IfOk result
+        (λ holds. IfSome holds (λ h. All (λ hold. hold ≤ LONGEST_HOLD) h.items)) }
     ensures value { IfOk result
         (λ holds. option_map (λ h. h.items) holds ≡ holds_from [] (texts_of parts.now)) }
 {
@@ -159,7 +160,8 @@ fn listed_holds(alloc: Global, parts: &[&str]) -> Result<Option<Vec<u16>>, Alloc
 /// The holds of the slots, in ascending order of the slots.
 #[tactic(auto, using(crate::proofs::HoldsLaw::holds_from_named))]
 pub fn holds_of(alloc: Global, text: Option<&str>) -> Result<Option<Vec<u16>>, AllocError>
-    ensures held { IfOk result (λ holds. IfSome holds (λ h. All (λ hold. hold ≤ 6999) h.items)) }
+    ensures held { IfOk result
+        (λ holds. IfSome holds (λ h. All (λ hold. hold ≤ LONGEST_HOLD) h.items)) }
     ensures value { IfOk result
         (λ holds. option_map (λ h. h.items) holds ≡ holds_of (option_copied text.entry)) }
 {

@@ -8,6 +8,7 @@ mod answers;
 mod bundle;
 mod command;
 mod composing;
+mod contender_words;
 mod counted;
 mod fault;
 mod field;

@@ -15,6 +15,7 @@ fn alert_byte(alloc: Global, step: &Step) -> Option<u16> {
         bytes: Vec::new(alloc),
         took: false,
         alerts: 0,
+        contender: None,
     };
     for target in step.board.targets() {
         answer.value = 2 * u16::from(target.address());

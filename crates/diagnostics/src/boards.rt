@@ -12,6 +12,7 @@ mod document;
 mod doubt;
 mod draft;
 mod finding;
+mod foreign;
 mod keys;
 mod kind;
 mod locate;

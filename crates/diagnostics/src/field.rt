@@ -58,7 +58,7 @@ pub(crate) const MESSAGE_FIELDS: [Field; 8] = [
     },
 ];
 
-pub(crate) const ANSWER_FIELDS: [Field; 6] = [
+pub(crate) const ANSWER_FIELDS: [Field; 8] = [
     Field {
         key: "holds=",
         expected: HOLDS,
@@ -83,6 +83,15 @@ pub(crate) const ANSWER_FIELDS: [Field; 6] = [
         key: "alerts=",
         expected: WORD,
     },
+    Field {
+        key: "contender=",
+        expected: "the address byte of another controller's frame, two digits, a colon, and its \
+                   data bytes",
+    },
+    Field {
+        key: "cholds=",
+        expected: HOLDS,
+    },
 ];
 
 /// Whether a word alone is an answer.
@@ -103,6 +112,11 @@ fn takes(alloc: Global, key: &str, value: &str) -> Result<bool, AllocError> {
         "out=" => {
             let word = format!(in alloc; "bytes={value}")?;
             is_answer(alloc, &word)
+        }
+        // it stands behind another controller alone
+        "cholds=" => {
+            let words = format!(in alloc; "contender=00: cholds={value}")?;
+            is_answer(alloc, &words)
         }
         _ => {
             let word = format!(in alloc; "{key}{value}")?;

@@ -13,6 +13,7 @@ mod boards;
 mod branch;
 mod bundle;
 mod cause;
+mod contended;
 mod counted;
 mod detail;
 mod distance;

@@ -1,6 +1,7 @@
 //! Which part of an answer doesn't fit.
 
 use crate::alert::alert_misfit;
+use crate::contended::{Clash, clash_of, contended_misfit, copied};
 use crate::returned::returned_misfit;
 use crate::sentence::{Sentence, Word};
 use crate::step::Step;
@@ -18,20 +19,42 @@ enum Part {
     Holds,
     Alerts,
     Took,
+    /// `contender` or `cholds`.
+    Contender(Clash),
+}
+
+/// What of another controller doesn't fit, where its answer fits without it.
+fn clash(alloc: Global, step: &Step) -> Result<Option<Part>, AllocError> {
+    let answer = step.answer;
+    let Some(contender) = &answer.contender else {
+        return Ok(None);
+    };
+    let mut without = copied(answer)?;
+    without.contender = None;
+    if !step.takes(&without) {
+        return Ok(None);
+    }
+    let clash = clash_of(alloc, step, contender, copied(answer)?)?;
+    Ok(Some(Part::Contender(clash)))
+}
+
+/// What doesn't fit of an answer that has nothing left beside another controller, if it has one.
+fn last_part(alloc: Global, step: &Step, left: Answer) -> Result<Part, AllocError> {
+    let answer = step.answer;
+    match &answer.contender {
+        Some(contender) => {
+            let clash = clash_of(alloc, step, contender, left)?;
+            Ok(Part::Contender(clash))
+        }
+        None => Ok(Part::Returned),
+    }
 }
 
 /// The first part that doesn't fit. The others are left out one after another, the last first,
 /// until what is left fits: so no rule is written here a second time.
 fn part_of(alloc: Global, step: &Step) -> Result<Part, AllocError> {
-    let answer = step.answer;
-    let mut left = Answer {
-        holds: answer.holds.clone()?,
-        refuse: answer.refuse,
-        value: answer.value,
-        bytes: answer.bytes.clone()?,
-        took: false,
-        alerts: answer.alerts,
-    };
+    let mut left = copied(step.answer)?;
+    left.took = false;
     if step.takes(&left) {
         return Ok(Part::Took);
     }
@@ -47,7 +70,12 @@ fn part_of(alloc: Global, step: &Step) -> Result<Part, AllocError> {
     if step.takes(&left) {
         return Ok(Part::Refuse);
     }
-    Ok(Part::Returned)
+    left.value = 0;
+    left.bytes = Vec::new(alloc);
+    if step.takes(&left) {
+        return Ok(Part::Returned);
+    }
+    last_part(alloc, step, left)
 }
 
 /// The first target that begins to alert and can't, by its index.
@@ -135,6 +163,7 @@ fn message_misfit<'a>(
         Part::Holds => holds_misfit(board, message, answer),
         Part::Refuse | Part::Returned => bytes_misfit(alloc, step, message, part),
         Part::Took => return Sentence::plain("took=1"),
+        Part::Contender(clash) => contended_misfit(step, message, clash),
     }
 }
 
@@ -148,6 +177,7 @@ fn silent_misfit<'a>(step: &Step<'a>, part: Part) -> Sentence<'a> {
         Part::Refuse => "refuse=",
         Part::Holds => "holds=",
         Part::Took => "took=1",
+        Part::Contender(_) => "contender=",
     };
     let template = "\"{}\" for a step that sends nothing, whose answer is \"-\"";
     Sentence::one(template, Word::Text(word))
@@ -168,7 +198,10 @@ pub(crate) fn misfit<'a>(
         message,
         answer,
     };
-    let part = part_of(alloc, &step)?;
+    let part = match clash(alloc, &step)? {
+        Some(part) => part,
+        None => part_of(alloc, &step)?,
+    };
     match message {
         Some(message) => Ok(message_misfit(alloc, &step, message, part)),
         None => Ok(silent_misfit(&step, part)),

@@ -51,6 +51,14 @@ fn bad_start_line<'a>(words: &[&'a str]) -> Sentence<'a> {
     Sentence::plain("expected two digits for each target")
 }
 
+/// What is wrong with an answer of which each field is right by itself.
+fn answer_flaw(words: &[&str]) -> &'static str {
+    match value_of(words, "cholds=") {
+        Some(_) => "\"cholds=\" stands only behind \"contender=\"",
+        None => "this is no answer",
+    }
+}
+
 /// What is said of a line of `%answers`.
 fn answer_remark(alloc: Global, spot: Spot) -> Result<Remark, AllocError> {
     let Some(line) = line_at(spot.text, spot.number) else {
@@ -63,7 +71,7 @@ fn answer_remark(alloc: Global, spot: Spot) -> Result<Remark, AllocError> {
     }
     match first_flaw(alloc, &ANSWER_FIELDS, &words)? {
         Some(remark) => Ok(remark),
-        None => Remark::plain(alloc, "this is no answer"),
+        None => Remark::plain(alloc, answer_flaw(&words)),
     }
 }
 

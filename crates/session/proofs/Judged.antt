@@ -1,10 +1,12 @@
 -- What is known after a step.
-use Rattle.std.proofs.Common.{◌≡◌, ◌<◌, ◌∙◌, ◌∷◌, ℕ, List, [], length, slice_get, Option, Some}
-use Rattle.std.proofs.Common.{None, inl, inr, sym, ap, subst, refl}
+use Rattle.std.proofs.Common.{◌≡◌, ◌<◌, ◌∙◌, ◌∷◌, ℕ, Bool, List, [], length, slice_get, Option}
+use Rattle.std.proofs.Common.{Some, None, inl, inr, sym, ap, subst, refl}
 use Rattle.std.specs.Prelude.{IsTrue}
 use Rattle.smbus.specs.Asked.{Asked}
 use Rattle.smbus.specs.Answered.{Answered}
+use Rattle.smbus.specs.Winners.{carried}
 use Rattle.board.specs.Boards.{Board}
+use Rattle.targets.specs.States.{BusState}
 use Rattle.seq_program.specs.declared.instr.Instr.{Instr}
 use Rattle.seq_program.specs.Messages.{message_of}
 use Rattle.simulator.specs.Machines.{Machine, Entry}
@@ -41,42 +43,35 @@ first_failing b p place i j row known found x y same k =
     let Q : Row → Type 0 = λ z. IsFirstFailing b z i duties found in
     subst P (same_instr p place i j x y) (subst Q same k)
 
--- what the message of the instruction does
+-- what the wire carries of the instruction's message does this
 does : (b : Board) (p : List Instr) (m next : Machine) (a : Answered) (e : Entry) (i : Instr)
     (message : Option Asked) → StepIsSeen b p m a e next → slice_get p m.place ≡ Some i
-    → message ≡ message_of b i m.regs → StepDoes b m.bus message a e
+    → message ≡ carried (message_of b i m.regs) a → StepDoes b m.bus message a e
 does b p m next a e i message seen here is =
     let P : Option Asked → Type 0 = λ x. StepDoes b m.bus x a e in
     let same : i ≡ seen.instr = same_instr p m.place i seen.instr here seen.here in
-    subst P (sym (is ∙ ap (λ (x : Instr). message_of b x m.regs) same)) seen.does
+    subst P (sym (is ∙ ap (λ (x : Instr). carried (message_of b x m.regs) a) same)) seen.does
 
-pub after_message : (b : Board) (p : List Instr) (m next : Machine) (a : Answered) (e : Entry)
-    (i : Instr) (message : Asked) (history : List Entry) (old new : Set)
+pub after_step : (b : Board) (p : List Instr) (m next : Machine) (a : Answered) (e : Entry)
+    (i : Instr) (message : Option Asked) (history : List Entry) (old new : Set)
     → StepIsSeen b p m a e next → slice_get p m.place ≡ Some i
-    → Some message ≡ message_of b i m.regs
-    → ((d : ℕ) → d < length b.rails → TellsAfter b m.bus (Some message) a d (old d) (new d))
+    → message ≡ carried (message_of b i m.regs) a
+    → ((d : ℕ) → d < length b.rails → TellsAfter b m.bus message a d (old d) (new d))
     → ((d : ℕ) → IsTrue (new d) → d < length b.rails)
     → Knows b history old → Knows b (e ∷ history) new
-after_message b p m next a e i message history old new seen here is tells rails known = record {
-  reported = λ d lt. tells d lt history e (does b p m next a e i (Some message) seen here is)
+after_step b p m next a e i message history old new seen here is tells rails known = record {
+  reported = λ d lt. tells d lt history e (does b p m next a e i message seen here is)
       (known.reported d lt);
   rails = rails;
 }
 
-pub after_silence : (b : Board) (p : List Instr) (m next : Machine) (a : Answered) (e : Entry)
-    (i : Instr) (history : List Entry) (good : Set)
-    → StepIsSeen b p m a e next → slice_get p m.place ≡ Some i → None ≡ message_of b i m.regs
-    → Knows b history good → Knows b (e ∷ history) good
-after_silence b p m next a e i history good seen here is known = record {
-  reported = λ d lt. (to d lt, from d lt);
-  rails = known.rails;
-}
+-- a step that carries no message tells nothing
+pub quiet_tells : (b : Board) (s : BusState) (a : Answered) (d : ℕ) (good : Bool)
+    → TellsAfter b s None a d good good
+quiet_tells b s a d good history e quiet known = (to, from)
   where
-    quiet : StepDoes b m.bus None a e
-    quiet = does b p m next a e i None seen here is
-
-    to : (d : ℕ) → d < length b.rails → IsTrue (good d) → IsReportedGood b (e ∷ history) d
-    to d lt t = let k = (known.reported d lt).0 t in record {
+    to : IsTrue good → IsReportedGood b (e ∷ history) d
+    to t = let k = known.0 t in record {
       word = k.word;
       last = inr (
         λ other r. ((quiet.reports d other).0 r).reports,
@@ -86,13 +81,12 @@ after_silence b p m next a e i history good seen here is known = record {
       good = k.good;
     }
 
-    by : (d word : ℕ) → LastReport b (e ∷ history) d word → LastReport b history d word
-    by d word (inl x) = absurd ((quiet.reports d word).0 x).reports
-    by d word (inr x) = x.2
+    by : (word : ℕ) → LastReport b (e ∷ history) d word → LastReport b history d word
+    by word (inl x) = absurd ((quiet.reports d word).0 x).reports
+    by word (inr x) = x.2
 
-    from : (d : ℕ) → d < length b.rails → IsReportedGood b (e ∷ history) d → IsTrue (good d)
-    from d lt k = (known.reported d lt).1
-        (record { word = k.word; last = by d k.word k.last; good = k.good })
+    from : IsReportedGood b (e ∷ history) d → IsTrue good
+    from k = known.1 (record { word = k.word; last = by k.word k.last; good = k.good })
 
 -- an instruction that sends nothing breaks no rule
 pub silent : (b : Board) (row : Row) (i : Instr) → request_in i ≡ None

@@ -1,21 +1,15 @@
 -- The slots of a Read Word.
-use Rattle.std.proofs.Common.{◌≡◌, ◌≤◌, ◌+◌, inl, inr, ◌/◌, ◌∙◌, ℕ, Option, Some, None}
+use Rattle.std.proofs.Common.{◌≡◌, inl, inr, ◌∙◌, ℕ, Option, Some}
 use Rattle.std.proofs.Common.{List}
-use Rattle.std.proofs.Common.{length, take, min, refl, ap, sym, arith}
-use Rattle.std.specs.Prelude.{IfSome, IsTrue, ◌==◌, ◌↔◌}
+use Rattle.std.proofs.Common.{length, refl, ap, sym, arith}
+use Rattle.std.specs.Prelude.{IsTrue, ◌==◌, ◌↔◌}
 use Rattle.std.proofs.lemmas.Bool.Decides.{nat_tests}
 use Rattle.smbus.specs.MessageFrame.{IsCutLate}
-use Rattle.std.proofs.lemmas.List.{length-take}
-use Rattle.bit_bus.specs.Levels.{first_cut}
 use Rattle.smbus.specs.declared.message.Form.{Form}
-use Rattle.smbus.specs.declared.message.Form.TheVariants.{ReadWord, WriteByte}
+use Rattle.smbus.specs.declared.message.Form.TheVariants.{ReadWord}
 use Rattle.smbus.specs.Asked.{Asked}
-use Rattle.smbus.specs.Answered.{Answered}
-use Rattle.smbus.specs.FirstSegment.{bytes_in, bytes_to, bytes_before, bytes_out, message_bytes}
 use Rattle.smbus.specs.Frames.{byte_bits}
 use Rattle.smbus.specs.Protocol.{marks_of, whole, whole_of}
-use Rattle.smbus.specs.Slots.{plan_of}
-use Rattle.targets.specs.Effects.{IsByteWrite}
 
 word_marks : (address code value : ℕ) (out block : List ℕ)
     → length (marks_of (whole_of ReadWord address code out value block)) ≡ 46

@@ -13,7 +13,8 @@ use Rattle.seq_program.specs.declared.instr.Instr.{Instr}
 use Rattle.session.specs.declared.doubts.Doubt.{Doubt}
 use Rattle.session.specs.Doubts.{sent_by, AllCanComeGood}
 use Rattle.session.specs.AllDoubts.{Doubts, target_doubts, unready_targets, idle_rails}
-use Rattle.session.specs.AllDoubts.{loose_limits, IsCircle, TellsCircles, AreDoubts}
+use Rattle.session.specs.AllDoubts.{loose_limits, foreign_doubts, IsCircle, TellsCircles}
+use Rattle.session.specs.AllDoubts.{AreDoubts}
 use Rattle.session.specs.AllDoubts.{rails_of, AreApart}
 use Rattle.session.specs.OneCircle.{TellsCircle}
 use Rattle.session.specs.Ready.{is_ready, AreAmong}
@@ -78,11 +79,13 @@ first_longer first after doubt more =
     omega (arith, ap (λ doubts. length doubts) more, length_push first doubt)
 
 pub all_doubts : (b : Board) (p : List Instr) (ms : List Asked)
-    (none targets circles idle all : Doubts) → ms ≡ sent_by b p → none ≡ []
+    (none targets circles idle loose all : Doubts) → ms ≡ sent_by b p → none ≡ []
     → targets ≡ none ++ flat_map (target_doubts ms) (enumerate_from 0 b.targets)
     → TellsCircles b targets circles → (circles ≡ targets) ↔ AllCanComeGood b
-    → idle ≡ circles ++ idle_rails b → all ≡ idle ++ loose_limits b → AreDoubts b p all
-all_doubts b p ms none targets circles idle all sent empty unready tells good idles looses =
+    → idle ≡ circles ++ idle_rails b → loose ≡ idle ++ loose_limits b
+    → all ≡ loose ++ foreign_doubts b → AreDoubts b p all
+all_doubts b p ms none targets circles idle loose all sent empty unready tells good idles looses
+    foreign =
     let first : targets ≡ unready_targets b p =
     unready
     ∙ ap (λ doubts. doubts ++ flat_map (target_doubts ms) (enumerate_from 0 b.targets)) empty
@@ -90,9 +93,12 @@ all_doubts b p ms none targets circles idle all sent empty unready tells good id
     record {
       circles = tells.circles;
       told =
-          looses ∙ ap (λ doubts. doubts ++ loose_limits b) idles
-          ∙ ap (λ doubts. (doubts ++ idle_rails b) ++ loose_limits b) tells.told
-          ∙ ap (λ doubts. doubts ++ tells.circles ++ idle_rails b ++ loose_limits b) first;
+          foreign ∙ ap (λ doubts. doubts ++ foreign_doubts b) looses
+          ∙ ap (λ doubts. (doubts ++ loose_limits b) ++ foreign_doubts b) idles
+          ∙ ap (λ doubts. ((doubts ++ idle_rails b) ++ loose_limits b) ++ foreign_doubts b)
+          tells.told
+          ∙ ap (λ doubts. doubts ++ tells.circles ++ idle_rails b ++ loose_limits b
+          ++ foreign_doubts b) first;
       each = tells.each;
       apart = tells.apart;
       some = (

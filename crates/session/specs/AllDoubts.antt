@@ -1,7 +1,7 @@
 -- The doubts about a board and a program on it, in the order in which they are told.
 use Rattle.std.specs.Prelude.{◌≡◌, ◌≤◌, ◌↔◌, ◌++◌, ℕ, List, [], ◌∷◌, length, take, slice_get, All}
 use Rattle.std.specs.Prelude.{IsSomeAnd, if◌then◌else◌, max, unwrap_or, Bool, Contains, map}
-use Rattle.std.specs.Prelude.{find, flat_map, IsTrue, false}
+use Rattle.std.specs.Prelude.{find, flat_map, IsTrue, false, ◌==◌, ◌&&◌, not}
 use Rattle.std.specs.List.{list_any, enumerate_from, AllPairs}
 use Rattle.std.specs.Option.{option_map_or}
 use Rattle.smbus.specs.Asked.{Asked}
@@ -11,12 +11,13 @@ use Rattle.board.specs.Boards.{Allow, Target, Rail, Board, entry_of}
 use Rattle.seq_program.specs.declared.instr.Instr.{Instr}
 use Rattle.session.specs.declared.doubts.Doubt.{Doubt}
 use Rattle.session.specs.declared.doubts.Doubt.TheVariants.{AllPages, Protected, Circle}
-use Rattle.session.specs.declared.doubts.Doubt.TheVariants.{IdleRail, LooseLimit}
+use Rattle.session.specs.declared.doubts.Doubt.TheVariants.{IdleRail, LooseLimit, NeverWins}
+use Rattle.session.specs.declared.doubts.Doubt.TheVariants.{NoForeign, NoContentions}
 use Rattle.session.specs.declared.doubts.Lack.{Lack}
 use Rattle.session.specs.declared.doubts.Lack.TheVariants as lack
 use Rattle.session.specs.Doubts.{sent_by, starts_at_all_pages, starts_protected, is_read_of_page}
 use Rattle.session.specs.Doubts.{is_forbidden, is_idle_rail, may_enable, is_loose_rail}
-use Rattle.session.specs.Doubts.{takes_voltage, AllCanComeGood}
+use Rattle.session.specs.Doubts.{takes_voltage, never_wins, has_foreign, AllCanComeGood}
 use Rattle.session.specs.Ready.{is_ready}
 
 abbrev pub Doubts : Type 0
@@ -93,6 +94,19 @@ idle_rails b = flat_map (idle_doubts b) (enumerate_from 0 b.rails)
 abbrev pub loose_limits : Board → Doubts
 loose_limits b = flat_map (loose_doubts b) (enumerate_from 0 b.rails)
 
+-- another controller's frame to an address that never wins
+abbrev pub address_doubts : Board → ℕ → Doubts
+address_doubts b address = only_if (never_wins b address) (NeverWins address)
+
+-- others may win, and send to no address; or they send to some, and may never win
+abbrev pub count_doubts : Board → Doubts
+count_doubts b =
+    only_if (not (b.contentions == 0) && not (has_foreign b)) (NoForeign b.contentions)
+    ++ only_if (b.contentions == 0 && has_foreign b) NoContentions
+
+abbrev pub foreign_doubts : Board → Doubts
+foreign_doubts b = flat_map (address_doubts b) b.foreign ++ count_doubts b
+
 -- a rail needs another
 abbrev pub Needs : Board → ℕ → ℕ → Type 0
 Needs b rail other = IsSomeAnd (slice_get b.rails rail) (λ r. Contains r.needs other)
@@ -130,7 +144,8 @@ pub record TellsCircles (b : Board) (before after : Doubts) : Type 0 where
 -- can't come good, one at least
 pub record AreDoubts (b : Board) (p : List Instr) (doubts : Doubts) : Type 0 where
   pub circles : Doubts
-  pub told : doubts ≡ unready_targets b p ++ circles ++ idle_rails b ++ loose_limits b
+  pub told : doubts
+      ≡ unready_targets b p ++ circles ++ idle_rails b ++ loose_limits b ++ foreign_doubts b
   pub each : All (IsCircle b) circles
   pub apart : AllPairs AreApart circles
   pub some : (circles ≡ []) ↔ AllCanComeGood b

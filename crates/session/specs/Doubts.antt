@@ -1,6 +1,6 @@
 -- What of a board without faults may be meant otherwise: start values with which a target doesn't
 -- take what a program sends, needs in a circle, rails that nothing turns on, limits that nothing
--- breaks.
+-- breaks, other controllers that never win.
 use Rattle.std.specs.Prelude.{◌≡◌, ◌<◌, ℕ, ◌+◌, min, List, [], ◌∷◌, length, slice_get}
 use Rattle.std.specs.Prelude.{replicate}
 use Rattle.std.specs.Prelude.{Bool, true, false, ◌==◌, ◌&&◌, ◌||◌, not, nat_le, Option, Some, None}
@@ -20,7 +20,7 @@ use Rattle.pmbus_table.specs.Voltage.{carries_voltage, within}
 use Rattle.board.specs.declared.entry.Range.{Range}
 use Rattle.board.specs.Boards.{Allow, Target, Rail, Board, entry_of}
 use Rattle.seq_program.specs.declared.instr.Instr.{Instr}
-use Rattle.seq_program.specs.Messages.{message_of}
+use Rattle.seq_program.specs.Messages.{alert_message, message_of}
 
 abbrev pub has : Range → ℕ → Bool
 has r value = nat_le r.low value && nat_le value r.high
@@ -120,6 +120,14 @@ is_idle_rail b r = option_map_or (λ t. is_idle t r) (slice_get b.targets r.targ
 
 abbrev pub is_loose_rail : Board → Rail → Bool
 is_loose_rail b r = option_map_or (λ t. is_loose t r) (slice_get b.targets r.target) false
+
+-- the lower address wins (UM10204, 3.1.8): no target's is over this one, nor the alert response's
+abbrev pub never_wins : Board → ℕ → Bool
+never_wins b address =
+    list_all (λ t. nat_le t.address address) b.targets && nat_le alert_message.address address
+
+abbrev pub has_foreign : Board → Bool
+has_foreign b = not (length b.foreign == 0)
 
 -- a set of rails takes in each rail whose needs are all in it
 abbrev pub TakesIn : Board → (ℕ → Bool) → Type 0

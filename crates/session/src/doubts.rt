@@ -4,6 +4,7 @@ ghost use Rattle.std.specs.Prelude.{IfOk};
 ghost use Rattle.session.specs.AllDoubts.{AreDoubts};
 
 mod circle;
+mod foreign;
 mod idle;
 mod loose;
 mod ready;
@@ -11,13 +12,15 @@ mod unready;
 
 use board::Board;
 use circle::push_circles;
+use foreign::push_foreign;
 use idle::push_idle_rails;
 use loose::push_loose_limits;
 use seq_program::Program;
 use std::alloc::{AllocError, Global};
 use unready::{messages_of, push_unready_targets};
 
-/// What may be meant otherwise, and of which target or rail, counted from 0.
+/// What may be meant otherwise, and of which target or rail, counted from 0, or of what of the
+/// board's other controllers.
 #[derive(Debug, PartialEq, Eq, Drop)]
 pub enum Doubt {
     /// PAGE of the target may be FFh at the start, all pages, and the program reads by this command
@@ -45,6 +48,17 @@ pub enum Doubt {
         rail: usize,
         greatest: u16,
     },
+    /// Another controller's frame to this address never wins over a message to a target or over
+    /// the alert response.
+    NeverWins {
+        address: u8,
+    },
+    /// Other controllers may win so often, and there is no address to which they send.
+    NoForeign {
+        contentions: u16,
+    },
+    /// There are addresses to which other controllers send, and none of their frames may win.
+    NoContentions,
 }
 
 /// What a rail lacks to be turned on.
@@ -60,8 +74,8 @@ pub enum Lack {
 
 /// All doubts about a board and a program on it: targets that may start so that they don't take
 /// what the program sends them, needs that go round in a circle, rails that no entry of their
-/// target can turn on, and limits that no voltage can break. Memory is answered where a growth was
-/// refused.
+/// target can turn on, limits that no voltage can break, and other controllers that can't win.
+/// Memory is answered where a growth was refused.
 pub fn doubts_on(alloc: Global, board: &Board, program: &Program) -> Result<Vec<Doubt>, AllocError>
     ensures { IfOk result (λ doubts. AreDoubts board.now program.now doubts.items) }
 {
@@ -71,5 +85,6 @@ pub fn doubts_on(alloc: Global, board: &Board, program: &Program) -> Result<Vec<
     push_circles(alloc, &mut doubts, board)?;
     push_idle_rails(&mut doubts, board)?;
     push_loose_limits(&mut doubts, board)?;
+    push_foreign(&mut doubts, board)?;
     Ok(doubts)
 }

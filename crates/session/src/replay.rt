@@ -28,6 +28,8 @@ fn run_steps(alloc: Global, scenario: &Scenario<'_>, stage: &mut Stage) -> Resul
         stage.step(alloc, board, program, &answer, index, ticks)?;
         index += 1;
         ticks += stage.entry.ticks;
+        // by a call, since the proof has a path for each part that may be there to drop
+        drop(answer);
     }
     Ok(())
 }

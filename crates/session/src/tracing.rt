@@ -60,6 +60,8 @@ fn tell_steps(
         report.add(alloc, &stage.entry)?;
         index += 1;
         ticks += stage.entry.ticks;
+        // by a call, since the proof has a path for each part that may be there to drop
+        drop(answer);
     }
     Ok(ticks)
 }

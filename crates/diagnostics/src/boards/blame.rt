@@ -2,7 +2,7 @@
 
 use crate::boards::document::{all_without, fault_of_lists, items_at, only, with, without};
 use crate::boards::draft::{Draft, Site};
-use crate::boards::kind::Kind;
+use crate::boards::kind::{Kind, fault_at};
 use crate::boards::search::{Frame, first_guilty};
 use board::BoardFault;
 use smbus::form_named;
@@ -76,11 +76,39 @@ fn bad_range(alloc: Global, entry: &Table) -> Result<Option<&'static str>, Alloc
     }
 }
 
+/// The number of the board that can't be.
+fn bad_count(alloc: Global, board: &Table) -> Result<Option<&'static str>, AllocError> {
+    let Some(value) = board.get("foreign_bytes") else {
+        return Ok(Some("contentions"));
+    };
+    match fault_at(alloc, "foreign_bytes", value)? {
+        Some(BoardFault::BadRange) => Ok(Some("foreign_bytes")),
+        _ => Ok(Some("contentions")),
+    }
+}
+
 /// The range of a table that can't be.
 fn range_key(alloc: Global, site: Site, table: &Table) -> Result<Option<&'static str>, AllocError> {
     match site {
+        Site::Board => bad_count(alloc, table),
         Site::Rail(_) => Ok(Some("limit_uv")),
         _ => bad_range(alloc, table),
+    }
+}
+
+/// The key of an address.
+fn address_key(site: Site) -> &'static str {
+    match site {
+        Site::Board => "foreign",
+        _ => "address",
+    }
+}
+
+/// The key of how long a clock may be held.
+fn stretch_key(site: Site) -> &'static str {
+    match site {
+        Site::Board => "foreign_stretch",
+        _ => "stretch",
     }
 }
 
@@ -132,6 +160,7 @@ fn word_key(draft: &Draft<'_>, site: Site) -> &'static str {
 /// The key that counts too much, where that is at one.
 fn count_key(draft: &Draft<'_>, site: Site) -> Option<&'static str> {
     match site {
+        Site::Board => Some("foreign"),
         Site::Target(_) if draft.targets.len() <= 16 => Some("pages"),
         _ => None,
     }
@@ -154,11 +183,11 @@ pub(crate) fn blamed_key<'a>(
 ) -> Result<Option<&'a str>, AllocError> {
     match draft.fault {
         BoardFault::BadKey => bad_key(alloc, site.kind(), table),
-        BoardFault::BadAddress | BoardFault::SameAddress => Ok(Some("address")),
+        BoardFault::BadAddress | BoardFault::SameAddress => Ok(Some(address_key(site))),
         BoardFault::SameName => Ok(name_key(site)),
         BoardFault::TooMany => Ok(count_key(draft, site)),
         BoardFault::BadExponent => Ok(Some("exponent")),
-        BoardFault::BadStretch => Ok(Some("stretch")),
+        BoardFault::BadStretch => Ok(Some(stretch_key(site))),
         BoardFault::BadStart => bad_start(alloc, table),
         BoardFault::BadRange => range_key(alloc, site, table),
         BoardFault::UnknownCommand => Ok(Some(word_key(draft, site))),

@@ -28,6 +28,14 @@ const NO_PAGE: &str =
     "neither `start_pages` nor an entry {form = \"writebyte\", command = \"PAGE\"} has its page, \
      or 255 for all pages";
 
+const LOWER: &str =
+    "the lower address wins: an address that is under one of the board's targets', or under 0x0C, \
+     the alert response's";
+
+const NO_ONE_WINS: &str = "`foreign` says to which addresses other controllers send";
+
+const NONE_WINS: &str = "`contentions` says how often others may win in a run, and is 0";
+
 const SAFE: &str =
     "set the highest voltage that is safe, in microvolts, or widen the entry's `values` up to it";
 
@@ -39,6 +47,8 @@ pub(crate) fn site_of(doubt: &Doubt) -> (Site, &'static str) {
         Doubt::Circle(rails) => (Site::Rail(rails.first().copied().unwrap_or(0)), "needs"),
         Doubt::IdleRail { rail, .. } => (Site::Rail(*rail), "name"),
         Doubt::LooseLimit { rail, .. } => (Site::Rail(*rail), "limit_uv"),
+        Doubt::NoForeign { .. } => (Site::Board, "contentions"),
+        Doubt::NeverWins { .. } | Doubt::NoContentions => (Site::Board, "foreign"),
     }
 }
 
@@ -136,6 +146,27 @@ fn of_limit(board: &Board, rail: usize, greatest: u16) -> Advice<'_> {
     advice(message, SAFE)
 }
 
+fn of_address(address: u8) -> Advice<'static> {
+    let message = Sentence::one(
+        "another controller's frame to 0x{} never wins over one of the program's",
+        Word::Hex(u16::from(address), 2),
+    );
+    advice(message, LOWER)
+}
+
+fn of_contentions(contentions: u16) -> Advice<'static> {
+    let message = Sentence::one(
+        "other controllers may win {} times, and the board has no `foreign`",
+        Word::Number(u64::from(contentions)),
+    );
+    advice(message, NO_ONE_WINS)
+}
+
+fn of_no_contentions() -> Advice<'static> {
+    let message = Sentence::plain("other controllers share the bus, and none of them may win");
+    advice(message, NONE_WINS)
+}
+
 /// What is said of a doubt about a board.
 pub(crate) fn remark_of(alloc: Global, board: &Board, doubt: &Doubt) -> Result<Remark, AllocError> {
     match doubt {
@@ -148,5 +179,8 @@ pub(crate) fn remark_of(alloc: Global, board: &Board, doubt: &Doubt) -> Result<R
         Doubt::Circle(circle) => of_circle(alloc, board, circle),
         Doubt::IdleRail { rail, lacks } => of_idle(board, *rail, *lacks).told(alloc),
         Doubt::LooseLimit { rail, greatest } => of_limit(board, *rail, *greatest).told(alloc),
+        Doubt::NeverWins { address } => of_address(*address).told(alloc),
+        Doubt::NoForeign { contentions } => of_contentions(*contentions).told(alloc),
+        Doubt::NoContentions => of_no_contentions().told(alloc),
     }
 }

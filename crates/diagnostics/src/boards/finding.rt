@@ -3,6 +3,7 @@
 use crate::boards::blame::blamed_key;
 use crate::boards::blamed::Blamed;
 use crate::boards::draft::{Draft, Site};
+use crate::boards::foreign::foreign_remark;
 use crate::boards::keys::{bad_key, bad_value, key_help, missing_key};
 use crate::boards::locate::site_of;
 use crate::boards::scan::number_of;
@@ -100,6 +101,7 @@ fn key_remark(
 ) -> Result<Remark, AllocError> {
     match blamed.draft.fault {
         BoardFault::BadKey => bad_key(alloc, blamed, key),
+        _ if key == "foreign" => foreign_remark(alloc, blamed),
         BoardFault::SameName => same_name(alloc, blamed),
         BoardFault::BadAddress => bad_address(alloc, blamed, value),
         BoardFault::SameAddress => same_address(alloc, blamed, value),

@@ -17,9 +17,27 @@ pub(crate) enum Kind {
 /// The name of a key, and what stands there.
 type Key = (&'static str, &'static str);
 
-const BOARD: [Key; 2] = [
+const BOARD: [Key; 6] = [
     ("target", "a list of tables, each below a line [[target]]"),
     ("rail", "a list of tables, each below a line [[rail]]"),
+    (
+        "foreign",
+        "the addresses to which other controllers send, at most 32, from 0x08 to 0x77 without 0x0C \
+         (alert response) and those of the board's targets",
+    ),
+    (
+        "foreign_bytes",
+        "the most data bytes of another controller's frame, from 0 to 255",
+    ),
+    (
+        "foreign_stretch",
+        "for how many ticks of 5 us a slot of another controller's frame may be held, from 0 to \
+         4999",
+    ),
+    (
+        "contentions",
+        "how often another controller may win the bus in a run, from 0 to 1000",
+    ),
 ];
 
 const TARGET: [Key; 9] = [
@@ -97,16 +115,33 @@ fn sample(alloc: Global) -> Result<Table, AllocError> {
     }
 }
 
-/// An empty table for a table, and a number for anything else.
+/// What may stand at the keys of a whole board file, and in its lists.
+#[derive(Clone, Copy, PartialEq, Eq)]
+enum Sort {
+    Table,
+    Integer,
+    Other,
+}
+
+fn sort_of(item: &Value) -> Sort {
+    match item {
+        Value::Table(_) => Sort::Table,
+        Value::Integer(_) => Sort::Integer,
+        _ => Sort::Other,
+    }
+}
+
+/// An empty table for a table, a number for a number, and for anything else what can't be there.
 fn hollow_item(alloc: Global, item: &Value) -> Value {
     match item {
         Value::Table(_) => Value::Table(Table::new(alloc)),
-        _ => Value::Integer(0),
+        Value::Integer(number) => Value::Integer(*number),
+        _ => Value::Boolean(false),
     }
 }
 
 /// A small value that a board file takes at a key of its own just where it takes this one: of a
-/// list, only whether it has tables, and how many up to one that is too many.
+/// list, only the sorts of what is in it, and how many up to one that is too many.
 fn hollow_value(alloc: Global, value: &Value) -> Result<Value, AllocError> {
     let Value::Array(items) = value else {
         return Ok(hollow_item(alloc, value));
@@ -115,8 +150,10 @@ fn hollow_value(alloc: Global, value: &Value) -> Result<Value, AllocError> {
     for item in items.iter().take(MOST_LISTED) {
         copies.push(hollow_item(alloc, item))?;
     }
-    if items.iter().any(|item| !item.is_table()) {
-        copies.push(Value::Integer(0))?;
+    let sort = items.first().map(sort_of);
+    let mut rest = items.iter().skip(MOST_LISTED);
+    if let Some(odd) = rest.find(|item| Some(sort_of(item)) != sort) {
+        copies.push(hollow_item(alloc, odd))?;
     }
     Ok(Value::Array(copies))
 }
@@ -137,7 +174,19 @@ fn with_target(alloc: Global, target: &Table) -> Result<Table, AllocError> {
     Ok(tree)
 }
 
-/// The same with one entry.
+/// The fault of a board file with one target and this value at a key of its own.
+pub(crate) fn fault_at(
+    alloc: Global,
+    key: &str,
+    value: &Value,
+) -> Result<Option<BoardFault>, AllocError> {
+    let target = sample(alloc)?;
+    let mut tree = with_target(alloc, &target)?;
+    put(alloc, &mut tree, key, value.clone()?)?;
+    fault_of(alloc, tree)
+}
+
+/// A board file with one target, and that with one entry.
 fn with_entry(alloc: Global, entry: &Table) -> Result<Table, AllocError> {
     let mut target = sample(alloc)?;
     put(alloc, &mut target, "allow", list_of_one(alloc, entry)?)?;

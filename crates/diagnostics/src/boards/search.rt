@@ -1,6 +1,6 @@
 //! The first of a list that has a fault.
 
-use crate::boards::document::{copies_of, fault_of_lists, with};
+use crate::boards::document::{copies_of, fault_of, fault_of_lists, put, with};
 use board::BoardFault;
 use std::alloc::{AllocError, Global};
 use toml::{Table, Value};
@@ -22,6 +22,18 @@ pub(crate) enum Frame<'a> {
         rails: &'a [Value],
         index: usize,
     },
+    /// The addresses of other controllers, beside these targets.
+    Foreign(&'a [Value]),
+}
+
+/// A board file with these targets and these addresses of other controllers.
+fn with_foreign(alloc: Global, targets: &[Value], list: &[Value]) -> Result<Table, AllocError> {
+    let mut tree = Table::new(alloc);
+    let targets = Value::Array(copies_of(alloc, targets)?);
+    put(alloc, &mut tree, "target", targets)?;
+    let list = Value::Array(copies_of(alloc, list)?);
+    put(alloc, &mut tree, "foreign", list)?;
+    Ok(tree)
 }
 
 fn joined(alloc: Global, first: &[Value], second: &[Value]) -> Result<Vec<Value>, AllocError> {
@@ -80,6 +92,7 @@ impl Frame<'_> {
                 let rails = rails_with_needs(alloc, rails, index, list)?;
                 fault_of_lists(alloc, copies_of(alloc, targets)?, rails)
             }
+            Frame::Foreign(targets) => fault_of(alloc, with_foreign(alloc, targets, list)?),
         }
     }
 }

@@ -1,7 +1,7 @@
 //! The judge of a run.
 
 ghost use Rattle.std.specs.Prelude.{◌≡◌, ◌∷◌, ◌<◌, ◌||◌, ◌&&◌, ◌==◌, [], ℕ, IsTrue, List, Some};
-ghost use Rattle.std.specs.Prelude.{None, length, slice_get};
+ghost use Rattle.std.specs.Prelude.{None, length, option_map, slice_get};
 ghost use Rattle.board.specs.Boards.{Board as AnyBoard};
 ghost use Rattle.seq_program.specs.Requests.{request_in};
 ghost use Rattle.facts.specs.domain.Sets.{rails_in};
@@ -14,7 +14,7 @@ use board::{Board, board_is_valid};
 use facts::{GoodSet, Row, Rule, duty};
 use seq_program::{Instr, Program, message_of, program_is_valid};
 use simulator::{Machine, steps_are_seen};
-use smbus::{Answer, Message};
+use smbus::{Answer, Message, carried};
 use std::alloc::{AllocError, Global};
 use targets::BusState;
 
@@ -71,6 +71,26 @@ fn good_after(
         after = with_good(after, index, is_good);
     }
     after
+}
+
+/// The same after a step, of which the wire carries this message or none.
+fn good_with(
+    board: &Board,
+    state: &BusState,
+    message: Option<&Message>,
+    answer: &Answer,
+    good: GoodSet,
+) -> GoodSet
+    ensures tells { (d : ℕ) → d < length board.now.rails
+        → TellsAfter board.now state.now (option_map (λ m. m.now) message.entry) answer.now d
+        (rails_in good d) (rails_in result d) }
+    ensures rails { ((d : ℕ) → IsTrue (rails_in good d) → d < length board.now.rails)
+        → (d : ℕ) → IsTrue (rails_in result d) → d < length board.now.rails }
+{
+    match message {
+        Some(message) => good_after(board, state, message, answer, good),
+        None => good,
+    }
 }
 
 /// The instruction at the place of a machine.
@@ -167,8 +187,9 @@ impl Judge {
         self.failing(alloc, board, machine, instr)
     }
 
-    /// Takes notice of the step that a machine makes under an answer. The machine is one of the
-    /// board and the program. Where a growth is refused, Memory is answered, and nothing changes.
+    /// Takes notice of the step that a machine makes under an answer: not of a message that is lost
+    /// to another controller. The machine is one of the board and the program. Where a growth is
+    /// refused, Memory is answered, and nothing changes.
     pub fn after(
         &mut self,
         alloc: Global,
@@ -193,9 +214,9 @@ impl Judge {
         if is_silent(instr) {
             return Ok(());
         }
-        if let Some(message) = message_of(alloc, board, instr, &machine.regs)? {
-            self.good = good_after(board, &machine.bus, &message, answer, self.good);
-        }
+        let message = message_of(alloc, board, instr, &machine.regs)?;
+        let sent = carried(message.as_ref(), answer);
+        self.good = good_with(board, &machine.bus, sent, answer, self.good);
         Ok(())
     }
 }
