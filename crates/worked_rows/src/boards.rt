@@ -55,6 +55,16 @@ pub(crate) fn two_board(alloc: Global) -> Result<Board, BoardFault> {
     read_board(alloc, TWO)
 }
 
+/// What other controllers may do on a bus.
+const OTHERS: &str =
+    "foreign = [0x10, 0x50, 0x0A]\nforeign_bytes = 1\nforeign_stretch = 3\ncontentions = 2\n";
+
+/// TWO with other controllers on the bus.
+pub(crate) fn shared_board(alloc: Global) -> Result<Board, BoardFault> {
+    let text = format!(in alloc; "{}{}", OTHERS, TWO)?;
+    read_board(alloc, &text)
+}
+
 /// TWO where both targets alert, and b has the lower address.
 pub(crate) fn alert_board(alloc: Global) -> Result<Board, BoardFault> {
     let text = TWO.replace(alloc, "0x41", "0x21")?;

@@ -2,6 +2,8 @@
 //! `bench/calls` runs these rows with the first allocation refused, then with the second, and so
 //! on.
 
+mod lost;
+
 ghost use Rattle.std.specs.Prelude.{length, All, IfOk};
 ghost use Rattle.seq_program.specs.Valid.{IsOnBoard};
 
@@ -175,6 +177,11 @@ fn ticks_of(trace: &Trace) -> u64 {
     ticks
 }
 
+/// How many steps a trace has, and how many ticks.
+fn counts_of(trace: &Trace) -> (usize, u64) {
+    (trace.entries.len(), ticks_of(trace))
+}
+
 fn alert_board_again(alloc: Global) -> Result<Board, BoardFault> {
     match alert_board(alloc) {
         Err(BoardFault::Memory) => alert_board(alloc),
@@ -211,7 +218,7 @@ fn counted_again(alloc: Global, board: &Board, program: &Program) -> Option<(usi
 {
     let answers = answers_again(alloc).ok()?;
     let trace = trace_again(alloc, board, program, &answers).ok()?;
-    Some((trace.entries.len(), ticks_of(&trace)))
+    Some(counts_of(&trace))
 }
 
 fn asking_again(alloc: Global, board: &Board) -> Option<(usize, u64)> {

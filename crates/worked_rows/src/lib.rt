@@ -22,6 +22,8 @@ mod fitting_rows;
 #[cfg(test)]
 mod growths_rows;
 #[cfg(test)]
+mod lost_rows;
+#[cfg(test)]
 mod outcome_rows;
 #[cfg(test)]
 mod pmbus_table_rows;

@@ -1,13 +1,13 @@
 use crate::boards::range_board;
 use crate::expected::same;
 use crate::runs::{NOTHING, answer_of};
-use crate::targets_rows::{Asked, DONE, Said, message_of, said_answer, state_of};
+use crate::targets_rows::{Asked, DONE, Said, left_by, message_of, said_answer, state_of};
 use board::{Board, BoardFault};
 use smbus::{Form, Message};
 use std::alloc::Global;
 use std::process::Abort;
 use std::test::*;
-use targets::{BusState, Outcome, after, cut_of, ending_of, fits};
+use targets::{BusState, Outcome, cut_of, ending_of, fits};
 
 fn ended(
     alloc: Global,
@@ -23,7 +23,7 @@ fn ended(
     answer.value = value;
     answer.bytes.extend_from_slice(bytes)?;
     let is_fitting = fits(board, &state, Some(&message), &answer);
-    let (_, outcome) = after(alloc, board, &state, Some(&message), &answer)?;
+    let (_, outcome) = left_by(alloc, board, &state, &message, &answer)?;
     Ok((is_fitting, outcome))
 }
 
@@ -184,7 +184,7 @@ fn unsaid(
 ) -> Result<(bool, Outcome), BoardFault> {
     let answer = answer_of(alloc, NOTHING);
     let is_fitting = fits(board, state, Some(message), &answer);
-    let (_, outcome) = after(alloc, board, state, Some(message), &answer)?;
+    let (_, outcome) = left_by(alloc, board, state, message, &answer)?;
     Ok((is_fitting, outcome))
 }
 

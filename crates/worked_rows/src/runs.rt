@@ -24,6 +24,7 @@ pub(crate) fn answer_of(alloc: Global, said: Said) -> Answer {
         bytes: Vec::new(alloc),
         took: false,
         alerts,
+        contender: None,
     }
 }
 

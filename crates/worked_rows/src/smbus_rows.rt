@@ -43,6 +43,7 @@ fn answer_of(
         bytes,
         took: false,
         alerts: 0,
+        contender: None,
     })
 }
 

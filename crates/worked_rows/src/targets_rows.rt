@@ -18,6 +18,7 @@ pub(crate) fn state_of(
         page: pages.to_vec(alloc)?,
         protect: protects.to_vec(alloc)?,
         alerting,
+        lost: 0,
     })
 }
 
@@ -36,6 +37,20 @@ pub(crate) fn message_of(alloc: Global, asked: Asked) -> Result<Message, BoardFa
         code,
         out: out.to_vec(alloc)?,
     })
+}
+
+/// What a message and its answer leave, of a state that has room for one more lost arbitration.
+pub(crate) fn left_by(
+    alloc: Global,
+    board: &Board,
+    state: &BusState,
+    message: &Message,
+    answer: &Answer,
+) -> Result<(BusState, Outcome), BoardFault> {
+    if state.lost == 65535 {
+        return Err(BoardFault::Memory);
+    }
+    Ok(after(alloc, board, state, Some(message), answer)?)
 }
 
 fn may_start(
@@ -89,7 +104,7 @@ fn respond(
     let message = message_of(alloc, (0, Form::Alert, 0, &[]))?;
     let answer = answer_of(alloc, (value, refuse, 0));
     let is_fitting = fits(board, &state, Some(&message), &answer);
-    let (new, outcome) = after(alloc, board, &state, Some(&message), &answer)?;
+    let (new, outcome) = left_by(alloc, board, &state, &message, &answer)?;
     Ok((is_fitting, new.alerting, outcome))
 }
 
@@ -186,7 +201,7 @@ fn written(alloc: Global, board: &Board, write: Write) -> Result<Written, BoardF
     message.out.push(value)?;
     let answer = said_answer(alloc, said)?;
     let is_fitting = fits(board, &state, Some(&message), &answer);
-    let (new, outcome) = after(alloc, board, &state, Some(&message), &answer)?;
+    let (new, outcome) = left_by(alloc, board, &state, &message, &answer)?;
     let page = new.page.first().copied();
     Ok((is_fitting, page, new.protect.first().copied(), outcome))
 }
