@@ -12,4 +12,6 @@ pub mod Shapes
 pub mod ShapedEdges
 pub mod ShapedIfs
 pub mod EdgeShapes
+pub mod LostEdges
+pub mod ElseRows
 pub mod Said

@@ -4,3 +4,4 @@ pub mod Bounds
 pub mod Places
 pub mod Forms
 pub mod Asking
+pub mod EdgeLists

@@ -1,4 +1,5 @@
 -- A step from a row whose duties are met is safe, and an edge leads on.
+pub mod OwnLeads
 pub mod RowChanges
 pub mod Seen
 pub mod Loads

@@ -1,5 +1,5 @@
 -- One step from a row whose duties are met: what is said of it, and of whole runs.
-use Rattle.std.specs.Prelude.{◌≡◌, ℕ, ◌≤◌, ◌⊎◌, IsTrue, List, [], ◌∷◌, slice_get, Some, IfSome}
+use Rattle.std.specs.Prelude.{◌≡◌, ℕ, ◌≤◌, ◌⊎◌, IsTrue, List, ◌∷◌, slice_get, Some, IfSome}
 use Rattle.smbus.specs.Answered.{Answered}
 use Rattle.board.specs.Boards.{Board}
 use Rattle.board.specs.Valid.{IsBoard}
@@ -14,25 +14,24 @@ use Rattle.simulator.specs.Safe.{IsSafe}
 use Rattle.simulator.specs.StepLaws.{IsReady}
 use Rattle.simulator.specs.Steps.{IsStepOf}
 use Rattle.facts.specs.declared.duties.rule.Rule.{Rule}
-use Rattle.facts.specs.domain.Rows.{Row, Admits, IsRow, rank}
+use Rattle.facts.specs.domain.Rows.{Row, Admits, IsRow, left_of, rank}
 use Rattle.facts.specs.duties.Duties.{Meets}
-use Rattle.facts.specs.transfer.Edges.{Edge, edges}
-use Rattle.facts.specs.transfer.Ticks.{worst_ticks}
+use Rattle.facts.specs.transfer.Edges.{Edge}
+use Rattle.facts.specs.transfer.Ticks.{own_ticks}
+use Rattle.facts.specs.transfer.TimedEdges.{HasTimed, timed_edges}
 
--- the edge is among them
-abbrev pub HasEdge : List Edge → Edge → Type 0
-HasEdge [] x = ⊥
-HasEdge (e ∷ es) x = (x ≡ e) ⊎ HasEdge es x
-
--- a machine after a step: an edge leads to its place, with a row that admits it and no more ticks
--- left
+-- a machine after a step of so many ticks: an edge with as many leads to its place, with a row that
+-- admits it and no more ticks left
 pub record Leads (b : Board) (place : ℕ) (i : Instr) (row : Row) (m : Machine) (next : Machine)
-    (history : List Entry) : Type 0 where
+    (history : List Entry) (ticks : ℕ) : Type 0 where
   pub by : Edge
-  pub there : HasEdge (edges b place i row) by
+  pub most : ℕ
+  pub there : HasTimed (timed_edges b place i row) by most
+  pub within : ticks ≤ most
   pub to : next.place ≡ by.to
   pub admits : Admits b by.row next history
-  pub falls : rank by.row next.counters ≤ rank row m.counters
+  pub falls : rank by.row next.counters (left_of b next.bus)
+      ≤ rank row m.counters (left_of b m.bus)
 
 -- a machine before a step: its row, whose duties are met
 pub record Stands (b : Board) (p : List Instr) (i : Instr) (row : Row) (m : Machine)
@@ -46,13 +45,12 @@ pub record Stands (b : Board) (p : List Instr) (i : Instr) (row : Row) (m : Mach
   pub running : m.ended ≡ Running
   pub duties : (rule : Rule) → Meets b row i rule
 
--- a safe entry within the worst ticks, and an end or an edge
+-- a safe entry, and an end within its ticks or an edge within its own
 pub record IsSoundStep (b : Board) (i : Instr) (row : Row) (m : Machine) (history : List Entry)
     (e : Entry) (next : Machine) : Type 0 where
   pub safe : IsSafe b history e
-  pub ticks : e.ticks ≤ worst_ticks b i
-  pub goes : (((next.ended ≡ Running → ⊥) × IsTrue (is_end i))
-      ⊎ ((next.ended ≡ Running) × Leads b m.place i row m next (e ∷ history)))
+  pub goes : (((next.ended ≡ Running → ⊥) × IsTrue (is_end i) × (e.ticks ≤ own_ticks b i))
+      ⊎ ((next.ended ≡ Running) × Leads b m.place i row m next (e ∷ history) e.ticks))
 
 abbrev pub StepsAreSound : Type 0
 StepsAreSound =

@@ -25,8 +25,10 @@ widest_row b =
       regs = replicate 8 (one 0);
       sources = replicate 8 source.None;
       counters = replicate 4 (one 0);
+      lost = record { lo = 0; hi = b.contentions };
       base = 0;
       coeffs = replicate 4 0;
+      lost_coeff = 0;
     }
 
 -- a machine stands at a message after a step, at a row whose duties are met

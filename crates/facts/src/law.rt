@@ -1,5 +1,5 @@
 ghost use Rattle.facts.specs.FactLaws.{CoveringRowsAdmit, DutiesAreKept, EdgesFollow};
-ghost use Rattle.facts.specs.FactLaws.{EdgesStayShaped};
+ghost use Rattle.facts.specs.FactLaws.{EdgesStayShaped, ElseEdgesCover, CoveringGoesOn};
 ghost use Rattle.facts.specs.Steps.{MetDutiesSend, StepsAreSound};
 ghost use Rattle.facts.specs.Witnesses.{SomeMachineStands, SomeRowIsWider};
 
@@ -29,10 +29,13 @@ pub fn steps_are_sound()
 /// to the same place.
 pub fn covered_rows_follow()
     ensures admits { CoveringRowsAdmit }
+    ensures goes_on { CoveringGoesOn }
     ensures duties { DutiesAreKept }
     ensures edges { EdgesFollow }
     // The edges of a row of the board have such rows.
     ensures shapes { EdgesStayShaped }
+    // The edge to an `else` label covers the row before it.
+    ensures otherwise { ElseEdgesCover }
     // A row covers another, and meets the duties of a message.
     ensures some { SomeRowIsWider }
 {

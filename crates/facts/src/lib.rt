@@ -21,4 +21,4 @@ pub use duties::judging::duty;
 pub use duties::rule::Rule;
 pub use law::{covered_rows_follow, steps_are_sound};
 pub use transfer::edging::edges;
-pub use transfer::ticks::worst_ticks;
+pub use transfer::ticks::{foreign_ticks, own_ticks};

@@ -60,9 +60,12 @@ shaped b row x sized iff = (to, from)
             (counters r no_span (omega (arith, sized.2, lt))).0,
             ends r no_span (omega (arith, sized.2, lt)),
           );
-          base = h.8;
+          lost = h.8;
+          lost_range = h.9;
+          base = h.10;
           coeff_count = sized.3;
-          coeffs = λ r lt. h.9 r 0 (omega (arith, sized.3, lt));
+          coeffs = λ r lt. h.11 r 0 (omega (arith, sized.3, lt));
+          lost_coeff = h.12;
         }
 
     from : IsRow b (row_view row) → IsTrue x
@@ -80,6 +83,9 @@ shaped b row x sized iff = (to, from)
               (λ r lt. let k = h.counters r lt in (k.0, omega (arith, k.1))),
           all_by_index (λ (s : Span). s.hi ≤ 1000) row.counters no_span 4 h.counter_count
               (λ r lt. (h.counters r lt).1),
+          h.lost,
+          h.lost_range,
           h.base,
           all_by_index (λ k. k ≤ most_ticks) row.coeffs 0 4 h.coeff_count h.coeffs,
+          h.lost_coeff,
         )

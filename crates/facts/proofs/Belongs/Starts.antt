@@ -62,6 +62,8 @@ starts b row x sized iff = (to, from)
           regs = subst (λ n. InSpans row.regs (replicate n 0)) sized.0 h.2;
           counters = subst (λ n. InSpans row.counters (replicate n 0)) sized.2 h.4;
           sources = h.3;
+          lost = h.5;
+          lost_coeff = h.6;
         }
 
     from : HoldsStarts b (row_view row) → IsTrue x
@@ -72,4 +74,6 @@ starts b row x sized iff = (to, from)
           subst (λ n. InSpans row.regs (replicate n 0)) (sym sized.0) h.regs,
           h.sources,
           subst (λ n. InSpans row.counters (replicate n 0)) (sym sized.2) h.counters,
+          h.lost,
+          h.lost_coeff,
         )

@@ -74,6 +74,7 @@ fit b row is row_is =
     record {
       base = row_is.base;
       coeffs = row_is.coeffs;
+      lost_coeff = row_is.lost_coeff;
       named = λ r lt. named_in b row (source_at row.sources r) row_is (row_is.sources r lt);
       few = λ r lt. of_few b (source_at row.sources r) is (row_is.sources r lt);
     }

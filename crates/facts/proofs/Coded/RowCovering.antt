@@ -64,6 +64,7 @@ rows_cover b s u c = record {
   regs = spans_from s.regs u.regs c.3;
   sources = sources_at s.sources u.sources c.4;
   counters = spans_from s.counters u.counters c.5;
+  lost = c.6;
 }
 
 pub row_covers : (b : Board) (s u : CodeRow) (x : Bool) → length s.sources ≡ length u.sources
@@ -86,4 +87,5 @@ row_covers b s u x e p q r t iff = (to, from)
           spans_to s.regs u.regs c.regs,
           sources_all s.sources u.sources e c.sources,
           spans_to s.counters u.counters c.counters,
+          c.lost,
         )

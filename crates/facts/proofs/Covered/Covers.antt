@@ -44,6 +44,7 @@ covers_self b row = record {
   sources = λ r. inr refl;
   counters =
       SpansCover-refl row.counters;
+  lost = (omega arith, omega arith);
 }
 
 pub covers_trans : (b : Board) (s u v : Row) → RowCovers b s u → RowCovers b u v → RowCovers b s v
@@ -55,6 +56,7 @@ covers_trans b s u v c k = record {
   sources = λ r. SourceCovers-trans (source_at s.sources r) (source_at u.sources r)
       (source_at v.sources r) (c.sources r) (k.sources r);
   counters = SpansCover-trans s.counters u.counters v.counters c.counters k.counters;
+  lost = (omega (arith, c.lost.0, k.lost.0), omega (arith, c.lost.1, k.lost.1));
 }
 
 pub SpansCover-set : (ss us : List Span) (i : ℕ) (x y : Span) → SpansCover ss us → SpanCovers x y

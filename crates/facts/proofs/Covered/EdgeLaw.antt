@@ -6,18 +6,20 @@ use Rattle.board.specs.Boards.{Board}
 use Rattle.board.specs.Valid.{IsBoard}
 use Rattle.seq_program.specs.declared.instr.Instr.{Instr}
 use Rattle.seq_program.specs.declared.instr.Instr.TheVariants as instr
-use Rattle.seq_program.specs.Valid.{IsInstr}
+use Rattle.seq_program.specs.Valid.{IsInstr, IsInstrOn}
 use Rattle.facts.specs.declared.domain.source.Source.TheVariants as source
 use Rattle.facts.specs.declared.domain.span.Span.{Span}
 use Rattle.facts.specs.domain.Rows.{Row, span_at, SpanCovers, SpansCover, RowCovers}
 use Rattle.seq_program.specs.Requests.{Request, request_in}
 use Rattle.facts.specs.duties.Duties.{one}
 use Rattle.facts.specs.transfer.Edges.{edge, edge_if, edges_of, other_edges, effect_of, done_row}
+use Rattle.facts.specs.transfer.Edges.{edges}
 use Rattle.facts.specs.transfer.Edges.{else_row}
 use Rattle.facts.specs.transfer.Edges.{with_reg, a_byte, plus, above, up_to, reg_in, counter_in}
 use Rattle.facts.specs.transfer.Edges.{with_counter}
 use Rattle.facts.specs.transfer.Edges.{taken_off}
-use Rattle.facts.specs.FactLaws.{EdgesCover, EdgesFollow, Wider}
+use Rattle.facts.specs.FactLaws.{Wider}
+use Rattle.facts.proofs.Covered.Follows.{OwnEdgesCover}
 use Rattle.facts.proofs.Covered.Covers.{SpansCover-set, SpansCover-at}
 use Rattle.facts.proofs.Covered.RowMoves.{reg_covers, in_sources}
 use Rattle.facts.proofs.Covered.KeptDuties.{sent_on}
@@ -39,19 +41,20 @@ counters_covers b s u ss us n m ks ls c k = record {
   regs = c.regs;
   sources = c.sources;
   counters = k;
+  lost = c.lost;
 }
 
 one_edge : (b : Board) (to : ℕ) (r r' : Row) → RowCovers b r r'
-    → EdgesCover b (edge to r ∷ []) (edge to r' ∷ [])
+    → OwnEdgesCover b (edge to r ∷ []) (edge to r' ∷ [])
 one_edge b to r r' c = follows_cons b to r r' [] [] c (follows_none b [])
 
 two_edges : (b : Board) (to to' : ℕ) (r r' q q' : Row) → RowCovers b r r' → RowCovers b q q'
-    → EdgesCover b (edge to r ∷ edge to' q ∷ []) (edge to r' ∷ edge to' q' ∷ [])
+    → OwnEdgesCover b (edge to r ∷ edge to' q ∷ []) (edge to r' ∷ edge to' q' ∷ [])
 two_edges b to to' r r' q q' c d =
     follows_cons b to r r' (edge to' q ∷ []) (edge to' q' ∷ []) c (one_edge b to' q q' d)
 
 above_follows : (b : Board) (place : ℕ) (s u : Row) (r v l : ℕ) → Wider b s u
-    → EdgesCover b (other_edges place (instr.Above r v l) s)
+    → OwnEdgesCover b (other_edges place (instr.Above r v l) s)
     (other_edges place (instr.Above r v l) u)
 above_follows b place s u r v l w =
     let x = span_at s.regs r in
@@ -71,7 +74,8 @@ above_follows b place s u r v l w =
     (SpansCover-set s.regs u.regs r _ _ w.covers.regs (c.0, omega (arith, c.1)))))
 
 again_follows : (b : Board) (place : ℕ) (s u : Row) (c l : ℕ) → Wider b s u
-    → EdgesCover b (other_edges place (instr.Again c l) s) (other_edges place (instr.Again c l) u)
+    → OwnEdgesCover b (other_edges place (instr.Again c l) s)
+    (other_edges place (instr.Again c l) u)
 again_follows b place s u c l w =
     let x = span_at s.counters c in
     let y = span_at u.counters c in
@@ -97,7 +101,7 @@ put_covers b s u r x y w lt c =
     (in_sources b u r w.right lt) c (inl refl)
 
 other_follows : (b : Board) (place : ℕ) (i : Instr) (s u : Row) → IsInstr i → Wider b s u
-    → EdgesCover b (other_edges place i s) (other_edges place i u)
+    → OwnEdgesCover b (other_edges place i s) (other_edges place i u)
 other_follows b place (instr.Alert r l) s u fits k =
     two_edges b (place + 1) l (with_reg s r a_byte source.None) (with_reg u r a_byte source.None)
     s u
@@ -139,7 +143,7 @@ of_follows : (b : Board) (place : ℕ) (i : Instr) (s u : Row) (o : Option Reque
     → IsInstr i
     → IfSome o (λ x. x.target < length b.targets) → IfSome o (λ x. FitsRequest x.transaction)
     → Wider b s u
-    → EdgesCover b (edges_of b place i s o) (edges_of b place i u o)
+    → OwnEdgesCover b (edges_of b place i s o) (edges_of b place i u o)
 of_follows b place i s u None board fits at' fits' k = other_follows b place i s u fits k
 of_follows b place i s u (Some x) board fits at' fits' k =
     let e = effect_of x.transaction in
@@ -150,7 +154,9 @@ of_follows b place i s u (Some x) board fits at' fits' k =
     (done_covers b s u t x.transaction e board k at' (fits_effect x.transaction fits'))
     (else_covers b s u t e k at')
 
-pub edges_follow : EdgesFollow
-edges_follow b place i s u board said k =
+pub own_edges_follow : (b : Board) (place : ℕ) (i : Instr) (s u : Row) → IsBoard b
+    → IsInstrOn (length b.targets) i → Wider b s u
+    → OwnEdgesCover b (edges b place i s) (edges b place i u)
+own_edges_follow b place i s u board said k =
     of_follows b place i s u (request_in i) board said.0 (sent_on (length b.targets) i said.1)
     (fits_sent i said.0) k

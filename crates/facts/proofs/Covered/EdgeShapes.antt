@@ -15,16 +15,16 @@ use Rattle.facts.specs.declared.domain.source.Source.TheVariants as source
 use Rattle.facts.specs.declared.domain.span.Span.{Span}
 use Rattle.facts.specs.domain.Rows.{Row, span_at, source_at}
 use Rattle.seq_program.specs.Requests.{Request, request_in}
-use Rattle.facts.specs.duties.Duties.{one, MeetsSent}
-use Rattle.facts.specs.transfer.Edges.{Edge, edge, edge_if, edges_of, other_edges, effect_of}
+use Rattle.facts.specs.duties.Duties.{one, Meets, MeetsSent}
+use Rattle.facts.specs.transfer.Edges.{Edge, edge, edge_if, edges_of, other_edges, effect_of, edges}
 use Rattle.facts.specs.transfer.Edges.{done_row}
 use Rattle.facts.specs.transfer.Edges.{else_row, with_reg, a_byte, plus, above, up_to, one_off}
 use Rattle.facts.specs.transfer.Edges.{reg_in}
 use Rattle.facts.specs.transfer.Edges.{counter_in, with_counter, taken_off, is_possible}
 use Rattle.facts.specs.transfer.Edges.{if_may_jump}
 use Rattle.facts.specs.transfer.Edges.{if_jump_row, if_may_go_on, if_next_row}
-use Rattle.facts.specs.Steps.{HasEdge}
-use Rattle.facts.specs.FactLaws.{IsShaped, EdgesStayShaped}
+use Rattle.facts.proofs.Shared.EdgeLists.{HasEdge}
+use Rattle.facts.specs.FactLaws.{IsShaped}
 use Rattle.facts.proofs.Covered.Follows.{has_either, has_if, has_possible}
 use Rattle.facts.proofs.Covered.MessageEdges.{FitsRequest, fits_sent, fits_effect}
 use Rattle.facts.proofs.Covered.Shapes.{reg_shaped, spans_shaped, counter_shaped}
@@ -133,6 +133,8 @@ of_shaped b place i row (Some s) x board fits fits' k duty h =
     (fits_effect s.transaction fits') known)
     (else_shaped b row s.target s.transaction e k duty known) h
 
-pub edges_stay_shaped : EdgesStayShaped
-edges_stay_shaped b place i row e board fits k duty h =
+pub own_edges_shaped : (b : Board) (place : ℕ) (i : Instr) (row : Row) (e : Edge) → IsBoard b
+    → IsInstr i → IsShaped b row → Meets b row i K1 → HasEdge (edges b place i row) e
+    → IsShaped b e.row
+own_edges_shaped b place i row e board fits k duty h =
     of_shaped b place i row (request_in i) e board fits (fits_sent i fits) k duty h

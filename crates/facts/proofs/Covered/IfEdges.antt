@@ -1,5 +1,6 @@
 -- The edges of `if`: those of a row that covers another cover the other's.
 use Rattle.std.proofs.Common.{◌≡◌, ℕ, ◌<◌, ◌⊎◌, List, length, refl, ap, sym, ◌∙◌, subst, inl, inr}
+use Rattle.std.proofs.Common.{arith}
 use Rattle.std.proofs.Common.{Bool, true, false}
 use Rattle.std.proofs.lemmas.Bool.{and_parts, or_left, cases_eq}
 use Rattle.std.proofs.lemmas.List.{get_or-set_same, get_or-set_other}
@@ -11,7 +12,8 @@ use Rattle.facts.specs.domain.Sets.{Set, empty, keeps}
 use Rattle.facts.specs.domain.Rows.{Row, set_at, source_at, SetCovers, SourceCovers, RowCovers}
 use Rattle.facts.specs.domain.Rows.{IsSource}
 use Rattle.facts.specs.transfer.Edges.{Edge, possible, is_possible, keep, learn_good}
-use Rattle.facts.specs.FactLaws.{EdgesCover, IsShaped, Wider}
+use Rattle.facts.specs.FactLaws.{IsShaped, Wider}
+use Rattle.facts.proofs.Covered.Follows.{OwnEdgesCover}
 use Rattle.facts.proofs.Covered.Covers.{covers_self, covers_trans, SpansCover-refl}
 use Rattle.facts.proofs.Covered.RowMoves.{or_covers, keep_covers}
 use Rattle.facts.proofs.Covered.SetBounds.{has_any_covers}
@@ -42,6 +44,7 @@ keep_under b u (source.Page t) p k there = record {
   regs = SpansCover-refl u.regs;
   sources = λ r. inr refl;
   counters = SpansCover-refl u.counters;
+  lost = (omega arith, omega arith);
 }
 keep_under b u (source.Protect t) p k there = record {
   pages = λ v at' w h. h;
@@ -52,6 +55,7 @@ keep_under b u (source.Protect t) p k there = record {
   regs = SpansCover-refl u.regs;
   sources = λ r. inr refl;
   counters = SpansCover-refl u.counters;
+  lost = (omega arith, omega arith);
 }
 
 learn_under : (b : Board) (u : Row) (g : Source) (shows : Bool)
@@ -67,6 +71,7 @@ learn_under b u (source.Status d) true = record {
   regs = SpansCover-refl u.regs;
   sources = λ r. inr refl;
   counters = SpansCover-refl u.counters;
+  lost = (omega arith, omega arith);
 }
 
 learn_covers : (b : Board) (s u : Row) (g : Source) (shows : Bool) → RowCovers b s u
@@ -82,6 +87,7 @@ learn_covers b s u (source.Status d) true c = record {
   regs = c.regs;
   sources = c.sources;
   counters = c.counters;
+  lost = c.lost;
 }
 
 -- what is known more from a source, where the first row has the same source or none
@@ -130,8 +136,8 @@ is_possible_covers b y x f g there (inr e) c h = ap (is_possible y) e ∙ go g t
         (c.protects t there) h
 
 pub follows_possible : (b : Board) (s u : Row) (r : ℕ) (es fs : List Edge)
-    → IsSource b (source_at u.sources r) → RowCovers b s u → EdgesCover b es fs
-    → EdgesCover b (possible s r es) (possible u r fs)
+    → IsSource b (source_at u.sources r) → RowCovers b s u → OwnEdgesCover b es fs
+    → OwnEdgesCover b (possible s r es) (possible u r fs)
 follows_possible b s u r es fs there c k x h =
     let p = has_possible u r fs x h in
     let y = k x p.0 in (

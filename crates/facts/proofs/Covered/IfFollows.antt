@@ -12,7 +12,8 @@ use Rattle.facts.specs.domain.Rows.{Row, span_at, source_at, SpanCovers, SpansCo
 use Rattle.facts.specs.duties.Duties.{one}
 use Rattle.facts.specs.transfer.Edges.{edge_if, if_may_jump, if_jump_row, if_may_go_on, if_next_row}
 use Rattle.facts.specs.transfer.Edges.{is_single, in_span, all_bits, good_bits, other_edges}
-use Rattle.facts.specs.FactLaws.{EdgesCover, Wider}
+use Rattle.facts.specs.FactLaws.{Wider}
+use Rattle.facts.proofs.Covered.Follows.{OwnEdgesCover}
 use Rattle.facts.proofs.Covered.Covers.{SpansCover-set, SpansCover-at}
 use Rattle.facts.proofs.Covered.IfEdges.{informed, informed_covers, kept_covers, follows_possible}
 use Rattle.facts.proofs.Covered.Follows.{follows_append, follows_if}
@@ -66,6 +67,7 @@ regs_covers b s u ss us c k = record {
   regs = k;
   sources = c.sources;
   counters = c.counters;
+  lost = c.lost;
 }
 
 both_rows : (b : Board) (c : Bool) (x y x' y' : Row) → RowCovers b x x' → RowCovers b y y'
@@ -74,7 +76,7 @@ both_rows b true x y x' y' h k = h
 both_rows b false x y x' y' h k = k
 
 pub if_follows : (b : Board) (p : ℕ) (s u : Row) (r k v l : ℕ) → Wider b s u → r < 8
-    → EdgesCover b (other_edges p (instr.If r k v l) s) (other_edges p (instr.If r k v l) u)
+    → OwnEdgesCover b (other_edges p (instr.If r k v l) s) (other_edges p (instr.If r k v l) u)
 if_follows b p s u r k v l w lt =
     let spans : SpanCovers (span_at s.regs r) (span_at u.regs r) =
     SpansCover-at s.regs u.regs r w.covers.regs in

@@ -50,6 +50,7 @@ page_covers b s u t x y k at' new = record {
   sources = clear_covers (is_page_of t) (is_page_of t) s.sources u.sources refl refl (λ z e. e)
       k.covers.sources;
   counters = k.covers.counters;
+  lost = k.covers.lost;
 }
 
 pub protect_covers : (b : Board) (s u : Row) (t : ℕ) (x y : Set) → Wider b s u
@@ -63,6 +64,7 @@ protect_covers b s u t x y k at' new = record {
   sources = clear_covers (is_protect_of t) (is_protect_of t) s.sources u.sources refl refl
       (λ z e. e) k.covers.sources;
   counters = k.covers.counters;
+  lost = k.covers.lost;
 }
 
 -- what the second row may touch, the first may too
@@ -105,6 +107,7 @@ touched_kept b s u t k at' = record {
       (status_wider (is_touched b s t) (is_touched b u t)
       (λ d. touched_covers b s u t d k.covers at')) k.covers.sources;
   counters = k.covers.counters;
+  lost = k.covers.lost;
 }
   where
     free : (d : ℕ) → is_touched b s t d ≡ false → (is_touched b u t d ≡ true)
@@ -123,6 +126,7 @@ reg_covers b s u r x y f g k ls lu spans sources = record {
   regs = SpansCover-set s.regs u.regs r x y k.regs spans;
   sources = λ q. sources_set s.sources u.sources r f g ls lu sources q (k.sources q);
   counters = k.counters;
+  lost = k.lost;
 }
 
 -- a test that one of the sources knows of
@@ -141,6 +145,7 @@ keep_covers b s u (source.Page t) g p k there there' e =
           k.covers.regs;
       sources = k.covers.sources;
       counters = k.covers.counters;
+      lost = k.covers.lost;
     }
   where
     page_of : (t : ℕ) → t < length b.targets → (v : ℕ) → v < length b.targets
@@ -159,6 +164,7 @@ keep_covers b s u (source.Protect t) g p k there there' e =
           k.covers.regs;
       sources = k.covers.sources;
       counters = k.covers.counters;
+      lost = k.covers.lost;
     }
   where
     protect_of : (t : ℕ) → t < length b.targets → (v : ℕ) → v < length b.targets

@@ -57,9 +57,12 @@ shaped_of b row k = record {
   sources = k.sources;
   counter_count = k.counter_count;
   counters = k.counters;
+  lost = k.lost;
+  lost_range = k.lost_range;
   base = omega arith;
   coeff_count = refl;
   coeffs = λ c lt. zeros c lt;
+  lost_coeff = omega arith;
 }
   where
     zeros : (c : ℕ) → c < 4 → slice_index (replicate 4 0) c ≤ most_ticks

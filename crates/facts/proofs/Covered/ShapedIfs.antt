@@ -39,9 +39,12 @@ keep_shaped b row (source.Page i) p k there left = record {
   sources = k.sources;
   counter_count = k.counter_count;
   counters = k.counters;
+  lost = k.lost;
+  lost_range = k.lost_range;
   base = k.base;
   coeff_count = k.coeff_count;
   coeffs = k.coeffs;
+  lost_coeff = k.lost_coeff;
 }
   where
     kept : Set
@@ -72,9 +75,12 @@ keep_shaped b row (source.Protect i) p k there left = record {
   sources = k.sources;
   counter_count = k.counter_count;
   counters = k.counters;
+  lost = k.lost;
+  lost_range = k.lost_range;
   base = k.base;
   coeff_count = k.coeff_count;
   coeffs = k.coeffs;
+  lost_coeff = k.lost_coeff;
 }
   where
     kept : Set

@@ -98,9 +98,12 @@ page_shaped b row i t s k at' new = record {
   sources = cleared b (is_page_of i) row.sources refl k.sources;
   counter_count = k.counter_count;
   counters = k.counters;
+  lost = k.lost;
+  lost_range = k.lost_range;
   base = k.base;
   coeff_count = k.coeff_count;
   coeffs = k.coeffs;
+  lost_coeff = k.lost_coeff;
 }
 
 pub protect_shaped : (b : Board) (row : Row) (t : ℕ) (s : Set) → IsShaped b row
@@ -120,9 +123,12 @@ protect_shaped b row t s k at' new = record {
       cleared b (is_protect_of t) row.sources refl k.sources;
   counter_count = k.counter_count;
   counters = k.counters;
+  lost = k.lost;
+  lost_range = k.lost_range;
   base = k.base;
   coeff_count = k.coeff_count;
   coeffs = k.coeffs;
+  lost_coeff = k.lost_coeff;
 }
 
 pub touched_shaped : (b : Board) (row : Row) (t : ℕ) → IsShaped b row
@@ -143,9 +149,12 @@ touched_shaped b row t k = record {
       cleared b (is_status_of (is_touched b row t)) row.sources refl k.sources;
   counter_count = k.counter_count;
   counters = k.counters;
+  lost = k.lost;
+  lost_range = k.lost_range;
   base = k.base;
   coeff_count = k.coeff_count;
   coeffs = k.coeffs;
+  lost_coeff = k.lost_coeff;
 }
 
 -- registers of a row: their spans alone
@@ -167,9 +176,12 @@ spans_shaped b row r x k lt new = record {
   sources = k.sources;
   counter_count = k.counter_count;
   counters = k.counters;
+  lost = k.lost;
+  lost_range = k.lost_range;
   base = k.base;
   coeff_count = k.coeff_count;
   coeffs = k.coeffs;
+  lost_coeff = k.lost_coeff;
 }
   where
     both : (q : ℕ) → q < 8 → IsRegSpan (span_at (slice_set row.regs r x) q)
@@ -195,9 +207,12 @@ reg_shaped b row r x f k lt new origin =
           (k.sources q lq) (let L : ℕ → Type 0 = λ n. r < n in subst L (sym k.source_count) lt);
       counter_count = h.counter_count;
       counters = h.counters;
+      lost = h.lost;
+      lost_range = h.lost_range;
       base = h.base;
       coeff_count = h.coeff_count;
       coeffs = h.coeffs;
+      lost_coeff = h.lost_coeff;
     }
 
 abbrev pub IsCounterSpan : Span → Type 0
@@ -224,9 +239,12 @@ counter_shaped b row c x n ks k lt new = record {
   counter_count = length_set row.counters c x ∙ k.counter_count;
   counters = λ q lq. set_keeps row.counters c q x no_span IsCounterSpan new (k.counters q lq)
       (let L : ℕ → Type 0 = λ m. c < m in subst L (sym k.counter_count) lt);
+  lost = k.lost;
+  lost_range = k.lost_range;
   base = k.base;
   coeff_count = k.coeff_count;
   coeffs = k.coeffs;
+  lost_coeff = k.lost_coeff;
 }
 
 pub good_shaped : (b : Board) (row : Row) (s : Source) (shows : Bool) → IsShaped b row
@@ -248,9 +266,12 @@ good_shaped b row (source.Status d) true k there = record {
   sources = k.sources;
   counter_count = k.counter_count;
   counters = k.counters;
+  lost = k.lost;
+  lost_range = k.lost_range;
   base = k.base;
   coeff_count = k.coeff_count;
   coeffs = k.coeffs;
+  lost_coeff = k.lost_coeff;
 }
   where
     go : (x : ℕ) → (row.good x ≡ true) ⊎ ((x == d) ≡ true) → x < length b.rails

@@ -89,6 +89,7 @@ pub record Sending (b : Board) (row : Row) (h : List Entry) (m next : Machine) (
   pub duty : (rule : Rule) → MeetsAt b row i r rule
   pub fits : Fits b m.bus (asked t m.regs r) a
   pub after : IsAfter b m.bus (Some (asked t m.regs r)) a next.bus
+  pub lost : next.bus.lost ≡ m.bus.lost
   pub carries : CarriesMessage m.bus (asked t m.regs r) a e
   pub does : StepDoes b m.bus (Some (asked t m.regs r)) a e
   pub regs : next.regs ≡ regs_after r m.regs (ending t m.regs r a)

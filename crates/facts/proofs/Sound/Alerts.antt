@@ -25,7 +25,7 @@ use Rattle.facts.specs.domain.Sets.{empty}
 use Rattle.facts.specs.domain.Rows.{Row, Admits, IsRow}
 use Rattle.facts.specs.transfer.Edges.{edge, with_reg}
 use Rattle.facts.specs.transfer.Ticks.{frame_ticks}
-use Rattle.facts.specs.Steps.{Leads}
+use Rattle.facts.proofs.Sound.OwnLeads.{LeadsOwn}
 use Rattle.facts.proofs.Shared.Places.{some_same}
 use Rattle.facts.proofs.Sound.RowChanges.{Change, admits_same}
 use Rattle.facts.proofs.Sound.Seen.{changes_by}
@@ -67,11 +67,12 @@ no_write code is_value b s a u value w =
 
 alert_changes : (b : Board) (h : List Entry) (m next : Machine) (a : Answered) (e : Entry)
     → Belongs b m.bus
-    → IsAfter b m.bus (Some alert_message) a next.bus → StepDoes b m.bus (Some alert_message) a e
+    → IsAfter b m.bus (Some alert_message) a next.bus → next.bus.lost ≡ m.bus.lost
+    → StepDoes b m.bus (Some alert_message) a e
     → Change b m h next (e ∷ h) empty empty empty
-alert_changes b h m next a e belongs after does =
+alert_changes b h m next a e belongs after same does =
     changes_by b m next h (Some alert_message) a e empty empty
-    empty belongs after does
+    empty belongs after same does
     (λ u value _ w. no_write _ _ b m.bus a u value w)
     (λ u value _ w. no_write _ _ b m.bus a u value w)
     (λ d word _ x. not_read x.reports.read.form)
@@ -91,6 +92,7 @@ pub record AlertStep (b : Board) (row : Row) (h : List Entry) (m next : Machine)
   pub small : r < 8
   pub fits : Fits b m.bus alert_message a
   pub after : IsAfter b m.bus (Some alert_message) a next.bus
+  pub lost : next.bus.lost ≡ m.bus.lost
   pub carries : CarriesMessage m.bus alert_message a e
   pub does : StepDoes b m.bus (Some alert_message) a e
   pub done : (v : ℕ) → outcome_alone (Some alert_message) a ≡ Done v
@@ -101,22 +103,23 @@ pub record AlertStep (b : Board) (row : Row) (h : List Entry) (m next : Machine)
 
 pub leads_alert : (b : Board) (row : Row) (h : List Entry) (m next : Machine) (r otherwise : ℕ)
     (a : Answered) (e : Entry) → AlertStep b row h m next r otherwise a e
-    → Leads b m.place (Alert r otherwise) row m next (e ∷ h)
+    → LeadsOwn b m.place (Alert r otherwise) row m next (e ∷ h)
 leads_alert b row h m next r otherwise a e k = by (outcome_alone (Some alert_message) a) refl
   where
     lost : ((v : ℕ) → outcome_alone (Some alert_message) a ≡ Done v → ⊥)
-        → Leads b m.place (Alert r otherwise) row m next (e ∷ h)
+        → LeadsOwn b m.place (Alert r otherwise) row m next (e ∷ h)
     lost never = record {
       by = edge otherwise row;
       there = inr (inl refl);
       to = (k.other never).0;
       admits = admits_same b row m h next (e ∷ h) k.admits
-          (alert_changes b h m next a e k.belongs k.after k.does) (k.other never).1 k.counters;
+          (alert_changes b h m next a e k.belongs k.after k.lost k.does)
+          (k.other never).1 k.counters;
       falls = same_rank row m.counters next.counters k.counters;
     }
 
     by : (o : Outcome) → outcome_alone (Some alert_message) a ≡ o
-        → Leads b m.place (Alert r otherwise) row m next (e ∷ h)
+        → LeadsOwn b m.place (Alert r otherwise) row m next (e ∷ h)
     by (Done v) is =
         let value : v ≡ a.value % 256 =
         alert_value a.refuse (cut_of alert_message a) (a.value % 256) v is in
@@ -127,7 +130,7 @@ leads_alert b row h m next r otherwise a e k = by (outcome_alone (Some alert_mes
           admits =
               admits_load b row m h next (e ∷ h) r
               (record { lo = 0; hi = 255 }) source.None v k.shaped
-              k.admits (alert_changes b h m next a e k.belongs k.after k.does) k.small
+              k.admits (alert_changes b h m next a e k.belongs k.after k.lost k.does) k.small
               (omega (arith, value), omega (arith, value)) tt k.counters (k.done v is).1;
           falls = same_rank row m.counters next.counters k.counters;
         }

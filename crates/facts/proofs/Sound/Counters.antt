@@ -17,12 +17,13 @@ use Rattle.simulator.specs.Moves.{silently}
 use Rattle.facts.specs.declared.domain.source.Source.TheVariants as source
 use Rattle.facts.specs.declared.domain.span.Span.{Span}
 use Rattle.facts.specs.domain.Sets.{empty}
-use Rattle.facts.specs.domain.Rows.{Row, Admits, IsRow, InSpan, span_at, rank, weight}
+use Rattle.facts.specs.domain.Rows.{Row, Admits, IsRow, InSpan, span_at, weight, rank}
 use Rattle.facts.specs.duties.Duties.{one}
 use Rattle.facts.specs.transfer.Edges.{Edge, edge, edges, edge_if, with_reg, plus, above, up_to}
 use Rattle.facts.specs.transfer.Edges.{reg_in}
 use Rattle.facts.specs.transfer.Edges.{with_counter}
-use Rattle.facts.specs.Steps.{HasEdge, Leads}
+use Rattle.facts.proofs.Shared.EdgeLists.{HasEdge}
+use Rattle.facts.proofs.Sound.OwnLeads.{LeadsOwn}
 use Rattle.facts.proofs.Sound.RowChanges.{Change, admits_same}
 use Rattle.facts.proofs.Sound.Loads.{admits_load}
 use Rattle.facts.proofs.Sound.Ifs.{admits_narrow}
@@ -47,14 +48,14 @@ pub leads_ifalert : (b : Board) (row : Row) (m : Machine) (h : List Entry) (m' :
     (h' : List Entry)
     (s : BusState) (l : ℕ)
     → Admits b row m h → Change b m h m' h' empty empty empty
-    → m' ≡ record (silently (IfAlert l) m) { bus = s } → Leads b m.place (IfAlert l) row m m' h'
+    → m' ≡ record (silently (IfAlert l) m) { bus = s } → LeadsOwn b m.place (IfAlert l) row m m' h'
 leads_ifalert b row m h m' h' s l k ch goes = go (cases_Bool (nat_lt 0 m.bus.alerting))
   where
     place : m'.place ≡ cond (nat_lt 0 m.bus.alerting) l (m.place + 1)
     place = ap (λ (z : Machine). z.place) goes
 
     go : ((nat_lt 0 m.bus.alerting) ≡ true) ⊎ ((nat_lt 0 m.bus.alerting) ≡ false)
-        → Leads b m.place (IfAlert l) row m m' h'
+        → LeadsOwn b m.place (IfAlert l) row m m' h'
     go (inl e) = leads_same b m.place l (IfAlert l) row m h m' h' k ch (inl refl)
         (place ∙ cond-true _ l (m.place + 1) e) (ap (λ (z : Machine). z.regs) goes)
         (ap (λ (z : Machine). z.counters) goes)
@@ -68,7 +69,7 @@ leads_load : (b : Board) (row : Row) (m : Machine) (h : List Entry) (m' : Machin
     → IsRow b row → Admits b row m h → Change b m h m' h' empty empty empty → r < 8 → InSpan s x
     → HasEdge (edges b m.place i row) (edge (m.place + 1) (with_reg row r s source.None))
     → m'.place ≡ m.place + 1 → m'.counters ≡ m.counters → m'.regs ≡ slice_set m.regs r x
-    → Leads b m.place i row m m' h'
+    → LeadsOwn b m.place i row m m' h'
 leads_load b row m h m' h' i r x s shaped k ch lt inside there place counters regs = record {
   by = edge (m.place + 1) (with_reg row r s source.None);
   there = there;
@@ -82,7 +83,7 @@ pub leads_set : (b : Board) (row : Row) (m : Machine) (h : List Entry) (m' : Mac
     (s : BusState) (r v : ℕ)
     → IsRow b row → Admits b row m h → Change b m h m' h' empty empty empty → r < 8
     → m' ≡ record (silently (SetRegister r v) m) { bus = s }
-    → Leads b m.place (SetRegister r v) row m m' h'
+    → LeadsOwn b m.place (SetRegister r v) row m m' h'
 leads_set b row m h m' h' s r v shaped k ch lt goes =
     leads_load b row m h m' h' (SetRegister r v) r v (one v) shaped k ch lt
     (omega arith, omega arith)
@@ -94,7 +95,7 @@ pub leads_add : (b : Board) (row : Row) (m : Machine) (h : List Entry) (m' : Mac
     (h' : List Entry)
     (s : BusState) (r v : ℕ)
     → IsRow b row → Admits b row m h → Change b m h m' h' empty empty empty → r < 8
-    → m' ≡ record (silently (Add r v) m) { bus = s } → Leads b m.place (Add r v) row m m' h'
+    → m' ≡ record (silently (Add r v) m) { bus = s } → LeadsOwn b m.place (Add r v) row m m' h'
 leads_add b row m h m' h' s r v shaped k ch lt goes =
     let inside = (reg_inside b row m h r shaped k lt).1 in
     leads_load b row m h m' h' (Add r v) r (min (slice_index m.regs r + v) 65535)
@@ -107,7 +108,8 @@ pub leads_above : (b : Board) (row : Row) (m : Machine) (h : List Entry) (m' : M
     (h' : List Entry)
     (s : BusState) (r v l : ℕ)
     → IsRow b row → Admits b row m h → Change b m h m' h' empty empty empty → r < 8
-    → m' ≡ record (silently (Above r v l) m) { bus = s } → Leads b m.place (Above r v l) row m m' h'
+    → m' ≡ record (silently (Above r v l) m) { bus = s }
+    → LeadsOwn b m.place (Above r v l) row m m' h'
 leads_above b row m h m' h' s r v l shaped k ch lt goes =
     go (cases_Bool (nat_lt v (slice_index m.regs r)))
   where
@@ -133,7 +135,7 @@ leads_above b row m h m' h' s r v l shaped k ch lt goes =
         (reg_in row r (up_to (span_at row.regs r) v))
 
     go : (nat_lt v (slice_index m.regs r) ≡ true) ⊎ (nat_lt v (slice_index m.regs r) ≡ false)
-        → Leads b m.place (Above r v l) row m m' h'
+        → LeadsOwn b m.place (Above r v l) row m m' h'
     go (inl e) =
         let more : v < slice_index m.regs r = ltb-true v (slice_index m.regs r) e in
         let span : Span = above (span_at row.regs r) v in
@@ -186,7 +188,7 @@ pub leads_count : (b : Board) (row : Row) (m : Machine) (h : List Entry) (m' : M
     (h' : List Entry)
     (s : BusState) (c v : ℕ)
     → IsRow b row → Admits b row m h → Change b m h m' h' empty empty empty → c < 4
-    → m' ≡ record (silently (Count c v) m) { bus = s } → Leads b m.place (Count c v) row m m' h'
+    → m' ≡ record (silently (Count c v) m) { bus = s } → LeadsOwn b m.place (Count c v) row m m' h'
 leads_count b row m h m' h' s c v shaped k ch lt goes =
     let wide : c < length m.counters = omega (
       arith,
@@ -197,15 +199,17 @@ leads_count b row m h m' h' s c v shaped k ch lt goes =
     let inside = InSpans-at row.counters m.counters c k.counters wide in
     let next : Row = with_counter row c v in
     let counters : m'.counters ≡ slice_set m.counters c v = ap (λ (z : Machine). z.counters) goes in
-    let P : List ℕ → Type 0 = λ l. rank next l ≤ rank row m.counters in
     record {
       by = edge (m.place + 1) next;
       there = inl refl;
       to = ap (λ (z : Machine). z.place) goes;
       admits =
           admits_counter b row m h m' h' next c (one v) v k ch (ap (λ (z : Machine). z.regs) goes)
-          counters (omega arith, omega arith) refl refl refl refl refl refl;
-      falls = subst P (sym counters) (count_rank row.coeffs m.counters c v
-          (Span.lo (span_at row.counters c)) row.base
-          (omega (arith, lt, shaped.coeff_count)) wide inside.0);
+          counters (omega arith, omega arith) refl refl refl refl refl refl refl;
+      falls = λ left.
+          let P : List ℕ → Type 0 = λ l. rank next l left ≤ rank row m.counters left in
+          let less =
+          count_rank row.coeffs m.counters c v (Span.lo (span_at row.counters c)) row.base
+          (omega (arith, lt, shaped.coeff_count)) wide inside.0 in
+          subst P (sym counters) (omega (arith, less));
     }

@@ -134,7 +134,7 @@ pub request_changes : (b : Board) (row : Row) (h : List Entry) (m next : Machine
     → ((d : ℕ) → D d ≡ false → TurnsOff b row m.regs i d r → ⊥)
     → Change b m h next (e ∷ h) P W D
 request_changes b row h m next i t r a e P W D k page protect reports withdraws =
-    changes_by b m next h (Some (asked t m.regs r)) a e P W D k.belongs k.after k.does
+    changes_by b m next h (Some (asked t m.regs r)) a e P W D k.belongs k.after k.lost k.does
     (λ u value outside w. page u value outside
     (byte_write_of page_code _ b m.bus m.regs i u t r a value k.board k.at w))
     (λ u value outside w. protect u value outside

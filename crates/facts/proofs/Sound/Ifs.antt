@@ -24,12 +24,14 @@ use Rattle.facts.specs.declared.domain.source.Source.TheVariants as source
 use Rattle.facts.specs.declared.domain.span.Span.{Span}
 use Rattle.facts.specs.domain.Sets.{Set, empty}
 use Rattle.facts.specs.domain.Rows.{Row, Admits, IsRow, IsFrom, InSpan, InSpans, set_at, span_at}
-use Rattle.facts.specs.domain.Rows.{source_at, rank}
+use Rattle.facts.specs.domain.Rows.{rank}
+use Rattle.facts.specs.domain.Rows.{source_at}
 use Rattle.facts.specs.duties.Duties.{one}
 use Rattle.facts.specs.transfer.Edges.{Edge, edge, edge_if, possible, is_possible, has_any, bounds}
 use Rattle.facts.specs.transfer.Edges.{keep, learn_good, if_may_jump, if_jump_row, if_may_go_on}
 use Rattle.facts.specs.transfer.Edges.{if_next_row, is_single, in_span, all_bits, good_bits}
-use Rattle.facts.specs.Steps.{HasEdge, Leads}
+use Rattle.facts.proofs.Shared.EdgeLists.{HasEdge}
+use Rattle.facts.proofs.Sound.OwnLeads.{LeadsOwn}
 use Rattle.facts.proofs.Shared.Lists.{InSpans-at, InSpans-length}
 use Rattle.facts.proofs.Sound.RowChanges.{Change, admits_same, set-updated}
 use Rattle.facts.proofs.Sound.Silent.{HasEdge-append, HasEdge-front, HasEdge-if}
@@ -95,6 +97,7 @@ admits_keep b row m h (source.Page t) x p shaped k f e = record {
   regs = k.regs;
   sources = k.sources;
   counters = k.counters;
+  lost = k.lost;
   good = k.good;
 }
 admits_keep b row m h (source.Protect t) x p shaped k f e = record {
@@ -107,6 +110,7 @@ admits_keep b row m h (source.Protect t) x p shaped k f e = record {
   regs = k.regs;
   sources = k.sources;
   counters = k.counters;
+  lost = k.lost;
   good = k.good;
 }
 
@@ -126,6 +130,7 @@ admits_good b row m h (source.Status d) x shows k f g =
       regs = k.regs;
       sources = k.sources;
       counters = k.counters;
+      lost = k.lost;
       good = λ y at' e. by y at' yes' (or_cases (row.good y) (y == d) e);
     })
     (λ _. k)
@@ -155,6 +160,7 @@ admits_narrow b row old m h r s k o inside lt = record {
   regs = InSpans-narrow old m.regs r s o inside lt;
   sources = k.sources;
   counters = k.counters;
+  lost = k.lost;
   good = k.good;
 }
 
@@ -218,20 +224,20 @@ HasEdge-possible row r (y ∷ es) x (inr k) e =
     (possible row r es) x
     (HasEdge-possible row r es x k e)
 
-keep_rank : (row : Row) (s : Source) (p : ℕ → Bool) (cs : List ℕ)
-    → rank (keep row s p) cs ≡ rank row cs
-keep_rank row source.None p cs = refl
-keep_rank row (source.Status d) p cs = refl
-keep_rank row (source.Page t) p cs = refl
-keep_rank row (source.Protect t) p cs = refl
+keep_rank : (row : Row) (s : Source) (p : ℕ → Bool) (cs : List ℕ) (left : ℕ)
+    → rank (keep row s p) cs left ≡ rank row cs left
+keep_rank row source.None p cs left = refl
+keep_rank row (source.Status d) p cs left = refl
+keep_rank row (source.Page t) p cs left = refl
+keep_rank row (source.Protect t) p cs left = refl
 
-learn_rank : (row : Row) (s : Source) (shows : Bool) (cs : List ℕ)
-    → rank (learn_good row s shows) cs ≡ rank row cs
-learn_rank row source.None shows cs = refl
-learn_rank row (source.Page t) shows cs = refl
-learn_rank row (source.Protect t) shows cs = refl
-learn_rank row (source.Status d) true cs = refl
-learn_rank row (source.Status d) false cs = refl
+learn_rank : (row : Row) (s : Source) (shows : Bool) (cs : List ℕ) (left : ℕ)
+    → rank (learn_good row s shows) cs left ≡ rank row cs left
+learn_rank row source.None shows cs left = refl
+learn_rank row (source.Page t) shows cs left = refl
+learn_rank row (source.Protect t) shows cs left = refl
+learn_rank row (source.Status d) true cs left = refl
+learn_rank row (source.Status d) false cs left = refl
 
 keep_regs : (row : Row) (s : Source) (p : ℕ → Bool) → Row.regs (keep row s p) ≡ row.regs
 keep_regs row source.None p = refl
@@ -244,7 +250,7 @@ pub leads_if : (b : Board) (row : Row) (m : Machine) (h : List Entry) (m' : Mach
     (s : BusState) (r k v l : ℕ)
     → IsBoard b → IsRow b row → Admits b row m h → Change b m h m' h' empty empty empty → r < 8
     → m' ≡ record (silently (If r k v l) m) { bus = s }
-    → Leads b m.place (If r k v l) row m m' h'
+    → LeadsOwn b m.place (If r k v l) row m m' h'
 leads_if b row m h m' h' s r k v l board shaped ad ch lt goes =
     go (cases_Bool (passes (slice_index m.regs r) k v))
   where
@@ -270,10 +276,14 @@ leads_if b row m h m' h' s r k v l board shaped ad ch lt goes =
     moved row' a = admits_same b row' m h m' h' a ch (ap (λ (z : Machine). z.regs) goes)
         (ap (λ (z : Machine). z.counters) goes)
 
-    falls : (row' : Row) → rank row' m'.counters ≡ rank row m'.counters
-        → rank row' m'.counters ≤ rank row m.counters
-    falls row' e = let f : rank row m'.counters ≡ rank row m.counters =
-        ap (λ (z : Machine). rank row z.counters) goes in omega (arith, e, f)
+    falls : (row' : Row)
+        → ((left : ℕ) → rank row' m'.counters left ≡ rank row m'.counters left)
+        → (left : ℕ) → rank row' m'.counters left ≤ rank row m.counters left
+    falls row' e left =
+        let same = e left in
+        let f : rank row m'.counters left ≡ rank row m.counters left =
+        ap (λ (z : Machine). rank row z.counters left) goes in
+        omega (arith, same, f)
 
     single_same : is_single (span_at row.regs r) ≡ true
         → Span.lo (span_at row.regs r) ≡ slice_index m.regs r
@@ -310,7 +320,7 @@ leads_if b row m h m' h' s r k v l board shaped ad ch lt goes =
     narrow x = record x { regs = slice_set row.regs r (one v) }
 
     go : (passes (slice_index m.regs r) k v ≡ true) ⊎ (passes (slice_index m.regs r) k v ≡ false)
-        → Leads b m.place (If r k v l) row m m' h'
+        → LeadsOwn b m.place (If r k v l) row m m' h'
     go (inl e) =
         let source = source_at row.sources r in
         let first = keep row source (λ x. passes x k v) in
@@ -348,12 +358,13 @@ leads_if b row m h m' h' s r k v l board shaped ad ch lt goes =
               (λ y. admits_narrow b two row.regs m h r (one v) a2 ad.regs
               (let same = full e y in (omega (arith, same), omega (arith, same)))
               (omega (arith, InSpans-length row.regs m.regs ad.regs, shaped.reg_count))) (λ _. a2));
-          falls = falls (if_jump_row row r k v)
-              (cond_both (k == all_bits) three two (λ z. rank z m'.counters ≡ rank row m'.counters)
-              (λ _. learn_rank first source (passes k good_bits good_bits && passes v good_bits 0)
-              m'.counters ∙ keep_rank row source (λ x. passes x k v) m'.counters)
-              (λ _. learn_rank first source (passes k good_bits good_bits && passes v good_bits 0)
-              m'.counters ∙ keep_rank row source (λ x. passes x k v) m'.counters));
+          falls = falls (if_jump_row row r k v) (λ left.
+              let learnt =
+              learn_rank first source (passes k good_bits good_bits && passes v good_bits 0)
+              m'.counters left ∙ keep_rank row source (λ x. passes x k v) m'.counters left in
+              cond_both (k == all_bits) three two
+              (λ z. rank z m'.counters left ≡ rank row m'.counters left)
+              (λ _. learnt) (λ _. learnt));
         }
     go (inr e) =
         let source = source_at row.sources r in

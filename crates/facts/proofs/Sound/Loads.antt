@@ -21,5 +21,6 @@ admits_load b row m h m' h' r s origin x shaped k c lt inside from counters regs
     admits_reg b row
     (record m' { regs = m.regs }) m' h' r s origin x shaped.reg_count shaped.source_count
     (admits_same b row m h (record m' { regs = m.regs }) h' k
-    (record { pages = c.pages; protects = c.protects; reports = c.reports }) refl counters)
+    (record { pages = c.pages; protects = c.protects; reports = c.reports; lost = c.lost }) refl
+    counters)
     lt inside from refl refl regs

@@ -29,7 +29,8 @@ use Rattle.seq_program.specs.Requests.{Transaction, quick, send, receive, write,
 use Rattle.seq_program.specs.Requests.{write_block, read_block, call_block, request}
 use Rattle.facts.specs.duties.Duties.{MayBeSent}
 use Rattle.facts.specs.transfer.Ticks.{frame_ticks, longest_slots, ticks_of, own_ticks}
-use Rattle.facts.specs.Steps.{Leads, Stands}
+use Rattle.facts.specs.Steps.{Stands}
+use Rattle.facts.proofs.Sound.OwnLeads.{LeadsOwn}
 use Rattle.facts.proofs.Sound.Moved.{place_after, leads_request, moved_counters, moved_ended}
 use Rattle.facts.proofs.Sound.Moved.{moved_place, moved_regs, alone_ticks}
 use Rattle.facts.proofs.Sound.RowChanges.{Change}
@@ -76,6 +77,7 @@ request_sound laws b p i row m h a e next target otherwise r k q told step =
       duty = duty;
       fits = by.fits;
       after = by.bus;
+      lost = by.lost;
       carries = seen.carries;
       does = seen.does;
       regs = ap (λ (z : Machine). z.regs) by.next_is ∙ moved_regs i r msg o next.bus m q.result;
@@ -123,6 +125,7 @@ alert_sound laws b p r l row m h a e next k told step =
       small = is_instr b p (instr.Alert r l) row m h k;
       fits = step.fits;
       after = step.bus;
+      lost = step.lost;
       carries = seen.carries;
       does = seen.does;
       done = λ v is. (
@@ -183,7 +186,7 @@ silence laws b i m h a e next belongs seen step = record {
   safe = safe_silence laws.frames b h m.bus a e None refl seen.carries seen.does;
   ticks = ap (λ (x : Entry). x.ticks) step.entry_is
       ∙ (laws.idle (alert_level m.bus) (suc (idle_ticks i))).count;
-  changes = silent_changes b m next h a e belongs step.bus seen.does;
+  changes = silent_changes b m next h a e belongs step.bus step.lost seen.does;
   goes = step.next_is;
 }
 
@@ -191,7 +194,7 @@ silence laws b i m h a e next belongs seen step = record {
 quiet_sound : (b : Board) (i : Instr) (row : Row) (m : Machine) (h : List Entry) (e : Entry)
     (next : Machine) → Silence b i m h e next → own_ticks b i ≡ suc (idle_ticks i)
     → (((next.ended ≡ Running → ⊥) × IsTrue (is_end i))
-    ⊎ ((next.ended ≡ Running) × Leads b m.place i row m next (e ∷ h)))
+    ⊎ ((next.ended ≡ Running) × LeadsOwn b m.place i row m next (e ∷ h)))
     → IsOwnStep b i row m h e next
 quiet_sound b i row m h e next s worst goes = let ticks = s.ticks in
     record { safe = s.safe; ticks = omega (arith, ticks, worst); goes = goes }

@@ -24,7 +24,8 @@ use Rattle.facts.specs.transfer.Edges.{ReadsPage}
 use Rattle.facts.specs.transfer.Edges.{ReadsProtect, Loads, Nothing, Edge, edge, edges, edges_of}
 use Rattle.facts.specs.transfer.Edges.{sent_edges}
 use Rattle.facts.specs.transfer.Edges.{effect_of, done_row, else_row}
-use Rattle.facts.specs.Steps.{HasEdge, Leads}
+use Rattle.facts.proofs.Shared.EdgeLists.{HasEdge}
+use Rattle.facts.proofs.Sound.OwnLeads.{LeadsOwn}
 use Rattle.facts.proofs.Shared.Asking.{regs_after}
 use Rattle.facts.proofs.Sound.WriteEdges.{row_by}
 
@@ -41,30 +42,34 @@ lost_ticks b i msg c m a e next step = ap (λ (x : Entry). x.ticks) step.entry_i
 
 -- ranks along the edges of a request
 pub done_rank : (b : Board) (row : Row) (i : ℕ) (r : Transaction) (f : Effect) (counters : List ℕ)
-    → rank (done_row b row i r f) counters ≡ rank row counters
-done_rank b row i r (SetsPage v) counters = refl
-done_rank b row i r (SetsProtect v) counters = refl
-done_rank b row i r TurnsOff counters = refl
-done_rank b row i r (ReadsStatus g) counters = refl
-done_rank b row i r (ReadsPage g) counters = refl
-done_rank b row i r (ReadsProtect g) counters = refl
-done_rank b row i r (Loads g) counters = refl
-done_rank b row i r Nothing counters = refl
+    (left : ℕ) → rank (done_row b row i r f) counters left ≡ rank row counters left
+done_rank b row i r (SetsPage v) counters left = refl
+done_rank b row i r (SetsProtect v) counters left = refl
+done_rank b row i r TurnsOff counters left = refl
+done_rank b row i r (ReadsStatus g) counters left = refl
+done_rank b row i r (ReadsPage g) counters left = refl
+done_rank b row i r (ReadsProtect g) counters left = refl
+done_rank b row i r (Loads g) counters left = refl
+done_rank b row i r Nothing counters left = refl
 
 pub else_rank : (b : Board) (row : Row) (i : ℕ) (f : Effect) (counters : List ℕ)
-    → rank (else_row b row i f) counters ≡ rank row counters
-else_rank b row i (SetsPage v) counters = refl
-else_rank b row i (SetsProtect v) counters = refl
-else_rank b row i TurnsOff counters = refl
-else_rank b row i (ReadsStatus g) counters = refl
-else_rank b row i (ReadsPage g) counters = refl
-else_rank b row i (ReadsProtect g) counters = refl
-else_rank b row i (Loads g) counters = refl
-else_rank b row i Nothing counters = refl
+    (left : ℕ) → rank (else_row b row i f) counters left ≡ rank row counters left
+else_rank b row i (SetsPage v) counters left = refl
+else_rank b row i (SetsProtect v) counters left = refl
+else_rank b row i TurnsOff counters left = refl
+else_rank b row i (ReadsStatus g) counters left = refl
+else_rank b row i (ReadsPage g) counters left = refl
+else_rank b row i (ReadsProtect g) counters left = refl
+else_rank b row i (Loads g) counters left = refl
+else_rank b row i Nothing counters left = refl
 
-pub rank_same : (r s : Row) (cs ds : List ℕ) → rank r cs ≡ rank s cs → cs ≡ ds
-    → rank r cs ≤ rank s ds
-rank_same r s cs ds e f = let k : rank s cs ≡ rank s ds = ap (rank s) f in omega (arith, e, k)
+pub rank_same : (r s : Row) (cs ds : List ℕ)
+    → ((left : ℕ) → rank r cs left ≡ rank s cs left) → cs ≡ ds
+    → (left : ℕ) → rank r cs left ≤ rank s ds left
+rank_same r s cs ds e f left =
+    let same = e left in
+    let k : rank s cs left ≡ rank s ds left = ap (λ l. rank s l left) f in
+    omega (arith, same, k)
 
 -- where a message leads
 abbrev pub place_after : Instr → ℕ → Outcome → ℕ
@@ -108,7 +113,7 @@ pub leads_request : (b : Board) (row : Row) (m : Machine) (next : Machine) (h' :
     (target otherwise : ℕ) (r : Transaction) (o : Outcome)
     → request_in i ≡ Some (request target r otherwise) → jump_in i ≡ Some otherwise
     → next.place ≡ place_after i m.place o → Admits b (row_by b row target r o) next h'
-    → next.counters ≡ m.counters → Leads b m.place i row m next h'
+    → next.counters ≡ m.counters → LeadsOwn b m.place i row m next h'
 leads_request b row m next h' i target otherwise r o sends jump place admits counters =
     by o place admits
   where
@@ -121,7 +126,8 @@ leads_request b row m next h' i target otherwise r o sends jump place admits cou
         subst P (sym (ap (edges_of b m.place i row) sends)) k
 
     other : next.place ≡ unwrap_or (jump_in i) m.place
-        → Admits b (else_row b row target (effect_of r)) next h' → Leads b m.place i row m next h'
+        → Admits b (else_row b row target (effect_of r)) next h'
+        → LeadsOwn b m.place i row m next h'
     other place admits = record {
       by = edge otherwise (else_row b row target (effect_of r));
       there = there (edge otherwise (else_row b row target (effect_of r))) (inr (inl refl));
@@ -133,7 +139,7 @@ leads_request b row m next h' i target otherwise r o sends jump place admits cou
 
     by : (o : Outcome) → next.place ≡ place_after i m.place o
         → Admits b (row_by b row target r o) next h'
-        → Leads b m.place i row m next h'
+        → LeadsOwn b m.place i row m next h'
     by (Done v) place admits = record {
       by = edge (m.place + 1) (done_row b row target r (effect_of r));
       there = there (edge (m.place + 1) (done_row b row target r (effect_of r))) (inl refl);

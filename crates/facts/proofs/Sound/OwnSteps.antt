@@ -22,7 +22,8 @@ use Rattle.simulator.specs.StepLaws.{CarriesMessage, CarriesOver, Carries, Steps
 use Rattle.simulator.specs.Steps.{IsStepOf}
 use Rattle.facts.specs.domain.Rows.{Row}
 use Rattle.facts.specs.transfer.Ticks.{own_ticks}
-use Rattle.facts.specs.Steps.{Leads, Stands}
+use Rattle.facts.specs.Steps.{Stands}
+use Rattle.facts.proofs.Sound.OwnLeads.{LeadsOwn}
 use Rattle.facts.proofs.Shared.Places.{all_at, same_at}
 
 -- what the layers below give
@@ -38,7 +39,7 @@ pub record IsOwnStep (b : Board) (i : Instr) (row : Row) (m : Machine) (h : List
   pub safe : IsSafe b h e
   pub ticks : e.ticks ≤ own_ticks b i
   pub goes : (((next.ended ≡ Running → ⊥) × IsTrue (is_end i))
-      ⊎ ((next.ended ≡ Running) × Leads b m.place i row m next (e ∷ h)))
+      ⊎ ((next.ended ≡ Running) × LeadsOwn b m.place i row m next (e ∷ h)))
 
 -- a step as it is seen
 pub record SeenStep (b : Board) (o : Option Asked) (m : Machine) (a : Answered)

@@ -367,4 +367,5 @@ status_edges b row h m next i t g a e k =
     first = admits_touched b row m h (record next { regs = m.regs }) (e ∷ h) i k.admits
         (let c : Change b m h next (e ∷ h) empty empty (is_touched b row i) =
         status_changes b row h m next i t g a e k in
-        record { pages = c.pages; protects = c.protects; reports = c.reports }) refl k.counters
+        record { pages = c.pages; protects = c.protects; reports = c.reports; lost = c.lost }) refl
+        k.counters

@@ -20,7 +20,8 @@ use Rattle.facts.specs.transfer.Edges.{forget}
 use Rattle.facts.specs.transfer.Edges.{is_page_of, is_protect_of, is_status_of}
 use Rattle.facts.proofs.Shared.Lists.{source-clear, InSpans-set, InSpans-wider, InSpans-length}
 
--- the stored pages that may change, the protections, and the rails whose last report may
+-- the stored pages that may change, the protections, and the rails whose last report may, while no
+-- arbitration is lost
 pub record Change (b : Board) (m : Machine) (h : List Entry) (m' : Machine) (h' : List Entry)
     (P W D : Set) : Type 0 where
   pub pages : (u : ℕ) → u < length b.targets → P u ≡ false
@@ -29,6 +30,7 @@ pub record Change (b : Board) (m : Machine) (h : List Entry) (m' : Machine) (h' 
       → slice_index m'.bus.protect u ≡ slice_index m.bus.protect u
   pub reports : (d w : ℕ) → d < length b.rails → D d ≡ false → LastReport b h d w
       → LastReport b h' d w
+  pub lost : m'.bus.lost ≡ m.bus.lost
 
 -- a source that isn't forgotten still has the register's value
 pub source_kept : (b : Board) (m : Machine) (h : List Entry) (m' : Machine) (h' : List Entry)
@@ -102,6 +104,9 @@ pub set-same : (b : Board) (ss : List Set) (f g : ℕ → ℕ)
     → (u : ℕ) → u < length b.targets → set_at ss u (g u) ≡ true
 set-same b ss f g old same u there = ap (set_at ss u) (same u there) ∙ old u there
 
+lost_same : (s : Span) (x y : ℕ) → y ≡ x → InSpan s x → InSpan s y
+lost_same s x y e k = let P : ℕ → Type 0 = λ n. InSpan s n in subst P (sym e) k
+
 spans_same : (ss : List Span) (xs ys : List ℕ) → ys ≡ xs → InSpans ss xs → InSpans ss ys
 spans_same ss xs ys e k = let P : List ℕ → Type 0 = λ l. InSpans ss l in subst P (sym e) k
 
@@ -126,6 +131,7 @@ admits_page b row m h m' h' t s shaped there k c inside regs counters = record {
       (λ u. refl)
       (λ d. refl) k regs;
   counters = spans_same row.counters m.counters m'.counters counters k.counters;
+  lost = lost_same row.lost m.bus.lost m'.bus.lost c.lost k.lost;
   good = λ d at' g. good_kept b m h m' h' (only t) empty empty c d at' refl (k.good d at' g);
 }
 
@@ -146,6 +152,7 @@ admits_protect b row m h m' h' t s shaped there k c inside regs counters = recor
   sources = sources_kept b row m h m' h' empty (only t) empty c (is_protect_of t) refl (λ u. refl)
       (λ u. refl) (λ d. refl) k regs;
   counters = spans_same row.counters m.counters m'.counters counters k.counters;
+  lost = lost_same row.lost m.bus.lost m'.bus.lost c.lost k.lost;
   good = λ d at' g. good_kept b m h m' h' empty (only t) empty c d at' refl (k.good d at' g);
 }
 
@@ -166,6 +173,7 @@ admits_touched b row m h m' h' t k c regs counters = record {
   sources = sources_kept b row m h m' h' empty empty (is_touched b row t) c
       (is_status_of (is_touched b row t)) refl (λ u. refl) (λ u. refl) (λ d. refl) k regs;
   counters = spans_same row.counters m.counters m'.counters counters k.counters;
+  lost = lost_same row.lost m.bus.lost m'.bus.lost c.lost k.lost;
   good = λ d at' g.
       let parts = and_parts (row.good d) (not (is_touched b row t d)) g in
       good_kept b m h m' h' empty empty (is_touched b row t) c d at'
@@ -194,6 +202,7 @@ admits_same b row m h m' h' k c regs counters = record {
       let R : ℕ → Type 0 = λ x. IsFrom b m' h' (source_at row.sources r) x in
       subst R (ap (λ l. slice_index l r) (sym regs)) f;
   counters = spans_same row.counters m.counters m'.counters counters k.counters;
+  lost = lost_same row.lost m.bus.lost m'.bus.lost c.lost k.lost;
   good = λ d at' g. good_kept b m h m' h' empty empty empty c d at' refl (k.good d at' g);
 }
 
@@ -214,6 +223,7 @@ admits_reg b row m m' h r s from_what x reg_count source_count k lt inside from 
           (InSpans-set row.regs m.regs r s x k.regs inside);
       sources = λ q lq. at_source q (cases_eq q r) lq;
       counters = spans_same row.counters m.counters m'.counters counters k.counters;
+      lost = lost_same row.lost m.bus.lost m'.bus.lost (ap (λ (y : BusState). y.lost) bus) k.lost;
       good = k.good;
     }
   where
@@ -259,6 +269,7 @@ covers_admits b s u m h c k = record {
   regs = InSpans-wider s.regs u.regs m.regs c.regs k.regs;
   sources = λ r lt. from r (c.sources r) (k.sources r lt);
   counters = InSpans-wider s.counters u.counters m.counters c.counters k.counters;
+  lost = (omega (arith, c.lost.0, k.lost.0), omega (arith, c.lost.1, k.lost.1));
   good = λ d at' g. k.good d at' (c.good d g);
 }
   where

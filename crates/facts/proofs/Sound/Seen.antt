@@ -21,13 +21,14 @@ stored_kept WritesIt before now (inr kept) never = kept.1
 -- what may change, by what the message writes, reports and withdraws
 pub changes_by : (b : Board) (m next : Machine) (h : List Entry) (o : Option Asked) (a : Answered)
     (e : Entry) (P W D : Set)
-    → Belongs b m.bus → IsAfter b m.bus o a next.bus → StepDoes b m.bus o a e
+    → Belongs b m.bus → IsAfter b m.bus o a next.bus → next.bus.lost ≡ m.bus.lost
+    → StepDoes b m.bus o a e
     → ((u value : ℕ) → P u ≡ false → WritesPage b m.bus o a u value → ⊥)
     → ((u value : ℕ) → W u ≡ false → WritesProtect b m.bus o a u value → ⊥)
     → ((d word : ℕ) → D d ≡ false → MessageReports b m.bus d word o a → ⊥)
     → ((d : ℕ) → D d ≡ false → MessageWithdraws b m.bus d o a → ⊥)
     → Change b m h next (e ∷ h) P W D
-changes_by b m next h o a e P W D belongs after does page protect reports withdraws = record {
+changes_by b m next h o a e P W D belongs after same does page protect reports withdraws = record {
   pages = λ u at' outside.
       let within : u < length m.bus.page = let L : ℕ
       → Type 0 = λ n. u < n in subst L (sym belongs.pages) at' in
@@ -45,6 +46,7 @@ changes_by b m next h o a e P W D belongs after does page protect reports withdr
         (λ w. withdraws d outside ((does.withdraws d).0 w)),
         last,
       );
+  lost = same;
 }
 
 none_some : {X : Type 0} (x : X) → None ≡ Some x → ⊥
@@ -52,10 +54,11 @@ none_some x e = cc
 
 -- a step that sends nothing leaves all as it was
 pub silent_changes : (b : Board) (m next : Machine) (h : List Entry) (a : Answered) (e : Entry)
-    → Belongs b m.bus → IsAfter b m.bus None a next.bus → StepDoes b m.bus None a e
+    → Belongs b m.bus → IsAfter b m.bus None a next.bus → next.bus.lost ≡ m.bus.lost
+    → StepDoes b m.bus None a e
     → Change b m h next (e ∷ h) empty empty empty
-silent_changes b m next h a e belongs after does =
-    changes_by b m next h None a e empty empty empty belongs after does
+silent_changes b m next h a e belongs after same does =
+    changes_by b m next h None a e empty empty empty belongs after same does
     (λ u value outside w. none_some w.asked w.sent)
     (λ u value outside w. none_some w.asked w.sent)
     (λ d word outside r. r.reports)

@@ -15,10 +15,11 @@ use Rattle.facts.specs.declared.domain.source.Source.{Source}
 use Rattle.facts.specs.declared.domain.source.Source.TheVariants as source
 use Rattle.facts.specs.declared.domain.span.Span.{Span}
 use Rattle.facts.specs.domain.Sets.{Set, empty}
-use Rattle.facts.specs.domain.Rows.{Row, Admits, IsFrom, InSpan, InSpans, span_at, rank, weight}
+use Rattle.facts.specs.domain.Rows.{Row, Admits, IsFrom, InSpan, InSpans, span_at, weight, rank}
 use Rattle.facts.specs.transfer.Edges.{Edge, edge, edges, edge_if, counter_in, taken_off, one_off}
 use Rattle.facts.specs.duties.Duties.{one}
-use Rattle.facts.specs.Steps.{HasEdge, Leads}
+use Rattle.facts.proofs.Shared.EdgeLists.{HasEdge}
+use Rattle.facts.proofs.Sound.OwnLeads.{LeadsOwn}
 use Rattle.facts.proofs.Sound.RowChanges.{Change, admits_same}
 use Rattle.facts.proofs.Shared.Lists.{InSpans-set, InSpans-at, InSpans-length, weight-set}
 
@@ -36,8 +37,10 @@ pub HasEdge-if : (c : Bool) (to : ℕ) (row : Row) → c ≡ true
 HasEdge-if true to row e = inl refl
 HasEdge-if false to row e = absurd (false≢true e)
 
-pub same_rank : (row : Row) (xs ys : List ℕ) → ys ≡ xs → rank row ys ≤ rank row xs
-same_rank row xs ys e = let P : List ℕ → Type 0 = λ l. rank row l ≤ rank row xs in
+pub same_rank : (row : Row) (xs ys : List ℕ) → ys ≡ xs → (left : ℕ)
+    → rank row ys left ≤ rank row xs left
+same_rank row xs ys e left =
+    let P : List ℕ → Type 0 = λ l. rank row l left ≤ rank row xs left in
     subst P (sym e) (omega arith)
 
 -- an edge on which nothing changes
@@ -46,7 +49,7 @@ pub leads_same : (b : Board) (place to : ℕ) (i : Instr) (row : Row) (m : Machi
     → Admits b row m h → Change b m h m' h' empty empty empty
     → HasEdge (edges b place i row) (edge to row)
     → m'.place ≡ to → m'.regs ≡ m.regs → m'.counters ≡ m.counters
-    → Leads b place i row m m' h'
+    → LeadsOwn b place i row m m' h'
 leads_same b place to i row m h m' h' k c there at' regs counters = record {
   by = edge to row;
   there = there;
@@ -64,10 +67,12 @@ pub admits_counter : (b : Board) (row : Row) (m : Machine) (h : List Entry) (m' 
     → (s.lo ≤ x) × (x ≤ s.hi)
     → r'.pages ≡ row.pages → r'.protects ≡ row.protects → r'.good ≡ row.good → r'.regs ≡ row.regs
     → r'.sources ≡ row.sources → r'.counters ≡ slice_set row.counters c s
+    → r'.lost ≡ row.lost
     → Admits b r' m' h'
-admits_counter b row m h m' h' r' c s x k ch regs counters inside e1 e2 e3 e4 e5 e6 =
+admits_counter b row m h m' h' r' c s x k ch regs counters inside e1 e2 e3 e4 e5 e6 e7 =
     let old = admits_same b row m h (record m' { counters = m.counters }) h' k
-    (record { pages = ch.pages; protects = ch.protects; reports = ch.reports }) regs refl in
+    (record { pages = ch.pages; protects = ch.protects; reports = ch.reports; lost = ch.lost }) regs
+    refl in
     record {
       pages = λ u at'.
           ap (λ (l : List Set). slice_index_or l u empty (slice_index m'.bus.page u)) e1
@@ -85,6 +90,7 @@ admits_counter b row m h m' h' r' c s x k ch regs counters inside e1 e2 e3 e4 e5
           subst P (sym e6)
           (subst Q (sym counters) (InSpans-set row.counters m.counters c s x k.counters
           inside));
+      lost = let P : Span → Type 0 = λ s. InSpan s m'.bus.lost in subst P (sym e7) old.lost;
       good = λ d at' g. old.good d at' (ap (λ (f : Set). f d) (sym e3) ∙ g);
     }
   where
@@ -100,7 +106,7 @@ pub leads_again : (b : Board) (row : Row) (m : Machine) (h : List Entry) (m' : M
     (s : BusState) (c l : ℕ)
     → Admits b row m h → Change b m h m' h' empty empty empty → c < 4 → length row.counters ≡ 4
     → m' ≡ record (silently (Again c l) m) { bus = s }
-    → Leads b m.place (Again c l) row m m' h'
+    → LeadsOwn b m.place (Again c l) row m m' h'
 leads_again b row m h m' h' s c l k ch lt wide goes =
     go (cases_Bool (nat_lt 0 (slice_index m.counters c)))
   where
@@ -136,7 +142,7 @@ leads_again b row m h m' h' s c l k ch lt wide goes =
 
     go : (nat_lt 0 (slice_index m.counters c) ≡ true)
         ⊎ (nat_lt 0 (slice_index m.counters c) ≡ false)
-        → Leads b m.place (Again c l) row m m' h'
+        → LeadsOwn b m.place (Again c l) row m m' h'
     go (inr e) =
         let zero' : slice_index m.counters c ≤ 0 = ltb-false 0 (slice_index m.counters c) e in
         let next : Row = counter_in row c (one 0) in
@@ -149,8 +155,8 @@ leads_again b row m h m' h' s c l k ch lt wide goes =
           to = place ∙ cond-false (nat_lt 0 (slice_index m.counters c)) l (m.place + 1) e;
           admits =
               admits_counter b row m h m' h' next c (one 0) (slice_index m.counters c - 1) k ch regs
-              counters (omega arith, omega (arith, zero')) refl refl refl refl refl refl;
-          falls =
+              counters (omega arith, omega (arith, zero')) refl refl refl refl refl refl refl;
+          falls = λ left.
               let z : slice_index row.coeffs c * slice_index m.counters c
               ≡ slice_index row.coeffs c *
               (slice_index m.counters c - 1) = ap (λ n. slice_index row.coeffs c * n)
@@ -170,8 +176,8 @@ leads_again b row m h m' h' s c l k ch lt wide goes =
           admits = admits_counter b row m h m' h' next c (one_off (span_at row.counters c))
               (slice_index m.counters c - 1) k ch regs counters
               (omega (arith, inside.0, more), omega (arith, inside.1)) refl refl refl refl refl
-              refl;
-          falls =
+              refl refl;
+          falls = λ left.
               let q : slice_index row.coeffs c * slice_index m.counters c
               ≡ slice_index row.coeffs c *
               (slice_index m.counters c - 1) + slice_index row.coeffs c

@@ -85,11 +85,14 @@ widest_is_row b is = record {
   counters = λ c lt.
       let P : Span → Type 0 = λ s. IsSpan s × (s.hi ≤ 1000) in
       subst P (sym (zero_span 4 c lt)) (omega arith, omega arith);
+  lost = omega arith;
+  lost_range = omega arith;
   base = omega arith;
   coeff_count = refl;
   coeffs = λ c lt.
       let none : slice_index (replicate 4 0) c ≡ 0 = at_replicate 4 c 0 0 lt in
       omega (arith, none);
+  lost_coeff = omega arith;
 }
 
 pub widest_admits : (b : Board) (s : BusState) → IsBoard b → IsStart b s
@@ -114,5 +117,6 @@ widest_admits b s is start = record {
       let P : Source → Type 0 = λ x. IsFrom b (start_at s) [] x (slice_index (replicate 8 0) r) in
       subst P (sym (no_source 8 r)) tt;
   counters = zeros_inside 4;
+  lost = let none = start.fresh in (omega arith, omega (arith, none));
   good = λ d lt g. absurd (false≢true g);
 }

@@ -1,6 +1,6 @@
 -- A program that sets a register and sends CLEAR_FAULTS: after its first step the machine stands at
 -- the message.
-use Rattle.std.proofs.Common.{◌≡◌, ◌<◌, ◌⊎◌, ℕ, false, inl, inr, Option, Some, None, List, []}
+use Rattle.std.proofs.Common.{◌≡◌, ◌<◌, ◌≤◌, ◌⊎◌, ℕ, false, inl, inr, Option, Some, None, List, []}
 use Rattle.std.proofs.Common.{◌∷◌, IfSome, IsSome, IsTrue, refl, sym, subst, ◌∙◌}
 use Rattle.std.proofs.Common.{arith, lit<, lit≤}
 use Rattle.std.proofs.lemmas.Bool.{false≢true}
@@ -33,8 +33,10 @@ use Rattle.facts.specs.declared.duties.rule.Rule.TheVariants.{K1, K2, K3, K4, K5
 use Rattle.facts.specs.declared.domain.source.Source.TheVariants as source
 use Rattle.facts.specs.domain.Rows.{Row, Admits, SpanCovers, RowCovers}
 use Rattle.facts.specs.duties.Duties.{one, Meets}
-use Rattle.facts.specs.transfer.Edges.{with_reg, a_byte, Edge, edge, edges}
-use Rattle.facts.specs.Steps.{HasEdge, Leads, StepsAreSound}
+use Rattle.facts.specs.transfer.Edges.{with_reg, a_byte, Edge, edge}
+use Rattle.facts.specs.transfer.Ticks.{own_ticks}
+use Rattle.facts.specs.transfer.TimedEdges.{HasTimed, timed_edges}
+use Rattle.facts.specs.Steps.{Leads, StepsAreSound}
 use Rattle.facts.specs.FactLaws.{EdgesStayShaped}
 use Rattle.facts.specs.Witnesses.{widest_row, SomeMachineStands, SomeRowIsWider}
 use Rattle.facts.proofs.Shared.Places.{within}
@@ -178,20 +180,22 @@ admits_next sound starts b s is start = by (sound b program first (widest_row b)
       duties = no_duty b (widest_row b);
     }) (step b s)).goes
   where
-    by : (((next s).ended ≡ Running → ⊥) × IsTrue (is_end first))
+    by : (((next s).ended ≡ Running → ⊥) × IsTrue (is_end first)
+        × ((entry s).ticks ≤ own_ticks b first))
         ⊎ (((next s).ended ≡ Running)
-        × Leads b 0 first (widest_row b) (start_at s) (next s) (entry s ∷ []))
+        × Leads b 0 first (widest_row b) (start_at s) (next s) (entry s ∷ []) (entry s).ticks)
         → Admits b (widest_row b) (next s) (entry s ∷ [])
     by (inl ends) = absurd (ends.0 refl)
     by (inr goes) =
         let leads = goes.1 in
-        subst (λ (x : Edge). Admits b x.row (next s) (entry s ∷ [])) (only leads.by leads.there)
+        subst (λ (x : Edge). Admits b x.row (next s) (entry s ∷ []))
+        (only leads.by leads.most leads.there)
         leads.admits
       where
-        only : (x : Edge) → HasEdge (edges b 0 first (widest_row b)) x
+        only : (x : Edge) (n : ℕ) → HasTimed (timed_edges b 0 first (widest_row b)) x n
             → x ≡ edge 1 (widest_row b)
-        only x (inl same) = same
-        only x (inr none) = absurd none
+        only x n (inl k) = k.0
+        only x n (inr none) = absurd none
 
 pub some_machine_stands : StepsAreSound → StepsAreSeen → StartsAreReady → SomeClearingIsListed
     → SomeMachineStands
@@ -237,6 +241,7 @@ wide_covers b = record {
       (zero, ((lit≤ tt, lit≤ tt), (zero, (zero, (zero, (zero, (zero, (zero, tt))))))));
   sources = λ r. inl (no_source 8 r);
   counters = (zero, (zero, (zero, (zero, tt))));
+  lost = (omega arith, omega arith);
 }
   where
     zero : SpanCovers (one 0) (one 0)
@@ -257,8 +262,8 @@ some_row_is_wider shaped case =
       said = (takes, within b.targets 0 case.on.target case.on.first);
       sends = refl;
       wider = record {
-        left = shaped b 0 alert row (edge 1 (wide b)) is (lit< tt) (widest_is_row b is) tt
-            (inl refl);
+        left = shaped b 0 alert row (edge 1 (wide b)) (own_ticks b alert) is (lit< tt)
+            (widest_is_row b is) tt (inl (refl, refl));
         right = widest_is_row b is;
         covers = wide_covers b;
       };

@@ -19,6 +19,7 @@ CoversByPart s u =
     × AllCover ProtectsCover s.protects.items u.protects.items
     × SetCovers (rails_in u.good) (rails_in s.good) × AllCover SpanCovers s.regs u.regs
     × AllCover SourceCovers s.sources u.sources × AllCover SpanCovers s.counters u.counters
+    × SpanCovers s.lost u.lost
 
 -- of equally many targets
 pub record IsAlike (s u : CodeRow) : Type 0 where

@@ -1,10 +1,10 @@
 -- What is known at a place of a program, and of which machines and histories it is true.
-use Rattle.std.specs.Prelude.{◌≡◌, ℕ, ◌+◌, ◌*◌, ◌<◌, ◌≤◌, ◌⊎◌, IsTrue, List, [], ◌∷◌, length}
-use Rattle.std.specs.Prelude.{map, slice_index, slice_index_or}
+use Rattle.std.specs.Prelude.{◌≡◌, ℕ, ◌+◌, ◌-◌, ◌*◌, ◌<◌, ◌≤◌, ◌⊎◌, IsTrue, List, [], ◌∷◌}
+use Rattle.std.specs.Prelude.{length, map, slice_index, slice_index_or}
 use Rattle.board.specs.Boards.{Target, Board}
 use Rattle.board.specs.Valid.{is_page_value}
 use Rattle.pmbus_table.specs.Protect.{is_protection}
-use Rattle.targets.specs.States.{IsTargetAt}
+use Rattle.targets.specs.States.{BusState, IsTargetAt}
 use Rattle.simulator.specs.Machines.{Machine, Entry}
 use Rattle.simulator.specs.Reports.{LastReport, IsReportedGood}
 use Rattle.facts.specs.declared.domain.row.Row.{Row as CodeRow}
@@ -22,8 +22,11 @@ pub record Row : Type 0 where
   pub regs : List Span
   pub sources : List Source
   pub counters : List Span
+  -- how many arbitrations were lost so far
+  pub lost : Span
   pub base : ℕ
   pub coeffs : List ℕ
+  pub lost_coeff : ℕ
 
 -- the code's
 abbrev pub row_view : CodeRow → Row
@@ -35,8 +38,10 @@ row_view r =
       regs = r.regs;
       sources = r.sources;
       counters = r.counters;
+      lost = r.lost;
       base = r.base;
       coeffs = r.coeffs;
+      lost_coeff = r.lost_coeff;
     }
 
 abbrev pub no_span : Span
@@ -78,6 +83,7 @@ pub record Admits (b : Board) (row : Row) (m : Machine) (history : List Entry) :
   pub sources : (r : ℕ) → r < length m.regs
       → IsFrom b m history (source_at row.sources r) (slice_index m.regs r)
   pub counters : InSpans row.counters m.counters
+  pub lost : InSpan row.lost m.bus.lost
   pub good : (d : ℕ) → d < length b.rails → IsTrue (row.good d) → IsReportedGood b history d
 
 -- the sum of coefficient times counter
@@ -86,9 +92,13 @@ weight [] counters = 0
 weight (k ∷ ks) [] = 0
 weight (k ∷ ks) (c ∷ cs) = k * c + weight ks cs
 
--- at most so many ticks are left, at these counters
-abbrev pub rank : Row → List ℕ → ℕ
-rank row counters = row.base + weight row.coeffs counters
+-- how many arbitrations may still be lost
+abbrev pub left_of : Board → BusState → ℕ
+left_of b s = b.contentions - s.lost
+
+-- at most so many ticks are left, at these counters, where so many arbitrations may still be lost
+abbrev pub rank : Row → List ℕ → ℕ → ℕ
+rank row counters left = row.base + weight row.coeffs counters + row.lost_coeff * left
 
 -- covers, part by part: the second lies within the first
 abbrev pub SetCovers : Set → Set → Type 0
@@ -122,6 +132,7 @@ pub record RowCovers (b : Board) (s u : Row) : Type 0 where
   pub regs : SpansCover s.regs u.regs
   pub sources : (r : ℕ) → SourceCovers (source_at s.sources r) (source_at u.sources r)
   pub counters : SpansCover s.counters u.counters
+  pub lost : SpanCovers s.lost u.lost
 
 -- what a source names is of the board
 abbrev pub IsSource : Board → Source → Type 0
@@ -159,6 +170,9 @@ pub record IsRow (b : Board) (row : Row) : Type 0 where
   pub counter_count : length row.counters ≡ 4
   pub counters : (c : ℕ) → c < 4
       → IsSpan (span_at row.counters c) × (Span.hi (span_at row.counters c) ≤ MOST_TURNS)
+  pub lost : IsSpan row.lost
+  pub lost_range : row.lost.hi ≤ b.contentions
   pub base : row.base ≤ most_ticks
   pub coeff_count : length row.coeffs ≡ 4
   pub coeffs : (c : ℕ) → c < 4 → slice_index row.coeffs c ≤ most_ticks
+  pub lost_coeff : row.lost_coeff ≤ most_ticks

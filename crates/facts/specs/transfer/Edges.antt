@@ -319,3 +319,17 @@ edges_of b place i row (Some r) = sent_edges b place r row
 
 abbrev pub edges : Board → ℕ → Instr → Row → List Edge
 edges b place i row = edges_of b place i row (request_in i)
+
+-- after a lost arbitration: one more of them, which pays its coefficient, and else all as before
+abbrev pub lost_row : Board → Row → Row
+lost_row b row =
+    record row {
+      lost = record { lo = row.lost.lo + 1; hi = min (row.lost.hi + 1) b.contentions };
+      base = row.base + row.lost_coeff;
+    }
+
+-- the edge of a lost arbitration to the `else` label, where one more may be lost
+abbrev pub lost_edges : Board → Option ℕ → Row → List Edge
+lost_edges b None row = []
+lost_edges b (Some otherwise) row =
+    edge_if (nat_lt row.lost.lo b.contentions) otherwise (lost_row b row)

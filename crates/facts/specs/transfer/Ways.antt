@@ -32,6 +32,7 @@ IsOfFew _ = Unit {0}
 pub record IsFit (row : CodeRow) : Type 0 where
   pub base : row.base ≤ most_ticks
   pub coeffs : (c : ℕ) → c < 4 → slice_index row.coeffs c ≤ most_ticks
+  pub lost_coeff : row.lost_coeff ≤ most_ticks
   pub named : (r : ℕ) → r < 8 → IsNamedIn row (source_at row.sources r)
   pub few : (r : ℕ) → r < 8 → IsOfFew (source_at row.sources r)
 

@@ -39,5 +39,7 @@ IsShapedByPart b row =
     × All (IsSource b) row.sources
     × All (λ s. (s.lo ≤ s.hi) × (s.hi < 65536)) row.counters
     × All (λ s. s.hi ≤ MOST_TURNS) row.counters
+    × (row.lost.lo ≤ row.lost.hi) × (row.lost.hi ≤ b.contentions)
     × (row.base ≤ most_ticks)
     × All (λ k. k ≤ most_ticks) row.coeffs
+    × (row.lost_coeff ≤ most_ticks)

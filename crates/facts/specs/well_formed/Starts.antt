@@ -6,10 +6,10 @@ use Rattle.facts.specs.declared.domain.row.Row.{Row as CodeRow}
 use Rattle.facts.specs.declared.domain.source.Source.TheVariants as source
 use Rattle.facts.specs.domain.Sets.{rails_in}
 use Rattle.facts.specs.well_formed.Shapes.{EachTarget}
-use Rattle.facts.specs.domain.Rows.{Row, row_view, set_at, source_at, InSpans}
+use Rattle.facts.specs.domain.Rows.{Row, row_view, set_at, source_at, InSpans, InSpan}
 
--- each value that a target may start with, no good rail, 0 in each register and counter, and no
--- sources
+-- each value that a target may start with, no good rail, 0 in each register and counter, no
+-- sources, and no lost arbitration, which are left at no cost
 pub record HoldsStarts (b : Board) (row : Row) : Type 0 where
   pub pages : (i : ℕ) (t : Target) → IsTargetAt b i t
       → All (λ v. IsTrue (set_at row.pages i v)) t.start_pages
@@ -19,6 +19,8 @@ pub record HoldsStarts (b : Board) (row : Row) : Type 0 where
   pub regs : InSpans row.regs (replicate 8 0)
   pub counters : InSpans row.counters (replicate 4 0)
   pub sources : (r : ℕ) → source_at row.sources r ≡ source.None
+  pub lost : InSpan row.lost 0
+  pub lost_coeff : row.lost_coeff ≡ 0
 
 -- the same, part by part, of the code's rows; no public contract cites what follows
 abbrev pub StartsAt : Row → ℕ → Target → Type 0
@@ -33,3 +35,5 @@ StartsByPart b row =
     × InSpans row.regs (replicate (length row.regs) 0)
     × ((r : ℕ) → source_at row.sources r ≡ source.None)
     × InSpans row.counters (replicate (length row.counters) 0)
+    × InSpan row.lost 0
+    × (row.lost_coeff ≡ 0)

@@ -20,8 +20,11 @@ pub struct Row {
     pub sources: [Source; 8],
     /// The values of c0 to c3.
     pub counters: [Span; 4],
-    /// The ticks that are left are at most this, and a coefficient for each counter times the
-    /// counter.
+    /// How many arbitrations were lost so far to other controllers.
+    pub lost: Span,
+    /// The ticks that are left are at most this, a coefficient for each counter times the counter,
+    /// and one for the arbitrations that may still be lost times their number.
     pub base: u64,
     pub coeffs: [u64; 4],
+    pub lost_coeff: u64,
 }

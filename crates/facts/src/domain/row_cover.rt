@@ -40,6 +40,7 @@ impl Row {
             && all_cover(&self.regs, &other.regs)
             && all_cover(&self.sources, &other.sources)
             && all_cover(&self.counters, &other.counters)
+            && self.lost.covers(&other.lost)
     }
 }
 
@@ -82,8 +83,10 @@ impl Part for Row {
             regs,
             sources,
             counters,
+            lost: self.lost.join(alloc, &other.lost)?,
             base: self.base,
             coeffs: self.coeffs,
+            lost_coeff: self.lost_coeff,
         })
     }
 }

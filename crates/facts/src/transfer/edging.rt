@@ -2,9 +2,10 @@
 
 ghost use Rattle.std.specs.Prelude.{◌≡◌, ◌<◌, ◌++◌, [], map, IfOk, IfSome, None, slice_get};
 ghost use Rattle.board.specs.Valid.{IsBoard};
+ghost use Rattle.seq_program.specs.Requests.{else_in};
 ghost use Rattle.facts.specs.domain.Rows.{row_view, IsRow};
 ghost use Rattle.facts.specs.duties.Duties.{Meets};
-ghost use Rattle.facts.specs.transfer.Edges.{edges};
+ghost use Rattle.facts.specs.transfer.Edges.{edges, lost_edges};
 ghost use Rattle.facts.specs.transfer.TimedEdges.{timed, timed_edges};
 ghost use Rattle.facts.specs.transfer.Ways.{way_list, ways_list, timed_view};
 ghost use Rattle.facts.specs.declared.duties.rule.Rule.TheVariants.{K1};
@@ -12,8 +13,9 @@ ghost use Rattle.seq_program.specs.declared.program.TheConstants.{MOST_PLACES};
 
 use crate::domain::row::Row;
 use crate::transfer::going_on::other_ways;
+use crate::transfer::moves::{copied, lost_row};
 use crate::transfer::sending::sent_ways;
-use crate::transfer::ticks::worst_ticks;
+use crate::transfer::ticks::{foreign_ticks, own_ticks};
 use crate::transfer::ways::{Way, Ways};
 use board::{Board, board_is_valid};
 use seq_program::{Instr, Program, program_is_valid};
@@ -52,8 +54,24 @@ fn with_way(
 fn listed(alloc: Global, ways: Ways, ticks: u64) -> Result<Vec<(usize, Row, u64)>, AllocError>
     ensures { IfOk result (λ es. map timed_view es.items ≡ timed ticks (ways_list ways)) }
 {
-    let first = with_way(Vec::with_capacity(alloc, 2)?, ways.first, ticks)?;
+    let first = with_way(Vec::with_capacity(alloc, 3)?, ways.first, ticks)?;
     with_way(first, ways.second, ticks)
+}
+
+/// Where an instruction leads whose arbitration is lost, if one more may be lost.
+fn lost_way(board: &Board, instr: &Instr, row: &Row) -> Result<Option<Way>, AllocError>
+    requires { IsRow board.now (row_view row.now) }
+    ensures { IfOk result
+        (λ w. way_list w ≡ lost_edges board.now (else_in instr.now) (row_view row.now)) }
+{
+    let Some(to) = instr.otherwise() else {
+        return Ok(None);
+    };
+    if row.lost.lo >= board.contentions() {
+        return Ok(None);
+    }
+    let row = lost_row(board, copied(row)?);
+    Ok(Some(Way { to, row }))
 }
 
 /// The edges of an instruction that meets its first duty.
@@ -72,10 +90,12 @@ fn instr_edges(
         ≡ timed_edges board.now place instr.now (row_view row.now)) }
 {
     let ways = ways(board, place, instr, row)?;
-    listed(alloc, ways, worst_ticks(board, instr))
+    let own = listed(alloc, ways, own_ticks(board, instr))?;
+    with_way(own, lost_way(board, instr, row)?, foreign_ticks(board))
 }
 
-/// Where a place's instruction may lead, the row there, and the most ticks on that way. The
+/// Where a place's instruction may lead, the row there, and the most ticks on that way: first its
+/// own ways, and last that on which another controller wins over its message, if one may. The
 /// instruction meets its first duty at the row. A place that the program hasn't leads nowhere.
 /// Fails only for want of memory.
 pub fn edges(

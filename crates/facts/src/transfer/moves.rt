@@ -4,12 +4,13 @@ ghost use Rattle.std.specs.Prelude.{◌≡◌, ◌<◌, ◌≤◌, ◌+◌, IfOk
 ghost use Rattle.facts.specs.domain.Rows.{row_view, most_ticks, span_at};
 ghost use Rattle.facts.specs.transfer.Edges.{with_reg, reg_in, counter_in, plus, above, up_to};
 ghost use Rattle.facts.specs.transfer.Edges.{one_off};
-ghost use Rattle.facts.specs.transfer.Edges.{with_counter, taken_off};
+ghost use Rattle.facts.specs.transfer.Edges.{with_counter, taken_off, lost_row};
 
 use crate::domain::row::Row;
 use crate::domain::source::Source;
 use crate::domain::span::Span;
 use crate::duties::allowing::one;
+use board::Board;
 use std::alloc::AllocError;
 
 /// The same row once more.
@@ -25,8 +26,10 @@ pub(crate) fn copied(row: &Row) -> Result<Row, AllocError>
         regs: row.regs,
         sources: row.sources,
         counters: row.counters,
+        lost: row.lost,
         base: row.base,
         coeffs: row.coeffs,
+        lost_coeff: row.lost_coeff,
     })
 }
 
@@ -129,5 +132,21 @@ pub(crate) fn taken_off(mut row: Row, counter: usize) -> Row
 {
     row.base += row.coeffs[counter];
     row.counters[counter] = one_off(row.counters[counter]);
+    row
+}
+
+/// An arbitration is lost, which pays its coefficient.
+pub(crate) fn lost_row(board: &Board, mut row: Row) -> Row
+    requires base { row.base ≤ most_ticks }
+    requires coeff { row.lost_coeff ≤ most_ticks }
+    requires few { row.lost.lo < board.now.contentions }
+    ensures { row_view result ≡ lost_row board.now (row_view row) }
+{
+    let most = board.contentions();
+    row.base += row.lost_coeff;
+    row.lost = Span {
+        lo: row.lost.lo + 1,
+        hi: row.lost.hi.saturating_add(1).min(most),
+    };
     row
 }

@@ -7,7 +7,6 @@ ghost use Rattle.seq_program.specs.Requests.{block_count};
 ghost use Rattle.seq_program.specs.RequestViews.{content_view, transaction_view, request_view};
 ghost use Rattle.facts.specs.duties.Allowing.{lengths_at};
 ghost use Rattle.facts.specs.transfer.Ticks.{frame_ticks, longest_slots, other_ticks, own_ticks};
-ghost use Rattle.facts.specs.transfer.Ticks.{is_contended, worst_ticks};
 ghost use Rattle.simulator.specs.ForeignTicks.{foreign_ticks};
 
 use board::{Board, full_length};
@@ -64,8 +63,8 @@ fn sent_ticks(board: &Board, request: &Request<'_>) -> u64
     frame_ticks(board, most_slots(transaction.form, sent, read))
 }
 
-/// The most ticks of an instruction where no other controller wins over its message.
-fn own_ticks(board: &Board, instr: &Instr) -> u64
+/// The most ticks of an instruction over whose message no other controller wins.
+pub fn own_ticks(board: &Board, instr: &Instr) -> u64
     ensures { result ≡ own_ticks board.now instr.now }
 {
     match instr.request() {
@@ -75,29 +74,9 @@ fn own_ticks(board: &Board, instr: &Instr) -> u64
 }
 
 /// The ticks of the longest frame of another controller.
-fn foreign_ticks(board: &Board) -> u64
+pub fn foreign_ticks(board: &Board) -> u64
     ensures { result ≡ foreign_ticks board.now }
 {
     let slots = 9 * (1 + u64::from(board.foreign_bytes())) + 1;
     2 + slots * (3 + u64::from(board.foreign_stretch()))
-}
-
-/// Whether another controller may win over what an instruction sends.
-fn is_contended(board: &Board, instr: &Instr) -> bool
-    ensures { result ≡ is_contended board.now instr.now }
-{
-    instr.otherwise().is_some() && board.contentions() > 0
-}
-
-/// The most ticks that an instruction takes: where another controller may win over its message,
-/// also those of the longest frame of that.
-pub fn worst_ticks(board: &Board, instr: &Instr) -> u64
-    ensures { result ≡ worst_ticks board.now instr.now }
-{
-    let own = own_ticks(board, instr);
-    if is_contended(board, instr) {
-        own.max(foreign_ticks(board))
-    } else {
-        own
-    }
 }

@@ -173,8 +173,11 @@ fn is_shaped_by_part(board: &Board, row: &Row) -> bool
         && are_sources(board, &row.sources)
         && are_spans(&row.counters)
         && are_counters(&row.counters)
+        && row.lost.lo <= row.lost.hi
+        && row.lost.hi <= board.contentions()
         && row.base <= MOST_TICKS
         && are_coeffs(&row.coeffs)
+        && row.lost_coeff <= MOST_TICKS
 }
 
 impl Row {
@@ -185,7 +188,8 @@ impl Row {
 
     /// Whether it is a row of the board: with a set of each kind for each target, which has a value
     /// and only values of the target; rails and targets of the board; spans with a number, counters
-    /// up to 1000; and base and coefficients of at most 2^40 ticks.
+    /// up to 1000, lost arbitrations up to the board's; and base and coefficients of at most 2^40
+    /// ticks.
     pub fn is_of(&self, board: &Board) -> bool
         ensures { IsTrue result ↔ IsRow board.now (row_view self.now) }
     {

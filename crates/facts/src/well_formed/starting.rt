@@ -90,11 +90,14 @@ fn starts_by_part(board: &Board, row: &Row) -> bool
         && hold_zero(&row.regs)
         && name_nothing(&row.sources)
         && hold_zero(&row.counters)
+        && row.lost.lo == 0
+        && row.lost_coeff == 0
 }
 
 impl Row {
     /// Whether it holds every start of the board: each value that a target's PAGE and WRITE_PROTECT
-    /// may have at the start, no good rail, 0 in each register and counter, and no sources.
+    /// may have at the start, no good rail, 0 in each register and counter, no sources, and no lost
+    /// arbitration, of which none is paid for.
     pub fn holds_starts(&self, board: &Board) -> bool
         ensures { IsTrue result ↔ HoldsStarts board.now (row_view self.now) }
     {

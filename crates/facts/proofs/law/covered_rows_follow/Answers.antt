@@ -1,8 +1,9 @@
 use Rattle.facts.proofs.Sound.RowChanges.{covers_admits}
-use Rattle.facts.proofs.Covered.EdgeLaw.{edges_follow}
-use Rattle.facts.proofs.Covered.EdgeShapes.{edges_stay_shaped}
+use Rattle.facts.proofs.Covered.LostEdges.{edges_follow, edges_stay_shaped}
+use Rattle.facts.proofs.Covered.Covers.{covers_trans}
 use Rattle.facts.proofs.Covered.KeptDuties.{duties_are_kept}
 use Rattle.facts.proofs.Witness.Steps.{some_row_is_wider}
+use Rattle.facts.proofs.Covered.ElseRows.{else_edges_cover}
 use Rattle.facts.proofs.law.covered_rows_follow.Goals as goal
 
 pub returns-clause-duties : goal.returns-clause-duties
@@ -20,3 +21,9 @@ returns-clause-some c =
 
 pub returns-clause-admits : goal.returns-clause-admits
 returns-clause-admits c = covers_admits
+
+pub returns-clause-otherwise : goal.returns-clause-otherwise
+returns-clause-otherwise c = else_edges_cover
+
+pub returns-clause-goes_on : goal.returns-clause-goes_on
+returns-clause-goes_on c = covers_trans

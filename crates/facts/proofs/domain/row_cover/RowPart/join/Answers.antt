@@ -53,6 +53,7 @@ returns-clause-first c = (
       c.args.other.now.sources c.in_ok-join_into-2.ensures,
   first_covered SpanCovers c.join_into-3.new.parts c.args.self.now.counters
       c.args.other.now.counters c.in_ok-join_into-3.ensures,
+  c.in_ok-join-2.ensures.first,
 )
 
 pub returns-clause-second : goal.returns-clause-second
@@ -68,6 +69,7 @@ returns-clause-second c = (
       c.args.other.now.sources c.in_ok-join_into-2.ensures,
   second_covered SpanCovers c.join_into-3.new.parts c.args.self.now.counters
       c.args.other.now.counters c.in_ok-join_into-3.ensures,
+  c.in_ok-join-2.ensures.second,
 )
 
 pub returns-clause-least : goal.returns-clause-least
@@ -84,4 +86,5 @@ returns-clause-least c = λ u a b. (
       c.args.other.now.sources c.in_ok-join_into-2.ensures a.4 b.4,
   least_covered SpanCovers u.counters c.join_into-3.new.parts c.args.self.now.counters
       c.args.other.now.counters c.in_ok-join_into-3.ensures a.5 b.5,
+  c.in_ok-join-2.ensures.least u.lost a.6 b.6,
 )
