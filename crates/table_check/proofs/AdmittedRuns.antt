@@ -4,7 +4,7 @@ use Rattle.board.specs.Boards.{Board}
 use Rattle.seq_program.specs.declared.instr.Instr.{Instr}
 use Rattle.simulator.specs.declared.machine.Ending.TheVariants.{Running}
 use Rattle.simulator.specs.Machines.{Machine, Entry}
-use Rattle.facts.specs.domain.Rows.{rank}
+use Rattle.facts.specs.domain.Rows.{rank, left_of}
 use Rattle.table_check.specs.Tables.{Table}
 use Rattle.table_check.specs.checker.Admitted.{HasRow, IsAdmitted, StartsAreAdmitted}
 use Rattle.table_check.specs.checker.Admitted.{StepsStayAdmitted}
@@ -28,7 +28,7 @@ with_ticks b p t m h k = by k.stands
     by : (m.ended ≡ Running → ⊥) ⊎ HasRow b t m h → (n : ℕ) × Kept b p t m h n
     by (inl ended) = (0, record { ready = k.ready; stands = inl ended })
     by (inr l) = (
-      rank l.row m.counters,
+      rank l.row m.counters (left_of b m.bus),
       record {
         ready = k.ready;
         stands = inr (record {

@@ -1,5 +1,5 @@
 -- Which rule an instruction or an edge breaks.
-use Rattle.std.proofs.Common.{◌≡◌, ◌+◌, ◌≤◌, ◌<◌, ℕ, zero, suc, Some, None, List, [], ◌∷◌}
+use Rattle.std.proofs.Common.{◌≡◌, ◌+◌, ◌-◌, ◌≤◌, ◌<◌, ℕ, zero, suc, Some, None, List, [], ◌∷◌}
 use Rattle.std.proofs.Common.{true, false}
 use Rattle.std.proofs.Common.{map, length, refl, sym, ap, subst, inl, inr, ◌∙◌, All, arith}
 use Rattle.std.specs.Prelude.{Result, Ok, Err, IfOk, replicate, slice_index}
@@ -17,11 +17,10 @@ use Rattle.facts.specs.domain.Covering.{IsSized}
 use Rattle.facts.specs.duties.Duties.{IsFirstFailing, Meets, duties}
 use Rattle.facts.specs.transfer.Edges.{Edge, edge}
 use Rattle.facts.specs.FactLaws.{IsShaped}
-use Rattle.facts.specs.domain.Rows.{Row, InSpans, IsRow, RowCovers, most_ticks, no_span}
+use Rattle.facts.specs.domain.Rows.{Row, InSpan, InSpans, IsRow, RowCovers, most_ticks, no_span}
 use Rattle.facts.specs.domain.Rows.{rank, row_view}
 use Rattle.facts.specs.domain.Sets.{pages_in, protects_in}
-use Rattle.facts.specs.Steps.{HasEdge}
-use Rattle.facts.specs.transfer.TimedEdges.{timed}
+use Rattle.facts.specs.transfer.TimedEdges.{HasTimed}
 use Rattle.facts.specs.transfer.Ways.{timed_view}
 use Rattle.table_check.specs.Tables.{Table, row_of}
 use Rattle.table_check.specs.checker.Obligations.{Obligation, Covered, Duty, Falls, IsFirstFault}
@@ -51,17 +50,17 @@ first_met b i row (inl h) = h.0
 first_met b i row (inr h) = absurd (none_some K1 h.1)
 
 -- what holds of each edge holds of the code's
-have_all : (P : Edge → Type 0) (items : List (ℕ × CodeRow × ℕ)) (ticks : ℕ) (es : List Edge)
-    → map timed_view items ≡ timed ticks es → ((x : Edge) → HasEdge es x → P x)
+have_all : (P : Edge → Type 0) (items : List (ℕ × CodeRow × ℕ)) (es : List (Edge × ℕ))
+    → map timed_view items ≡ es → ((x : Edge) (ticks : ℕ) → HasTimed es x ticks → P x)
     → AllByRecursion (λ e. P (edge e.0 (row_view e.1))) items
-have_all P [] ticks es e h = tt
-have_all P (x ∷ items) ticks [] e h = absurd (cons_nil e)
+have_all P [] es e h = tt
+have_all P (x ∷ items) [] e h = absurd (cons_nil e)
   where
     cons_nil : {X : Type 0} {y : X} {ys : List X} → y ∷ ys ≡ [] → ⊥
     cons_nil e = cc
-have_all P (x ∷ items) ticks (y ∷ es) e h = (
-  subst P (sym (ap (λ (z : Edge × ℕ). z.0) (heads e))) (h y (inl refl)),
-  have_all P items ticks es (tails e) (λ z k. h z (inr k)),
+have_all P (x ∷ items) (y ∷ es) e h = (
+  subst P (sym (ap (λ (z : Edge × ℕ). z.0) (heads e))) (h y.0 y.1 (inl (refl, refl))),
+  have_all P items es (tails e) (λ z ticks k. h z ticks (inr k)),
 )
   where
     heads : {X : Type 0} {u v : X} {us vs : List X} → u ∷ us ≡ v ∷ vs → u ≡ v
@@ -70,13 +69,12 @@ have_all P (x ∷ items) ticks (y ∷ es) e h = (
     tails : {X : Type 0} {u v : X} {us vs : List X} → u ∷ us ≡ v ∷ vs → us ≡ vs
     tails e = cc
 
-pub all_have : (P : Edge → Type 0) (items : List (ℕ × CodeRow × ℕ)) (ticks : ℕ)
-    (es : List Edge)
-    → map timed_view items ≡ timed ticks es → ((x : Edge) → HasEdge es x → P x)
+pub all_have : (P : Edge → Type 0) (items : List (ℕ × CodeRow × ℕ)) (es : List (Edge × ℕ))
+    → map timed_view items ≡ es → ((x : Edge) (ticks : ℕ) → HasTimed es x ticks → P x)
     → All (λ e. P (edge e.0 (row_view e.1))) items
-all_have P items ticks es e h =
+all_have P items es e h =
     All-from_recursion (λ (x : ℕ × CodeRow × ℕ). P (edge x.0 (row_view x.1))) items
-    (have_all P items ticks es e h)
+    (have_all P items es e h)
 
 -- counters
 by_index : {X : Type 0} (P : X → Type 0) (xs : List X) (d : X)
@@ -116,9 +114,10 @@ shaped_sized b row h = record {
 }
 
 -- edges
-abbrev pub PaysFor : ℕ → Row → Row → Type 0
-PaysFor worst next row = (counters : List ℕ) → InSpans row.counters counters
-    → worst + rank next counters ≤ rank row counters
+abbrev pub PaysFor : Board → ℕ → Row → Row → Type 0
+PaysFor b worst next row = (counters : List ℕ) → InSpans row.counters counters
+    → (lost : ℕ) → InSpan row.lost lost
+    → worst + rank next counters (b.contentions - lost) ≤ rank row counters (b.contentions - lost)
 
 abbrev pub of_one : ℕ → ℕ → Edge → List Obligation
 of_one place worst e = Covered place e ∷ Falls place worst e ∷ []
@@ -145,7 +144,7 @@ covers_next : (b : Board) (t : Table) (e : Edge) (next : Row) → Some next ≡ 
 covers_next b t e next there covers = (next, sym there, covers)
 
 pub unpaid : (b : Board) (p : List Instr) (t : Table) (place worst : ℕ) (e : Edge) (next : Row)
-    → Some next ≡ row_of t e.to → RowCovers b next e.row → (PaysFor worst next e.row → ⊥)
+    → Some next ≡ row_of t e.to → RowCovers b next e.row → (PaysFor b worst next e.row → ⊥)
     → IsFirstFault b p t (of_one place worst e) (Some (place, K7))
 unpaid b p t place worst e next there covers fails =
     inl (
@@ -154,7 +153,7 @@ unpaid b p t place worst e next there covers fails =
     )
 
 pub kept : (b : Board) (p : List Instr) (t : Table) (place worst : ℕ) (e : Edge) (next : Row)
-    → Some next ≡ row_of t e.to → RowCovers b next e.row → PaysFor worst next e.row
+    → Some next ≡ row_of t e.to → RowCovers b next e.row → PaysFor b worst next e.row
     → IsFirstFault b p t (of_one place worst e) None
 kept b p t place worst e next there covers pays =
     inl (
@@ -162,7 +161,7 @@ kept b p t place worst e next there covers pays =
       inl (
         (λ other at'.
             let same : next ≡ other = some_same next other (there ∙ at') in
-            subst (λ (r : Row). PaysFor worst r e.row) same pays),
+            subst (λ (r : Row). PaysFor b worst r e.row) same pays),
         refl,
       ),
     )
@@ -191,9 +190,12 @@ row_shaped b row h = record {
   sources = h.sources;
   counter_count = h.counter_count;
   counters = h.counters;
+  lost = h.lost;
+  lost_range = h.lost_range;
   base = omega arith;
   coeff_count = refl;
   coeffs = λ c lt. zero_at c lt;
+  lost_coeff = omega arith;
 }
   where
     zero_at : (c : ℕ) → c < 4 → slice_index (replicate 4 0) c ≤ most_ticks

@@ -11,10 +11,8 @@ use Rattle.facts.specs.declared.duties.rule.Rule.TheVariants.{K1, K2, K3, K4, K5
 use Rattle.facts.specs.domain.Rows.{Row, IsRow}
 use Rattle.seq_program.specs.Requests.{request_in}
 use Rattle.facts.specs.duties.Duties.{Meets, duties}
-use Rattle.facts.specs.transfer.Edges.{Edge, edges}
-use Rattle.facts.specs.Steps.{HasEdge}
-use Rattle.facts.specs.transfer.Ticks.{worst_ticks}
-use Rattle.facts.specs.transfer.TimedEdges.{timed, timed_edges}
+use Rattle.facts.specs.transfer.Edges.{Edge}
+use Rattle.facts.specs.transfer.TimedEdges.{HasTimed, timed_edges}
 use Rattle.table_check.specs.Tables.{Table, row_of}
 use Rattle.table_check.specs.checker.Rules.{IsCovered, Pays, PaysEnd, Starts}
 use Rattle.table_check.specs.checker.Obligations.{Obligation, Start, Length, shapes, of_edges}
@@ -30,7 +28,7 @@ use Rattle.table_check.proofs.Obligations.{hold_front, hold_back, hold_edge, hol
 use Rattle.table_check.proofs.Obligations.{met_duties, at_end, ends_by, others}
 
 -- from the parts to the whole
-all_append : (b : Board) (p : List Instr) (t : Table) (xs ys : List Obligation)
+pub all_append : (b : Board) (p : List Instr) (t : Table) (xs ys : List Obligation)
     → AllHold b p t xs → AllHold b p t ys → AllHold b p t (xs ++ ys)
 all_append b p t [] ys h k = k
 all_append b p t (x ∷ xs) ys h k = (h.0, all_append b p t xs ys h.1 k)
@@ -42,17 +40,17 @@ all_shapes b p t (None ∷ rows) first k = all_shapes b p t rows (first + 1) (λ
 all_shapes b p t (Some x ∷ rows) first k =
     (k 0 x refl, all_shapes b p t rows (first + 1) (λ n u e. k (suc n) u e))
 
-all_edges : (b : Board) (p : List Instr) (t : Table) (n worst : ℕ) (es : List Edge)
-    → ((e : Edge) → HasEdge es e → IsCovered b t e × Pays t worst e)
-    → AllHold b p t (of_edges n (timed worst es))
-all_edges b p t n worst [] k = tt
-all_edges b p t n worst (e ∷ es) k =
-    let x = k e (inl refl) in
-    (x.0, (x.1, all_edges b p t n worst es (λ f h. k f (inr h))))
+all_edges : (b : Board) (p : List Instr) (t : Table) (n : ℕ) (es : List (Edge × ℕ))
+    → ((e : Edge) (ticks : ℕ) → HasTimed es e ticks → IsCovered b t e × Pays b t ticks e)
+    → AllHold b p t (of_edges n es)
+all_edges b p t n [] k = tt
+all_edges b p t n (e ∷ es) k =
+    let x = k e.0 e.1 (inl (refl, refl)) in
+    (x.0, (x.1, all_edges b p t n es (λ f ticks h. k f ticks (inr h))))
 
 -- an instruction that ends nothing owes nothing more
 all_end : (b : Board) (p : List Instr) (t : Table) (n : ℕ) (row : Row) (i : Instr)
-    → (IsTrue (is_end i) → PaysEnd row) → AllHold b p t (of_end n row i)
+    → (IsTrue (is_end i) → PaysEnd b row) → AllHold b p t (of_end n row i)
 all_end b p t n row instr.End k = (k refl, tt)
 all_end b p t n row instr.Fail k = (k refl, tt)
 all_end b p t n row (instr.Quick to read l) k = tt
@@ -83,7 +81,8 @@ all_after : (b : Board) (p : List Instr) (t : Table) (n : ℕ) (i : Instr) (u : 
     → EdgesHold b t n i u → AllHold b p t (after_duties b n i u)
 all_after b p t n i u k =
     all_append b p t (of_edges n (timed_edges b n i u)) (of_end n u i)
-    (all_edges b p t n (worst_ticks b i) (edges b n i u) (λ e h. (k.covered e h, k.falls e h)))
+    (all_edges b p t n (timed_edges b n i u)
+    (λ e ticks h. (k.covered e ticks h, k.falls e ticks h)))
     (all_end b p t n u i k.ends)
 
 all_row : (b : Board) (p : List Instr) (t : Table) (n : ℕ) (i : Instr) (u : Row)
@@ -156,8 +155,8 @@ goes b p t n i u h =
     let rest : AllHold b p t (after_duties b n i u) = h.1.1.1.1.1 in
     let front : AllHold b p t es = hold_front b p t es (of_end n u i) rest in
     record {
-      covered = λ e k. (hold_edge b p t n (worst_ticks b i) (edges b n i u) e front k).0;
-      falls = λ e k. (hold_edge b p t n (worst_ticks b i) (edges b n i u) e front k).1;
+      covered = λ e ticks k. (hold_edge b p t n (timed_edges b n i u) e ticks front k).0;
+      falls = λ e ticks k. (hold_edge b p t n (timed_edges b n i u) e ticks front k).1;
       ends = λ is-end. at_end b p t n i u (ends_by i is-end)
           (hold_back b p t es (of_end n u i) rest);
     }
@@ -240,17 +239,18 @@ tells_duties Tells b p t n i u rest found tell k
     k (met_all b i u k1 k2 k3 k4 k5) h
 
 -- past covered edges, and an end
-tells_edges : (Tells : Rule → Type 0) (b : Board) (p : List Instr) (t : Table) (n worst : ℕ)
-    (es : List Edge) (rest : List Obligation) (found : Option (ℕ × Rule)) → Tells K7
-    → ((e : Edge) → HasEdge es e → IsCovered b t e)
-    → IsFirstFault b p t (of_edges n (timed worst es) ++ rest) found
+tells_edges : (Tells : Rule → Type 0) (b : Board) (p : List Instr) (t : Table) (n : ℕ)
+    (es : List (Edge × ℕ)) (rest : List Obligation) (found : Option (ℕ × Rule)) → Tells K7
+    → ((e : Edge) (ticks : ℕ) → HasTimed es e ticks → IsCovered b t e)
+    → IsFirstFault b p t (of_edges n es ++ rest) found
     → TellsOr Tells b p t rest found
-tells_edges Tells b p t n worst [] rest found tell k h = inr h
-tells_edges Tells b p t n worst (e ∷ es) rest found tell k (inr h) = absurd (h.0 (k e (inl refl)))
-tells_edges Tells b p t n worst (e ∷ es) rest found tell k (inl (covered, inr h)) =
+tells_edges Tells b p t n [] rest found tell k h = inr h
+tells_edges Tells b p t n (e ∷ es) rest found tell k (inr h) =
+    absurd (h.0 (k e.0 e.1 (inl (refl, refl))))
+tells_edges Tells b p t n (e ∷ es) rest found tell k (inl (covered, inr h)) =
     inl ((n, K7), h.1, tell)
-tells_edges Tells b p t n worst (e ∷ es) rest found tell k (inl (covered, inl (falls, h))) =
-    tells_edges Tells b p t n worst es rest found tell (λ f there. k f (inr there)) h
+tells_edges Tells b p t n (e ∷ es) rest found tell k (inl (covered, inl (falls, h))) =
+    tells_edges Tells b p t n es rest found tell (λ f ticks there. k f ticks (inr there)) h
 
 tells_end : (Tells : Rule → Type 0) (b : Board) (p : List Instr) (t : Table) (n : ℕ) (u : Row)
     (i : Instr) (rest : List Obligation) (found : Option (ℕ × Rule)) → Tells K7
@@ -348,12 +348,12 @@ append_assoc (x ∷ xs) ys zs = ap (λ l. x ∷ l) (append_assoc xs ys zs)
 
 tells_after : (b : Board) (p : List Instr) (t : Table) (n : ℕ) (i : Instr) (u : Row)
     (rest : List Obligation) (found : Option (ℕ × Rule))
-    → ((e : Edge) → HasEdge (edges b n i u) e → IsCovered b t e)
+    → ((e : Edge) (ticks : ℕ) → HasTimed (timed_edges b n i u) e ticks → IsCovered b t e)
     → IsFirstFault b p t (after_duties b n i u ++ rest) found → TellsOr DutyOrTicks b p t rest found
 tells_after b p t n i u rest found covered h =
     let es = of_edges n (timed_edges b n i u) in
     or_further DutyOrTicks b p t (of_end n u i ++ rest) rest found
-    (tells_edges DutyOrTicks b p t n (worst_ticks b i) (edges b n i u) (of_end n u i ++ rest) found
+    (tells_edges DutyOrTicks b p t n (timed_edges b n i u) (of_end n u i ++ rest) found
     (inr refl) covered
     (subst (λ os. IsFirstFault b p t os found) (append_assoc es (of_end n u i) rest) h))
     (tells_end DutyOrTicks b p t n u i rest found (inr refl))
@@ -363,9 +363,10 @@ tells_duty_or_ticks b p t (verdict.Accepted bound) k is = tt
 tells_duty_or_ticks b p t (verdict.Refused place rule) k is =
     tells DutyOrTicks b p t (verdict.Refused place rule) k.places k.rows k.start
     (λ n i u a r rest found.
-    let P : ℕ → Type 0 = λ x. MeetsAll b i u → (e : Edge) → HasEdge (edges b x i u) e
-    → IsCovered b t e in
-    let covered : MeetsAll b i u → (e : Edge) → HasEdge (edges b (0 + n) i u) e → IsCovered b t e =
+    let P : ℕ → Type 0 = λ x. MeetsAll b i u → (e : Edge) (ticks : ℕ)
+    → HasTimed (timed_edges b x i u) e ticks → IsCovered b t e in
+    let covered : MeetsAll b i u → (e : Edge) (ticks : ℕ)
+    → HasTimed (timed_edges b (0 + n) i u) e ticks → IsCovered b t e =
     subst P (at_first n) (k.covered n i u a r) in
     tells_duties DutyOrTicks b p t (0 + n) i u rest found (λ x c. inl c)
     (λ met. tells_after b p t (0 + n) i u rest found (covered met)))

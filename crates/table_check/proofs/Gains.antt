@@ -1,9 +1,9 @@
 -- The least difference of two ranks over spans of counters.
 use Rattle.std.proofs.Common.{◌≡◌, ℕ, zero, suc, ◌+◌, ◌-◌, ◌*◌, ◌^◌, ◌<◌, ◌≤◌, ◌⊎◌, ◌↔◌, List, []}
-use Rattle.std.proofs.Common.{◌∷◌, length, take, get_or, refl, ap, inl, inr, arith, cond}
+use Rattle.std.proofs.Common.{◌∷◌, length, take, get_or, refl, ap, subst, inl, inr, arith, cond}
 use Rattle.std.proofs.Math.Nat.{mul-le-mul_left}
 use Rattle.std.proofs.lemmas.Bool.{cases_lt, cond-true, cond-false, lt-ltb, le-ltb, cond_both}
-use Rattle.std.specs.Prelude.{nat_lt}
+use Rattle.std.specs.Prelude.{nat_lt, replicate}
 use Rattle.std.specs.List.{AllByRecursion}
 use Rattle.facts.specs.declared.domain.span.Span.{Span}
 use Rattle.facts.specs.domain.Rows.{InSpan, InSpans, weight}
@@ -150,6 +150,52 @@ decides_for_all ss ks js base worst next e f h = (
   (λ all.
       omega (arith, all (corner ss ks js) (corner_inside ss ks js h), corner_exact ss ks js e f)),
 )
+
+-- the same with one number more, of arbitrations that are left
+pub decides_with_left : (ss : List Span) (left : Span) (ks js : List ℕ) (k j base worst next : ℕ)
+    → length ks ≡ length ss → length js ≡ length ss → AllByRecursion (λ s. s.lo ≤ s.hi) ss
+    → left.lo ≤ left.hi
+    → (worst + next + ((j - k) * left.hi + loss ss ks js)
+    ≤ base + ((k - j) * left.lo + gain ss ks js))
+    ↔ ((cs : List ℕ) → InSpans ss cs → (l : ℕ) → InSpan left l
+    → worst + (next + weight js cs + j * l) ≤ base + weight ks cs + k * l)
+decides_with_left ss left ks js k j base worst next e f h order = (
+  (λ le cs inside l here. let all = whole.0 le (l ∷ cs) (here, inside) in omega (arith, all)),
+  (λ all. whole.1 (from all)),
+)
+  where
+    whole : (worst + next + loss (left ∷ ss) (k ∷ ks) (j ∷ js)
+        ≤ base + gain (left ∷ ss) (k ∷ ks) (j ∷ js))
+        ↔ ((cs : List ℕ) → InSpans (left ∷ ss) cs
+        → worst + (next + weight (j ∷ js) cs) ≤ base + weight (k ∷ ks) cs)
+    whole = decides_for_all (left ∷ ss) (k ∷ ks) (j ∷ js) base worst next (omega (arith, e))
+        (omega (arith, f)) (order, h)
+
+    from : ((cs : List ℕ) → InSpans ss cs → (l : ℕ) → InSpan left l
+        → worst + (next + weight js cs + j * l) ≤ base + weight ks cs + k * l)
+        → (cs : List ℕ) → InSpans (left ∷ ss) cs
+        → worst + (next + weight (j ∷ js) cs) ≤ base + weight (k ∷ ks) cs
+    from all [] inside = absurd inside
+    from all (l ∷ cs) inside = let one = all cs inside.1 l inside.0 in omega (arith, one)
+
+-- what holds for all that may be left holds for all that were lost, and back
+pub left_inside : (most : ℕ) (lost : Span) (x : ℕ) → lost.hi ≤ most → InSpan lost x
+    → InSpan (record { lo = most - lost.hi; hi = most - lost.lo }) (most - x)
+left_inside most lost x top here =
+    (omega (arith, top, here.0, here.1), omega (arith, here.0, here.1))
+
+pub for_all_left : (most : ℕ) (lost : Span) (P : ℕ → Type 0) → lost.lo ≤ lost.hi → lost.hi ≤ most
+    → ((x : ℕ) → InSpan lost x → P (most - x))
+    → (l : ℕ) → InSpan (record { lo = most - lost.hi; hi = most - lost.lo }) l → P l
+for_all_left most lost P order top all l here =
+    let back : most - (most - l) ≡ l = omega (arith, top, order, here.0, here.1) in
+    subst P back (all (most - l)
+    (omega (arith, top, order, here.0, here.1), omega (arith, top, order, here.0, here.1)))
+
+pub no_weight : (n : ℕ) (cs : List ℕ) → weight (replicate n 0) cs ≡ 0
+no_weight zero cs = refl
+no_weight (suc n) [] = refl
+no_weight (suc n) (c ∷ cs) = omega (arith, no_weight n cs)
 
 pub product_small : (x y : ℕ) → x < 2 ^ 64 → y < 2 ^ 16 → x * y ≤ 2 ^ 80
 product_small x y a b =

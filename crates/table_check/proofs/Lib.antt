@@ -4,6 +4,9 @@ pub mod Obligations
 pub mod Whole
 pub mod AdmittedRuns
 pub mod ByPlace
+pub mod FirstVersion
+pub mod OneTarget
+pub mod FlatCase
 pub mod Firsts
 pub mod Parts
 pub mod Gains

@@ -13,9 +13,8 @@ use Rattle.facts.specs.domain.Rows.{Row, IsRow}
 use Rattle.seq_program.specs.Requests.{Request, request_in}
 use Rattle.facts.specs.duties.Duties.{Meets, MeetsSent}
 use Rattle.facts.specs.transfer.Edges.{Edge}
-use Rattle.facts.specs.transfer.TimedEdges.{timed}
-use Rattle.facts.specs.Steps.{HasEdge}
-use Rattle.facts.specs.transfer.Ticks.{worst_ticks}
+use Rattle.facts.specs.transfer.TimedEdges.{HasTimed}
+use Rattle.facts.specs.transfer.Ticks.{own_ticks}
 use Rattle.table_check.specs.Tables.{Table, row_of}
 use Rattle.table_check.specs.checker.Rules.{IsCovered, Pays, PaysEnd}
 use Rattle.table_check.specs.checker.Obligations.{Obligation, fault_of, shapes, of_edges, of_end}
@@ -33,13 +32,15 @@ hold_back b p t [] ys h = h
 hold_back b p t (x ∷ xs) ys h = hold_back b p t xs ys h.1
 
 -- what holds at an edge
-pub hold_edge : (b : Board) (p : List Instr) (t : Table) (n worst : ℕ)
-    (es : List Edge) (x : Edge)
-    → AllHold b p t (of_edges n (timed worst es)) → HasEdge es x → IsCovered b t x × Pays t worst x
-hold_edge b p t n worst [] x h k = absurd k
-hold_edge b p t n worst (e ∷ es) x h (inl k) =
-    let P : Edge → Type 0 = λ y. IsCovered b t y × Pays t worst y in subst P (sym k) (h.0, h.1.0)
-hold_edge b p t n worst (e ∷ es) x h (inr k) = hold_edge b p t n worst es x h.1.1 k
+pub hold_edge : (b : Board) (p : List Instr) (t : Table) (n : ℕ) (es : List (Edge × ℕ)) (x : Edge)
+    (ticks : ℕ) → AllHold b p t (of_edges n es) → HasTimed es x ticks
+    → IsCovered b t x × Pays b t ticks x
+hold_edge b p t n [] x ticks h k = absurd k
+hold_edge b p t n (e ∷ es) x ticks h (inl k) =
+    let P : Edge → Type 0 = λ y. IsCovered b t y × Pays b t ticks y in
+    let Q : ℕ → Type 0 = λ m. IsCovered b t e.0 × Pays b t m e.0 in
+    subst P (sym k.0) (subst Q (sym k.1) (h.0, h.1.0))
+hold_edge b p t n (e ∷ es) x ticks h (inr k) = hold_edge b p t n es x ticks h.1.1 k
 
 -- what holds at a place
 pub hold_place : (b : Board) (p : List Instr) (t : Table) (is' : List Instr) (rows : Table)
@@ -93,7 +94,7 @@ met_duties b p t n i row h K8 = (others b row (request_in i)).2
 met_duties b p t n i row h K9 = (others b row (request_in i)).3
 
 pub at_end : (b : Board) (p : List Instr) (t : Table) (n : ℕ) (i : Instr) (row : Row)
-    → (i ≡ instr.End) ⊎ (i ≡ instr.Fail) → AllHold b p t (of_end n row i) → PaysEnd row
+    → (i ≡ instr.End) ⊎ (i ≡ instr.Fail) → AllHold b p t (of_end n row i) → PaysEnd b row
 at_end b p t n i row (inl e) h =
     (let P : Instr → Type 0 = λ x. AllHold b p t (of_end n row x) in subst P
     e h).0
@@ -102,9 +103,9 @@ at_end b p t n i row (inr e) h =
     e h).0
 
 pub worst_of_end : (b : Board) (i : Instr) → (i ≡ instr.End) ⊎ (i ≡ instr.Fail)
-    → worst_ticks b i ≡ 1
-worst_of_end b i (inl e) = ap (worst_ticks b) e
-worst_of_end b i (inr e) = ap (worst_ticks b) e
+    → own_ticks b i ≡ 1
+worst_of_end b i (inl e) = ap (own_ticks b) e
+worst_of_end b i (inr e) = ap (own_ticks b) e
 
 -- where none is told to fail, all hold
 pub no_fault : (b : Board) (p : List Instr) (t : Table) (os : List Obligation)

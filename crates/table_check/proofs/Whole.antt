@@ -1,5 +1,6 @@
 -- From a table that keeps the rule book to whole runs.
-use Rattle.std.proofs.Common.{◌≡◌, ◌≤◌, ◌+◌, ◌⊎◌, ℕ, zero, suc, Option, Some, None, List, [], ◌∷◌}
+use Rattle.std.proofs.Common.{◌≡◌, ◌≤◌, ◌+◌, ◌*◌, ◌⊎◌, ℕ, zero, suc, Option, Some, None, List, []}
+use Rattle.std.proofs.Common.{◌∷◌}
 use Rattle.std.proofs.Common.{replicate, slice_get, slice_index, inl, inr, refl, sym, ap}
 use Rattle.std.proofs.Common.{subst, ◌∙◌, arith}
 use Rattle.std.specs.Prelude.{IsTrue, IfSome}
@@ -21,12 +22,13 @@ use Rattle.simulator.specs.StepLaws.{IsReady, StartsAreReady, StepsAreSeen}
 use Rattle.simulator.specs.Steps.{IsStep, IsRun, total_ticks}
 use Rattle.facts.specs.declared.duties.rule.Rule.{Rule}
 use Rattle.facts.specs.declared.domain.source.Source.{Source}
-use Rattle.facts.specs.domain.Rows.{Row, Admits, IsRow, IsFrom, rank, weight, set_at}
-use Rattle.facts.specs.transfer.Edges.{Edge, edges}
+use Rattle.facts.specs.domain.Rows.{Row, Admits, InSpan, IsRow, IsFrom, left_of, rank, weight}
+use Rattle.facts.specs.domain.Rows.{set_at}
+use Rattle.facts.specs.transfer.Edges.{Edge}
 use Rattle.facts.specs.FactLaws.{CoveringRowsAdmit}
 use Rattle.facts.specs.well_formed.Starts.{HoldsStarts}
 use Rattle.facts.specs.Steps.{Leads, IsSoundStep, StepsAreSound, MetDutiesSend}
-use Rattle.facts.specs.transfer.Ticks.{worst_ticks}
+use Rattle.facts.specs.transfer.Ticks.{own_ticks}
 use Rattle.facts.specs.transfer.TimedEdges.{timed_edges}
 use Rattle.table_check.specs.Tables.{Table, row_of}
 use Rattle.table_check.specs.checker.Obligations.{Start, shapes, of_edges, of_end}
@@ -54,7 +56,7 @@ pub record Lasts (b : Board) (t : Table) (m : Machine) (h : List Entry) (n : ℕ
   pub row : Row
   pub there : row_of t m.place ≡ Some row
   pub admits : Admits b row m h
-  pub left : rank row m.counters ≤ n
+  pub left : rank row m.counters (left_of b m.bus) ≤ n
 
 pub record Kept (b : Board) (p : List Instr) (t : Table) (m : Machine) (h : List Entry)
     (n : ℕ) : Type 0 where
@@ -114,8 +116,9 @@ stepped laws b p t is program table m h n a e next k step = by k.stands
               (held b p t m.place step.instr l.row table step.here l.there).all;
         }) step.step
 
-        goes : ((next.ended ≡ Running → ⊥) × IsTrue (is_end step.instr))
-            ⊎ ((next.ended ≡ Running) × Leads b m.place step.instr l.row m next (e ∷ h))
+        goes : ((next.ended ≡ Running → ⊥) × IsTrue (is_end step.instr)
+            × (e.ticks ≤ own_ticks b step.instr))
+            ⊎ ((next.ended ≡ Running) × Leads b m.place step.instr l.row m next (e ∷ h) e.ticks)
             → Stepped b p t h n e next
         goes (inl x) =
             let end = ends_by step.instr x.1 in
@@ -123,11 +126,11 @@ stepped laws b p t is program table m h n a e next k step = by k.stands
             of_edges m.place (timed_edges b m.place step.instr l.row) in
             let last : AllHold b p t (of_end m.place l.row step.instr) =
             hold_back b p t es (of_end m.place l.row step.instr) all.all.1.1.1.1.1 in
-            let pays : 1 ≤ rank l.row m.counters =
-            at_end b p t m.place step.instr l.row end last m.counters
-            l.admits.counters in
-            let worst : worst_ticks b step.instr ≡ 1 = worst_of_end b step.instr end in
-            let ticks = sound.ticks in
+            let pays : 1 ≤ rank l.row m.counters (left_of b m.bus) =
+            at_end b p t m.place step.instr l.row end last m.counters l.admits.counters m.bus.lost
+            l.admits.lost in
+            let worst : own_ticks b step.instr ≡ 1 = worst_of_end b step.instr end in
+            let ticks = x.2 in
             let left = l.left in
             record {
               safe = sound.safe;
@@ -143,17 +146,19 @@ stepped laws b p t is program table m h n a e next k step = by k.stands
             let first : AllHold b p t es = hold_front b p t es (of_end m.place l.row step.instr)
             all.all.1.1.1.1.1 in
             let here =
-            hold_edge b p t m.place (worst_ticks b step.instr) (edges b m.place step.instr l.row)
-            lead.by first lead.there in
+            hold_edge b p t m.place (timed_edges b m.place step.instr l.row) lead.by lead.most first
+            lead.there in
             let to : Row = here.0.0 in
-            let pays : worst_ticks b step.instr + rank to next.counters ≤ rank (Edge.row lead.by)
-            next.counters = here.1 to here.0.1 next.counters (Admits.counters lead.admits) in
-            let ticks = sound.ticks in
+            let pays : lead.most + rank to next.counters (left_of b next.bus)
+            ≤ rank (Edge.row lead.by) next.counters (left_of b next.bus) =
+            here.1 to here.0.1 next.counters (Admits.counters lead.admits) next.bus.lost
+            (Admits.lost lead.admits) in
+            let ticks = lead.within in
             let left = l.left in
             let falls = lead.falls in
             record {
               safe = sound.safe;
-              rest = rank to next.counters;
+              rest = rank to next.counters (left_of b next.bus);
               pays = omega (arith, pays, ticks, left, falls);
               kept = record {
                 ready = ready;
@@ -229,6 +234,7 @@ admits_start b row s first start = record {
       let P : Source → Type 0 = λ x. IsFrom b (start_at s) [] x (slice_index (replicate 8 0) r) in
       subst P (sym (first.sources r)) tt;
   counters = first.counters;
+  lost = let P : ℕ → Type 0 = λ n. InSpan row.lost n in subst P (sym start.fresh) first.lost;
   good = λ d lt g. absurd (first.good d g);
 }
 
@@ -248,8 +254,10 @@ started laws b p t s is program table start =
       admits = admits_start b row s first start;
       left =
           let none : weight row.coeffs (replicate 4 0) ≡ 0 = weight-zeros row.coeffs 4 in
+          let free : row.lost_coeff * left_of b s ≡ 0 =
+          ap (λ k. k * left_of b s) first.lost_coeff ∙ omega arith in
           let same : bound_of t ≡ row.base = ap base_of there in
-          omega (arith, none, same);
+          omega (arith, none, free, same);
     }
 
 -- a machine that runs sends a message that targets can answer

@@ -1,3 +1,4 @@
 pub mod checker
 pub mod text
 pub mod Tables
+pub mod FlatTables

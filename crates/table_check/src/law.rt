@@ -4,6 +4,8 @@ ghost use Rattle.facts.specs.declared.duties.rule.Rule.TheVariants.{K5};
 ghost use Rattle.table_check.specs.checker.Admitted.{StartsAreAdmitted, StepsStayAdmitted};
 ghost use Rattle.table_check.specs.checker.ByPlace.{FollowingTablesTellDuties, InductiveByPlace};
 ghost use Rattle.table_check.specs.checker.ByPlace.{ClosedTablesTellDutiesOrTicks};
+ghost use Rattle.table_check.specs.checker.FirstVersion.{FlatTablesStayAccepted};
+ghost use Rattle.table_check.specs.checker.FirstVersion.{SomeFlatCase, TablesAreJudgedAlike};
 ghost use Rattle.table_check.specs.checker.Obligations.{IsInductive, IsVerdict};
 ghost use Rattle.table_check.specs.checker.SafeTables.{InductiveRunsAreSafe, VerdictsAreSafe};
 ghost use Rattle.table_check.specs.checker.SmallTables.{two_rails, voltage_program, voltage_table};
@@ -50,6 +52,18 @@ pub fn tables_are_judged_by_place()
     ensures duties { FollowingTablesTellDuties }
     ensures ticks { ClosedTablesTellDutiesOrTicks }
 {}
+
+/// The rule book before contentions were counted, in which another controller's frame may stand in
+/// the place of each message: a table that was accepted and counts none stays so, with its bound.
+/// Where no arbitration may be lost, each table's verdict is what it was.
+pub fn uncounted_tables_are_judged()
+    ensures stay { FlatTablesStayAccepted }
+    ensures alike { TablesAreJudgedAlike }
+    // There are such tables, where another controller may win.
+    ensures case { SomeFlatCase }
+{
+    covered_rows_follow();
+}
 
 /// A text is the text of at most one table, and each table that can be written has one.
 pub fn tables_have_texts()

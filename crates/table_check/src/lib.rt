@@ -11,7 +11,7 @@ pub use checker::checking::check;
 pub use checker::verdict::Verdict;
 pub use law::{
     accepted_runs_are_admitted, inductive_runs_are_safe, small_tables_are_judged,
-    tables_are_judged_by_place, tables_have_texts,
+    tables_are_judged_by_place, tables_have_texts, uncounted_tables_are_judged,
 };
 pub use table::{Table, row_at};
 pub use text::fault::TableFault;

@@ -9,5 +9,6 @@ pub(crate) mod set_line;
 pub(crate) mod shape;
 pub(crate) mod span_line;
 pub(crate) mod typed;
+pub(crate) mod version;
 pub(crate) mod writing;
 pub(crate) mod written;

@@ -1,5 +1,5 @@
 -- Rows of the board with two rails: that they are rows, hold the starts, cover one another and pay.
-use Rattle.std.proofs.Common.{◌≡◌, ◌≤◌, ◌<◌, ◌+◌, ℕ, zero, suc, Some, List, [], ◌∷◌}
+use Rattle.std.proofs.Common.{◌≡◌, ◌-◌, ◌≤◌, ◌<◌, ◌+◌, ℕ, zero, suc, Some, List, [], ◌∷◌}
 use Rattle.std.proofs.Common.{replicate, slice_get, slice_index, slice_index_or, refl, sym, subst}
 use Rattle.std.proofs.Common.{arith, inl, lit<, ◌∙◌}
 use Rattle.std.specs.Prelude.{IsTrue, All}
@@ -104,6 +104,9 @@ is_row good span s base few some small of-board most = record {
   coeffs = λ c lt.
       let none : slice_index (replicate 4 0) c ≡ 0 = at_replicate 4 c 0 0 lt in
       omega (arith, none);
+  lost = omega arith;
+  lost_range = omega arith;
+  lost_coeff = omega arith;
 }
   where
     protects : (i : ℕ) → i < 2
@@ -130,6 +133,8 @@ holds_starts base = record {
   regs = zeros_inside 8;
   counters = zeros_inside 4;
   sources = no_source 8;
+  lost = (omega arith, omega arith);
+  lost_coeff = refl;
 }
   where
     zeros : All (λ v. IsTrue (only 0 v)) (0 ∷ [])
@@ -148,6 +153,7 @@ covers good h span u s r base n fewer wider knows = record {
   regs = (wider, zeros_cover 7);
   sources = sources;
   counters = zeros_cover 4;
+  lost = (omega arith, omega arith);
 }
   where
     sources : (x : ℕ)
@@ -163,20 +169,21 @@ no_weight (suc n) (c ∷ counters) = let none = no_weight n counters in omega (a
 
 -- an edge's row is covered, and pays for an instruction of so many ticks
 abbrev pub Leads : Table → ℕ → Edge → Type 0
-Leads t worst e = IsCovered two_rails t e × Pays t worst e
+Leads t worst e = IsCovered two_rails t e × Pays two_rails t worst e
 
 pub leads : (t : Table) (worst to : ℕ) (good h : Set) (span u : Span) (s r : Source) (base n : ℕ)
     → row_of t to ≡ Some (row_at good span s base) → SetCovers h good → SpanCovers span u
     → SourceCovers s r → worst + base ≤ n → Leads t worst (edge to (row_at h u r n))
 leads t worst to good h span u s r base n at fewer wider knows enough = (
   (row_at good span s base, at, covers good h span u s r base n fewer wider knows),
-  λ next there counters inside.
+  λ next there counters inside lost here.
       let same : row_at good span s base ≡ next =
       some_same (row_at good span s base) next (sym at ∙ there) in
-      subst (λ (x : Row). worst + rank x counters ≤ rank (row_at h u r n) counters) same
+      subst (λ (x : Row). worst + rank x counters (0 - lost)
+      ≤ rank (row_at h u r n) counters (0 - lost)) same
       (let none = no_weight 4 counters in omega (arith, none, enough)),
 )
 
 pub pays_end : (good : Set) (span : Span) (s : Source) (base : ℕ) → 1 ≤ base
-    → PaysEnd (row_at good span s base)
-pays_end good span s base enough counters inside = omega (arith, enough)
+    → PaysEnd two_rails (row_at good span s base)
+pays_end good span s base enough counters inside lost here = omega (arith, enough)

@@ -89,8 +89,8 @@ without_a_tick keeps =
     let both = (by_place two_rails (voltage_program 4505) (voltage_table 113)).0 keeps in
     let i = to.Write 0 vout_command_code (written.Word 4505) 2 in
     let falls = (both.0.goes_on 0 i (known_row 113) refl refl
-    (both.1 0 i (known_row 113) refl refl)).falls (edge 1 (known_row 113)) (inl refl) (known_row 1)
-    refl (replicate 4 0) (zeros_inside 4) in
+    (both.1 0 i (known_row 113) refl refl)).falls (edge 1 (known_row 113)) 113 (inl (refl, refl))
+    (known_row 1) refl (replicate 4 0) (zeros_inside 4) 0 (omega arith, omega arith) in
     absurd (omega (arith, falls))
 
 -- place 0 has a row that holds every start, so PAGE may be the rail's

@@ -32,11 +32,16 @@ use Rattle.table_check.specs.text.Lines.{values_below}
 use Rattle.table_check.specs.text.Lines.{byte_words, rail_words, source_words, page_words}
 use Rattle.table_check.specs.text.Lines.{protect_words}
 use Rattle.table_check.specs.text.Lines.{register_words, counter_words, ticks_words}
-use Rattle.table_check.specs.text.Lines.{each_at, place_lines, lines_from, line_of}
-use Rattle.table_check.specs.text.Writable.{IsWordSpan, IsWritable}
+use Rattle.table_check.specs.text.Lines.{each_at, place_lines, lines_from, line_of, lost_words}
+use Rattle.table_check.specs.text.Lines.{lost_lines, factors, words_of_table}
+use Rattle.table_check.specs.text.Texts.{CanBeSaid}
+use Rattle.table_check.specs.declared.text.version.Version.{Version}
+use Rattle.table_check.specs.declared.text.version.Version.TheVariants.{First, Second}
+use Rattle.table_check.specs.text.Writable.{IsWordSpan, IsTypedRow, IsWritable}
 use Rattle.table_check.specs.text.Passes.{parted}
 use Rattle.table_check.proofs.Texts.SetWords.{members_in}
 use Rattle.table_check.proofs.Texts.SpelledRows.{IsKnown}
+use Rattle.table_check.proofs.Texts.PartLines.{each_push}
 use Rattle.table_check.proofs.Texts.Stands.{IsGoodRow, GoodPlace}
 use Rattle.table_check.proofs.Texts.TableRuns.{good_places, each_known, pairs}
 
@@ -187,9 +192,33 @@ ticks_is_line : (base : ℕ) (ks : List ℕ) → base < 2 ^ 64 → AllByRecursio
     → IsLine (ticks_words base ks)
 ticks_is_line base ks less all = and_from _ _ (decimal_word base less) (numbers_are_words ks all)
 
-row_are_lines : (b : Board) (n : ℕ) (r : Row) → IsBoard b → n < 2 ^ 64 → IsGoodRow b r
-    → AllByRecursion IsLine (place_lines b n (Some r))
-row_are_lines b n r board less good =
+lost_is_line : (span : Span) → IsWordSpan span → IsLine (lost_words span)
+lost_is_line span good =
+    and_from _ _ (decimal_word span.lo (let h = good.0 in omega (arith, h)))
+    (and_from _ _ (decimal_word span.hi (let h = good.1 in omega (arith, h))) refl)
+
+all_long : (v : Version) (ks : List ℕ) (k : ℕ) → AllByRecursion (λ k. k < 2 ^ 64) ks → k < 2 ^ 64
+    → AllByRecursion (λ k. k < 2 ^ 64) (factors v ks k)
+all_long First ks k all less = all
+all_long Second ks k all less = each_push (λ k. k < 2 ^ 64) ks k all less
+
+last_are_lines : (v : Version) (r : Row) → IsTypedRow r
+    → AllByRecursion IsLine (lost_lines v r
+    ++ ticks_words r.base (factors v r.coeffs r.lost_coeff) ∷ [])
+last_are_lines v r typed =
+    by v (ticks_is_line r.base (factors v r.coeffs r.lost_coeff) typed.base
+    (all_long v r.coeffs r.lost_coeff (recursion_from_All (λ k. k < 2 ^ 64) r.coeffs typed.coeffs)
+    typed.lost_coeff))
+  where
+    by : (v : Version) → IsLine (ticks_words r.base (factors v r.coeffs r.lost_coeff))
+        → AllByRecursion IsLine (lost_lines v r
+        ++ ticks_words r.base (factors v r.coeffs r.lost_coeff) ∷ [])
+    by First ticks = (ticks, tt)
+    by Second ticks = (lost_is_line r.lost typed.lost, (ticks, tt))
+
+row_are_lines : (v : Version) (b : Board) (n : ℕ) (r : Row) → IsBoard b → n < 2 ^ 64
+    → IsGoodRow v b r → AllByRecursion IsLine (place_lines v b n (Some r))
+row_are_lines v b n r board less good =
     let pages = good.0.page_sets in
     let protects = good.0.protect_sets in
     let regs = good.0.reg_count in
@@ -211,30 +240,38 @@ row_are_lines b n r board less good =
                 (omega (arith, count, regs)) known)
                 (joined_each _ _ (each_line counter_words IsWordSpan 4 counter_is_line 0 r.counters
                 (omega (arith, counters))
-                (recursion_from_All IsWordSpan r.counters good.1.counters)) (
-                  ticks_is_line r.base r.coeffs good.1.base
-                      (recursion_from_All (λ k. k < 2 ^ 64) r.coeffs good.1.coeffs),
-                  tt,
-                )),
+                (recursion_from_All IsWordSpan r.counters good.1.counters))
+                (last_are_lines v r good.1)),
           )),
     )
 
-rows_are_lines : (b : Board) (rows : Table) (n : ℕ) → IsBoard b → n + length rows < 2 ^ 64
-    → AllByRecursion (GoodPlace b) rows → AllByRecursion IsLine (lines_from b n rows)
-rows_are_lines b [] n board few all = tt
-rows_are_lines b (None ∷ rows) n board few all = (
+rows_are_lines : (v : Version) (b : Board) (rows : Table) (n : ℕ) → IsBoard b
+    → n + length rows < 2 ^ 64
+    → AllByRecursion (GoodPlace v b) rows → AllByRecursion IsLine (lines_from v b n rows)
+rows_are_lines v b [] n board few all = tt
+rows_are_lines v b (None ∷ rows) n board few all = (
   and_from _ _ (decimal_word n (omega (arith, few))) refl,
-  rows_are_lines b rows (n + 1) board (omega (arith, few)) all.1,
+  rows_are_lines v b rows (n + 1) board (omega (arith, few)) all.1,
 )
-rows_are_lines b (Some r ∷ rows) n board few all =
-    joined_each (place_lines b n (Some r)) (lines_from b (n + 1) rows)
-    (row_are_lines b n r board (omega (arith, few)) all.0)
-    (rows_are_lines b rows (n + 1) board (omega (arith, few)) all.1)
+rows_are_lines v b (Some r ∷ rows) n board few all =
+    joined_each (place_lines v b n (Some r)) (lines_from v b (n + 1) rows)
+    (row_are_lines v b n r board (omega (arith, few)) all.0)
+    (rows_are_lines v b rows (n + 1) board (omega (arith, few)) all.1)
 
-pub table_are_lines : (b : Board) (t : Table) → IsBoard b → IsWritable b t
-    → AllByRecursion IsLine (lines_from b 0 t)
-table_are_lines b t board w =
-    let few = w.1.few in rows_are_lines b t 0 board (omega (arith, few)) (good_places b t w)
+pub places_are_lines : (v : Version) (b : Board) (t : Table) → IsBoard b → IsWritable b t
+    → CanBeSaid v b t → AllByRecursion IsLine (lines_from v b 0 t)
+places_are_lines v b t board w said =
+    let few = w.1.few in
+    rows_are_lines v b t 0 board (omega (arith, few)) (good_places v b t w said)
+
+pub table_are_lines : (v : Version) (b : Board) (t : Table) → IsBoard b → IsWritable b t
+    → CanBeSaid v b t → AllByRecursion IsLine (words_of_table v b t)
+table_are_lines v b t board w said = by v (places_are_lines v b t board w said)
+  where
+    by : (v : Version) → AllByRecursion IsLine (lines_from v b 0 t)
+        → AllByRecursion IsLine (words_of_table v b t)
+    by First rows = rows
+    by Second rows = (refl, rows)
 
 -- ---- lines and their words
 

@@ -1,10 +1,12 @@
--- The lines of registers, counters and ticks, and the first line of a place.
-use Rattle.std.proofs.Common.{◌≡◌, ℕ, ◌<◌, ◌^◌, ◌==◌, Bool, true, false, List, [], ◌∷◌, length, map}
-use Rattle.std.proofs.Common.{slice_get, Option, Some, None, option_map, option_and_then}
+-- The lines of registers, counters, lost arbitrations and ticks, and the first line of a place.
+use Rattle.std.proofs.Common.{◌≡◌, ℕ, ◌<◌, ◌^◌, ◌==◌, Bool, true, false, List, [], ◌∷◌, ◌++◌}
+use Rattle.std.proofs.Common.{length}
+use Rattle.std.proofs.Common.{map, sym, slice_get, Option, Some, None, option_map, option_and_then}
 use Rattle.std.proofs.Common.{if◌then◌else◌, codes, refl, ap, ◌∙◌, arith, inl, inr}
 use Rattle.std.specs.Str.{bytes_eq}
 use Rattle.std.specs.Fmt.{decimal}
 use Rattle.std.proofs.lemmas.Bool.{cases_Bool}
+use Rattle.std.proofs.lemmas.List.{map-append}
 use Rattle.std.proofs.lemmas.Bool.Decides.{nat_tests}
 use Rattle.board.specs.Boards.{Board}
 use Rattle.board.specs.Valid.{IsBoard}
@@ -14,11 +16,14 @@ use Rattle.facts.specs.declared.domain.source.Source.TheVariants as source
 use Rattle.facts.specs.declared.domain.span.Span.{Span}
 use Rattle.table_check.specs.text.Lines.{Words, register_names, counter_names, name_at}
 use Rattle.table_check.specs.text.Lines.{source_words, register_words, counter_words, ticks_words}
-use Rattle.table_check.specs.text.Lines.{head_words, none_words}
+use Rattle.table_check.specs.text.Lines.{head_words, none_words, lost_words, factors}
+use Rattle.table_check.specs.declared.text.version.Version.{Version}
+use Rattle.table_check.specs.declared.text.version.Version.TheVariants.{First, Second}
 use Rattle.table_check.specs.text.Writable.{IsWordSpan}
 use Rattle.table_check.specs.text.Saying.{after_key, after_name, rail_named, target_named}
 use Rattle.table_check.specs.text.Saying.{number_of, span_of, named_source, source_of, sourced_span}
-use Rattle.table_check.specs.text.Saying.{only_span, register_said, counter_said, five_numbers}
+use Rattle.table_check.specs.text.Saying.{only_span, register_said, counter_said, lost_said}
+use Rattle.table_check.specs.text.Saying.{five_numbers}
 use Rattle.table_check.specs.text.Saying.{numbers_of}
 use Rattle.table_check.specs.text.Saying.{ticks_said, has_row, is_some_of, numbered, head_said}
 use Rattle.table_check.proofs.Texts.Known.{KnownOfNumbers}
@@ -204,12 +209,50 @@ counter_back laws i span less good =
     (ap (option_and_then only_span) (name_back (codes "counter") (name_at counter_names i) _)
     ∙ span_back laws span good)
 
+-- ---- lost arbitrations
+
+pub lost_only : KnownOfNumbers → (ws : Words) (span : Span) → lost_said ws ≡ Some span
+    → (ws ≡ lost_words span) × IsWordSpan span
+lost_only laws ws span e =
+    let q = from_then only_span (after_key (codes "lost") ws) span e in
+    let p = only_only laws q.value span q.gives in
+    (key_only (codes "lost") ws q.value q.there ∙ ap (λ vs. codes "lost" ∷ vs) p.0, p.1)
+
+pub lost_back : KnownOfNumbers → (span : Span) → IsWordSpan span
+    → lost_said (lost_words span) ≡ Some span
+lost_back laws span good =
+    ap (option_and_then only_span)
+    (key_back (codes "lost") (decimal span.lo ∷ decimal span.hi ∷ []))
+    ∙ span_back laws span good
+
 -- ---- ticks
 
-pub record AreTicks (ticks : ℕ × List ℕ) : Type 0 where
+abbrev pub Ticks : Type 0
+Ticks = ℕ × List ℕ × ℕ
+
+-- the first form says no coefficient of lost arbitrations
+abbrev pub IsUnsaid : Version → ℕ → Type 0
+IsUnsaid First lost = lost ≡ 0
+IsUnsaid Second lost = Unit {0}
+
+pub record AreFive (five : ℕ × List ℕ) : Type 0 where
+  pub base : five.0 < 2 ^ 64
+  pub count : length five.1 ≡ 4
+  pub coeffs : EachIs (λ k. k < 2 ^ 64) five.1
+
+pub record AreTicks (v : Version) (ticks : Ticks) : Type 0 where
   pub base : ticks.0 < 2 ^ 64
   pub count : length ticks.1 ≡ 4
   pub coeffs : EachIs (λ k. k < 2 ^ 64) ticks.1
+  pub lost : ticks.2 < 2 ^ 64
+  pub unsaid : IsUnsaid v ticks.2
+
+-- the words of numbers
+abbrev pub numbers_words : Version → Ticks → Words
+numbers_words v ticks = decimal ticks.0 ∷ map decimal (factors v ticks.1 ticks.2)
+
+abbrev AreSaid : Version → Words → Ticks → Type 0
+AreSaid v ws ticks = (ws ≡ numbers_words v ticks) × AreTicks v ticks
 
 five : (b k0 k1 k2 k3 c l0 l1 l2 l3 : List ℕ) → b ≡ c → k0 ≡ l0 → k1 ≡ l1 → k2 ≡ l2 → k3 ≡ l3
     → b ∷ k0 ∷ k1 ∷ k2 ∷ k3 ∷ [] ≡ c ∷ l0 ∷ l1 ∷ l2 ∷ l3 ∷ []
@@ -217,7 +260,7 @@ five b k0 k1 k2 k3 c l0 l1 l2 l3 p q r s t = cc
 
 five_only : KnownOfNumbers → (b k0 k1 k2 k3 : List ℕ) (ticks : ℕ × List ℕ)
     → five_numbers b k0 k1 k2 k3 ≡ Some ticks
-    → (b ∷ k0 ∷ k1 ∷ k2 ∷ k3 ∷ [] ≡ decimal ticks.0 ∷ map decimal ticks.1) × AreTicks ticks
+    → (b ∷ k0 ∷ k1 ∷ k2 ∷ k3 ∷ [] ≡ decimal ticks.0 ∷ map decimal ticks.1) × AreFive ticks
 unfolding five_numbers
 five_only laws b k0 k1 k2 k3 ticks e =
     let q = from_then _ (number_of b) ticks e in
@@ -235,32 +278,83 @@ five_only laws b k0 k1 k2 k3 ticks e =
       record { base = n.1; count = refl; coeffs = (n0.1, (n1.1, (n2.1, (n3.1, tt)))) },
     )
 
-numbers_only : KnownOfNumbers → (ws : Words) (ticks : ℕ × List ℕ) → numbers_of ws ≡ Some ticks
-    → (ws ≡ decimal ticks.0 ∷ map decimal ticks.1) × AreTicks ticks
-numbers_only laws [] ticks e = absurd (none_some ticks e)
-numbers_only laws (b ∷ []) ticks e = absurd (none_some ticks e)
-numbers_only laws (b ∷ k0 ∷ []) ticks e = absurd (none_some ticks e)
-numbers_only laws (b ∷ k0 ∷ k1 ∷ []) ticks e = absurd (none_some ticks e)
-numbers_only laws (b ∷ k0 ∷ k1 ∷ k2 ∷ []) ticks e = absurd (none_some ticks e)
-numbers_only laws (b ∷ k0 ∷ k1 ∷ k2 ∷ k3 ∷ []) ticks e = five_only laws b k0 k1 k2 k3 ticks e
-numbers_only laws (b ∷ k0 ∷ k1 ∷ k2 ∷ k3 ∷ x ∷ more) ticks e = absurd (none_some ticks e)
+abbrev with' : Option ℕ → ℕ × List ℕ → Option Ticks
+with' lost f = option_map (λ (k : ℕ). (f.0, f.1, k)) lost
 
-pub ticks_only : KnownOfNumbers → (ws : Words) (ticks : ℕ × List ℕ) → ticks_said ws ≡ Some ticks
-    → (ws ≡ ticks_words ticks.0 ticks.1) × AreTicks ticks
-ticks_only laws ws ticks e =
-    let q = from_then numbers_of (after_key (codes "ticks") ws) ticks e in
-    let p = numbers_only laws q.value ticks q.gives in
+first_only : KnownOfNumbers → (ws : Words) (ticks : Ticks) → numbers_of First ws ≡ Some ticks
+    → AreSaid First ws ticks
+first_only laws [] ticks e = absurd (none_some ticks e)
+first_only laws (b ∷ []) ticks e = absurd (none_some ticks e)
+first_only laws (b ∷ k0 ∷ []) ticks e = absurd (none_some ticks e)
+first_only laws (b ∷ k0 ∷ k1 ∷ []) ticks e = absurd (none_some ticks e)
+first_only laws (b ∷ k0 ∷ k1 ∷ k2 ∷ []) ticks e = absurd (none_some ticks e)
+first_only laws (b ∷ k0 ∷ k1 ∷ k2 ∷ k3 ∷ []) ticks e =
+    let q = from_then (with' (Some 0)) (five_numbers b k0 k1 k2 k3) ticks e in
+    let p = five_only laws b k0 k1 k2 k3 q.value q.there in
+    let r = from_map (λ (k : ℕ). (q.value.0, q.value.1, k)) (Some 0) ticks q.gives in
+    let zero_there : 0 ≡ r.value = same_some 0 r.value r.there in
+    rw (← r.is) (
+      p.0,
+      record {
+        base = p.1.base;
+        count = p.1.count;
+        coeffs = p.1.coeffs;
+        lost = omega (arith, zero_there);
+        unsaid = sym zero_there;
+      },
+    )
+first_only laws (b ∷ k0 ∷ k1 ∷ k2 ∷ k3 ∷ x ∷ more) ticks e = absurd (none_some ticks e)
+
+second_only : KnownOfNumbers → (ws : Words) (ticks : Ticks) → numbers_of Second ws ≡ Some ticks
+    → AreSaid Second ws ticks
+second_only laws [] ticks e = absurd (none_some ticks e)
+second_only laws (b ∷ []) ticks e = absurd (none_some ticks e)
+second_only laws (b ∷ k0 ∷ []) ticks e = absurd (none_some ticks e)
+second_only laws (b ∷ k0 ∷ k1 ∷ []) ticks e = absurd (none_some ticks e)
+second_only laws (b ∷ k0 ∷ k1 ∷ k2 ∷ []) ticks e = absurd (none_some ticks e)
+second_only laws (b ∷ k0 ∷ k1 ∷ k2 ∷ k3 ∷ []) ticks e = absurd (none_some ticks e)
+second_only laws (b ∷ k0 ∷ k1 ∷ k2 ∷ k3 ∷ x ∷ []) ticks e =
+    let q = from_then (with' (number_of x)) (five_numbers b k0 k1 k2 k3) ticks e in
+    let p = five_only laws b k0 k1 k2 k3 q.value q.there in
+    let r = from_map (λ (k : ℕ). (q.value.0, q.value.1, k)) (number_of x) ticks q.gives in
+    let n = number_only laws x r.value r.there in
+    rw (← r.is) (
+      ap (λ (ls : Words). ls ++ x ∷ []) p.0
+          ∙ ap (λ (y : List ℕ). decimal q.value.0 ∷ (map decimal q.value.1 ++ y ∷ [])) n.0
+          ∙ ap (λ (ls : Words). decimal q.value.0 ∷ ls)
+          (sym (map-append decimal q.value.1 (r.value ∷ []))),
+      record {
+        base = p.1.base;
+        count = p.1.count;
+        coeffs = p.1.coeffs;
+        lost = n.1;
+        unsaid = tt;
+      },
+    )
+second_only laws (b ∷ k0 ∷ k1 ∷ k2 ∷ k3 ∷ x ∷ y ∷ more) ticks e = absurd (none_some ticks e)
+
+numbers_only : KnownOfNumbers → (v : Version) (ws : Words) (ticks : Ticks)
+    → numbers_of v ws ≡ Some ticks → AreSaid v ws ticks
+numbers_only laws First ws ticks e = first_only laws ws ticks e
+numbers_only laws Second ws ticks e = second_only laws ws ticks e
+
+pub ticks_only : KnownOfNumbers → (v : Version) (ws : Words) (ticks : Ticks)
+    → ticks_said v ws ≡ Some ticks
+    → (ws ≡ ticks_words ticks.0 (factors v ticks.1 ticks.2)) × AreTicks v ticks
+ticks_only laws v ws ticks e =
+    let q = from_then (numbers_of v) (after_key (codes "ticks") ws) ticks e in
+    let p = numbers_only laws v q.value ticks q.gives in
     (key_only (codes "ticks") ws q.value q.there ∙ ap (λ vs. codes "ticks" ∷ vs) p.0, p.1)
 
-five_back : KnownOfNumbers → (b : ℕ) (ks : List ℕ) → length ks ≡ 4 → b < 2 ^ 64
+first_back : KnownOfNumbers → (b : ℕ) (ks : List ℕ) → length ks ≡ 4 → b < 2 ^ 64
     → EachIs (λ k. k < 2 ^ 64) ks
-    → numbers_of (decimal b ∷ map decimal ks) ≡ Some (b, ks)
+    → numbers_of First (decimal b ∷ map decimal ks) ≡ Some (b, ks, 0)
 unfolding five_numbers
-five_back laws b [] n less all = absurd (omega (arith, n))
-five_back laws b (k0 ∷ []) n less all = absurd (omega (arith, n))
-five_back laws b (k0 ∷ k1 ∷ []) n less all = absurd (omega (arith, n))
-five_back laws b (k0 ∷ k1 ∷ k2 ∷ []) n less all = absurd (omega (arith, n))
-five_back laws b (k0 ∷ k1 ∷ k2 ∷ k3 ∷ []) n less all =
+first_back laws b [] n less all = absurd (omega (arith, n))
+first_back laws b (k0 ∷ []) n less all = absurd (omega (arith, n))
+first_back laws b (k0 ∷ k1 ∷ []) n less all = absurd (omega (arith, n))
+first_back laws b (k0 ∷ k1 ∷ k2 ∷ []) n less all = absurd (omega (arith, n))
+first_back laws b (k0 ∷ k1 ∷ k2 ∷ k3 ∷ []) n less all =
     rw (
       number_back laws b less,
       number_back laws k0 all.0,
@@ -268,14 +362,41 @@ five_back laws b (k0 ∷ k1 ∷ k2 ∷ k3 ∷ []) n less all =
       number_back laws k2 all.1.1.0,
       number_back laws k3 all.1.1.1.0,
     ) refl
-five_back laws b (k0 ∷ k1 ∷ k2 ∷ k3 ∷ x ∷ more) n less all = absurd (omega (arith, n))
+first_back laws b (k0 ∷ k1 ∷ k2 ∷ k3 ∷ x ∷ more) n less all = absurd (omega (arith, n))
 
-pub ticks_back : KnownOfNumbers → (ticks : ℕ × List ℕ) → AreTicks ticks
-    → ticks_said (ticks_words ticks.0 ticks.1) ≡ Some ticks
-ticks_back laws ticks good =
-    ap (option_and_then numbers_of)
-    (key_back (codes "ticks") (decimal ticks.0 ∷ map decimal ticks.1))
-    ∙ five_back laws ticks.0 ticks.1 good.count good.base good.coeffs
+second_back : KnownOfNumbers → (b : ℕ) (ks : List ℕ) (lost : ℕ) → length ks ≡ 4 → b < 2 ^ 64
+    → EachIs (λ k. k < 2 ^ 64) ks → lost < 2 ^ 64
+    → numbers_of Second (decimal b ∷ map decimal (ks ++ lost ∷ [])) ≡ Some (b, ks, lost)
+unfolding five_numbers
+second_back laws b [] lost n less all few = absurd (omega (arith, n))
+second_back laws b (k0 ∷ []) lost n less all few = absurd (omega (arith, n))
+second_back laws b (k0 ∷ k1 ∷ []) lost n less all few = absurd (omega (arith, n))
+second_back laws b (k0 ∷ k1 ∷ k2 ∷ []) lost n less all few = absurd (omega (arith, n))
+second_back laws b (k0 ∷ k1 ∷ k2 ∷ k3 ∷ []) lost n less all few =
+    rw (
+      number_back laws b less,
+      number_back laws k0 all.0,
+      number_back laws k1 all.1.0,
+      number_back laws k2 all.1.1.0,
+      number_back laws k3 all.1.1.1.0,
+      number_back laws lost few,
+    ) refl
+second_back laws b (k0 ∷ k1 ∷ k2 ∷ k3 ∷ x ∷ more) lost n less all few =
+    absurd (omega (arith, n))
+
+numbers_back : KnownOfNumbers → (v : Version) (ticks : Ticks) → AreTicks v ticks
+    → numbers_of v (numbers_words v ticks) ≡ Some ticks
+numbers_back laws First ticks good =
+    first_back laws ticks.0 ticks.1 good.count good.base good.coeffs
+    ∙ ap (λ (k : ℕ). Some (ticks.0, ticks.1, k)) (sym good.unsaid)
+numbers_back laws Second ticks good =
+    second_back laws ticks.0 ticks.1 ticks.2 good.count good.base good.coeffs good.lost
+
+pub ticks_back : KnownOfNumbers → (v : Version) (ticks : Ticks) → AreTicks v ticks
+    → ticks_said v (ticks_words ticks.0 (factors v ticks.1 ticks.2)) ≡ Some ticks
+ticks_back laws v ticks good =
+    ap (option_and_then (numbers_of v)) (key_back (codes "ticks") (numbers_words v ticks))
+    ∙ numbers_back laws v ticks good
 
 -- ---- the first line of a place
 

@@ -13,12 +13,14 @@ use Rattle.board.specs.Valid.{IsBoard}
 use Rattle.seq_program.specs.JoinedWords.{is_word, LinesReadBack}
 use Rattle.table_check.specs.declared.text.fault.TableFault.{TableFault}
 use Rattle.table_check.specs.Tables.{Table}
-use Rattle.table_check.specs.text.Lines.{Words, lines_from, line_of, ended, table_text, head_words}
+use Rattle.table_check.specs.text.Lines.{Words, words_of_table, line_of, ended, table_text}
+use Rattle.table_check.specs.text.Lines.{head_words}
+use Rattle.table_check.specs.declared.text.version.Version.TheVariants.{Second}
 use Rattle.table_check.specs.text.Writable.{IsWritable, IsShaped, IsTyped}
 use Rattle.table_check.specs.text.Texts.{IsTextOf}
 use Rattle.table_check.specs.text.TextLaws.{TextsHaveOneTable, TablesHaveTexts, BoardsHaveTables}
 use Rattle.table_check.specs.text.Written.{all_spaced, line_text, text_of}
-use Rattle.table_check.specs.text.Passes.{no_part}
+use Rattle.table_check.specs.text.Passes.{Part, no_part}
 use Rattle.table_check.proofs.Texts.Known.{KnownOfNumbers}
 use Rattle.table_check.proofs.Texts.Stands.{ran, Stands, nothing_read}
 use Rattle.table_check.proofs.Texts.Fills.{at, past}
@@ -45,8 +47,8 @@ texts_ended (words ∷ wss) =
     ap (λ (line : List ℕ). line ++ text_of wss) (line_ended words)
     ∙ ap (λ (rest : List ℕ). ended (line_of words) ++ rest) (texts_ended wss)
 
-pub text_is : (b : Board) (t : Table) → text_of (lines_from b 0 t) ≡ table_text b t
-text_is b t = texts_ended (lines_from b 0 t)
+pub text_is : (b : Board) (t : Table) → text_of (words_of_table Second b t) ≡ table_text b t
+text_is b t = texts_ended (words_of_table Second b t)
 
 -- ---- its lines
 
@@ -69,9 +71,13 @@ all_words (words ∷ wss) all = and_from _ _ (line_words words all.0) (all_words
 pub written_back : LinesReadBack → TablesHaveTexts
 written_back lines b t board w = (
   w,
-  ap lines_by_feed (sym (together (lines_from b 0 t)))
-      ∙ lines (lines_from b 0 t)
-      (all_words (lines_from b 0 t) (table_are_lines b t board w)),
+  (
+    Second,
+    tt,
+    ap lines_by_feed (sym (together (words_of_table Second b t)))
+        ∙ lines (words_of_table Second b t)
+        (all_words (words_of_table Second b t) (table_are_lines Second b t board w tt)),
+  ),
 )
 
 pub text_read : LinesReadBack → (b : Board) (t : Table) (text : List ℕ) → IsBoard b → IsShaped b t
@@ -95,13 +101,16 @@ one_table laws b t u text board p q =
 
 pub some_table : KnownOfNumbers → LinesReadBack → BoardsHaveTables
 some_table laws lines b board =
-    let c = completed_by laws b [] no_part None refl board (nothing_read b) in
-    let before : Stands b (at [] no_part) (head_words 0 ∷ []) =
-    record { rows = tt; part = nothing_read b; all = refl } in
+    let part : Part = no_part Second b in
+    let good = nothing_read Second b board in
+    let c = completed_by laws Second b [] part None refl board good in
+    let before : Stands Second b (at Second [] part) (head_words 0 ∷ []) =
+    record { version = refl; rows = tt; part = good; all = refl } in
     let s =
-    ran laws b c.more (at [] no_part) (head_words 0 ∷ []) (past [] c.row) board before c.ran in
+    ran laws Second b c.more (at Second [] part) (head_words 0 ∷ []) (past Second [] c.row) board
+    before c.ran in
     let t : Table = Some c.row ∷ [] in
-    let w : IsWritable b t = writable b t s.rows (lit< tt) in
+    let w : IsWritable b t = writable Second b t s.rows (lit< tt) in
     record {
       table = t;
       row = c.row;
@@ -116,13 +125,13 @@ abbrev Answer : Type 0
 Answer = Result (String Global) AllocError
 
 pub text_written : (b : Board) (t : Table) (r : Answer)
-    → IfOk r (λ text. string_bytes text ≡ text_of (lines_from b 0 t))
+    → IfOk r (λ text. string_bytes text ≡ text_of (words_of_table Second b t))
     → IfOk r (λ text. string_bytes text ≡ table_text b t)
 text_written b t (Ok text) e = e ∙ text_is b t
 text_written b t (Err x) e = tt
 
 pub reads_written : LinesReadBack → (b : Board) (t : Table) (r : Answer) → IsBoard b → IsShaped b t
-    → IsTyped t → IfOk r (λ text. string_bytes text ≡ text_of (lines_from b 0 t))
+    → IsTyped t → IfOk r (λ text. string_bytes text ≡ text_of (words_of_table Second b t))
     → IfOk r (λ text. IsTextOf b t (string_bytes text))
 reads_written lines b t (Ok text) board shaped typed e =
     text_read lines b t (string_bytes text) board shaped (e ∙ text_is b t) typed

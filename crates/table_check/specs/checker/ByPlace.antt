@@ -7,9 +7,8 @@ use Rattle.facts.specs.declared.duties.rule.Rule.{Rule}
 use Rattle.facts.specs.declared.duties.rule.Rule.TheVariants.{K7}
 use Rattle.facts.specs.domain.Rows.{Row, IsRow}
 use Rattle.facts.specs.duties.Duties.{Meets, duties}
-use Rattle.facts.specs.transfer.Edges.{Edge, edges}
-use Rattle.facts.specs.Steps.{HasEdge}
-use Rattle.facts.specs.transfer.Ticks.{worst_ticks}
+use Rattle.facts.specs.transfer.Edges.{Edge}
+use Rattle.facts.specs.transfer.TimedEdges.{HasTimed, timed_edges}
 use Rattle.table_check.specs.Tables.{Table, row_of}
 use Rattle.table_check.specs.declared.checker.verdict.Verdict.{Verdict}
 use Rattle.table_check.specs.declared.checker.verdict.Verdict.TheVariants.{Accepted, Refused}
@@ -18,9 +17,11 @@ use Rattle.table_check.specs.checker.Rules.{IsCovered, Pays, PaysEnd, Starts}
 
 -- K6 and K7 of an instruction at its row
 pub record EdgesHold (b : Board) (t : Table) (place : ℕ) (i : Instr) (row : Row) : Type 0 where
-  pub covered : (e : Edge) → HasEdge (edges b place i row) e → IsCovered b t e
-  pub falls : (e : Edge) → HasEdge (edges b place i row) e → Pays t (worst_ticks b i) e
-  pub ends : IsTrue (is_end i) → PaysEnd row
+  pub covered : (e : Edge) (ticks : ℕ) → HasTimed (timed_edges b place i row) e ticks
+      → IsCovered b t e
+  pub falls : (e : Edge) (ticks : ℕ) → HasTimed (timed_edges b place i row) e ticks
+      → Pays b t ticks e
+  pub ends : IsTrue (is_end i) → PaysEnd b row
 
 -- K1 to K5 of an instruction at its row
 abbrev pub MeetsAll : Board → Instr → Row → Type 0
@@ -42,7 +43,7 @@ pub record IsClosed (b : Board) (p : List Instr) (t : Table) : Type 0 where
   pub start : Starts b t
   pub covered : (place : ℕ) (i : Instr) (row : Row)
       → slice_get p place ≡ Some i → row_of t place ≡ Some row → MeetsAll b i row
-      → (e : Edge) → HasEdge (edges b place i row) e → IsCovered b t e
+      → (e : Edge) (ticks : ℕ) → HasTimed (timed_edges b place i row) e ticks → IsCovered b t e
 
 -- K1 to K5 at each place
 abbrev pub KeepsDuties : Board → List Instr → Table → Type 0

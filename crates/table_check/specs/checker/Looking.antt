@@ -1,10 +1,11 @@
 -- The code's words for what it looks at. No public contract cites this: `Obligations` says what is
 -- asked.
-use Rattle.std.specs.Prelude.{◌≡◌, ℕ, List, [], ◌∷◌, ◌++◌, Option, Some, None, map}
+use Rattle.std.specs.Prelude.{◌≡◌, ℕ, ◌-◌, List, [], ◌∷◌, ◌++◌, Option, Some, None, map}
 use Rattle.std.specs.Prelude.{All, slice_get}
 use Rattle.board.specs.Boards.{Board}
 use Rattle.seq_program.specs.declared.instr.Instr.{Instr}
 use Rattle.facts.specs.declared.domain.row.Row.{Row as CodeRow}
+use Rattle.facts.specs.declared.domain.span.Span.{Span}
 use Rattle.facts.specs.domain.Rows.{Row, row_view, IsRow}
 use Rattle.facts.specs.FactLaws.{IsShaped}
 use Rattle.facts.specs.transfer.Ways.{timed_view}
@@ -18,6 +19,10 @@ HasRowsOf b t = (place : ℕ) (row : Row) → row_of t place ≡ Some row → Is
 
 abbrev pub AreShapedEdges : Board → List (ℕ × CodeRow × ℕ) → Type 0
 AreShapedEdges b edges = All (λ e. IsShaped b (row_view e.1)) edges
+
+-- how many arbitrations may still be lost, where so many were lost
+abbrev pub left_in : Board → Span → Span
+left_in b lost = record { lo = b.contentions - lost.hi; hi = b.contentions - lost.lo }
 
 -- what is owed along edges
 abbrev pub of_code : ℕ → List (ℕ × CodeRow × ℕ) → List Obligation

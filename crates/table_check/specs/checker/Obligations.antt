@@ -31,8 +31,8 @@ Holds b p t (Shape place row) = IsRow b row
 Holds b p t Start = Starts b t
 Holds b p t (Duty place i row rule) = Meets b row i rule
 Holds b p t (Covered place e) = IsCovered b t e
-Holds b p t (Falls place worst e) = Pays t worst e
-Holds b p t (FallsEnd place row) = PaysEnd row
+Holds b p t (Falls place worst e) = Pays b t worst e
+Holds b p t (FallsEnd place row) = PaysEnd b row
 
 -- the place and the rule that are told where it fails
 abbrev pub fault_of : Obligation → ℕ × Rule

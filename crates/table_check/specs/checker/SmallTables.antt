@@ -70,8 +70,10 @@ row_at good span s base = record {
   regs = span ∷ replicate 7 (one 0);
   sources = s ∷ replicate 7 source.None;
   counters = replicate 4 (one 0);
+  lost = one 0;
   base = base;
   coeffs = replicate 4 0;
+  lost_coeff = 0;
 }
 
 -- no rail is known to be good, and r0 is 0

@@ -1,4 +1,4 @@
--- The lines of a table. Sets of pages and of protections are listed by their values.
+-- The lines of a table, in both forms. Sets of pages and of protections are listed by their values.
 use Rattle.std.specs.Prelude.{ℕ, ◌+◌, List, [], ◌∷◌, ◌++◌, length, map, filter, slice_get}
 use Rattle.std.specs.Prelude.{Option, Some, None, unwrap_or, codes, zip}
 use Rattle.std.specs.List.{range_with_len, join_with_byte, flat_map}
@@ -11,6 +11,8 @@ use Rattle.facts.specs.declared.domain.source.Source.{Source}
 use Rattle.facts.specs.declared.domain.source.Source.TheVariants as source
 use Rattle.facts.specs.declared.domain.span.Span.{Span}
 use Rattle.table_check.specs.Tables.{Table}
+use Rattle.table_check.specs.declared.text.version.Version.{Version}
+use Rattle.table_check.specs.declared.text.version.Version.TheVariants.{First, Second}
 use Rattle.texts.specs.Ascii as ascii
 
 -- the words of a line
@@ -72,7 +74,28 @@ abbrev pub counter_words : ℕ → Span → Words
 counter_words counter span =
     codes "counter" ∷ name_at counter_names counter ∷ decimal span.lo ∷ decimal span.hi ∷ []
 
--- `ticks BASE K0 K1 K2 K3`
+-- the second form says so first: `version 2`
+abbrev pub version_words : Words
+version_words = codes "version" ∷ codes "2" ∷ []
+
+abbrev pub version_lines : Version → List Words
+version_lines First = []
+version_lines Second = version_words ∷ []
+
+-- and has a line for lost arbitrations: `lost LO HI`
+abbrev pub lost_words : Span → Words
+lost_words span = codes "lost" ∷ decimal span.lo ∷ decimal span.hi ∷ []
+
+abbrev pub lost_lines : Version → Row → List Words
+lost_lines First r = []
+lost_lines Second r = lost_words r.lost ∷ []
+
+-- whose coefficient comes last
+abbrev pub factors : Version → List ℕ → ℕ → List ℕ
+factors First coeffs lost = coeffs
+factors Second coeffs lost = coeffs ++ lost ∷ []
+
+-- `ticks BASE K0 K1 K2 K3`, and in the second form `K`
 abbrev pub ticks_words : ℕ → List ℕ → Words
 ticks_words base coeffs = codes "ticks" ∷ decimal base ∷ map decimal coeffs
 
@@ -89,32 +112,35 @@ each_at words_at index [] = []
 each_at words_at index (x ∷ xs) = words_at index x ∷ each_at words_at (index + 1) xs
 
 -- the lines of a place without a row, and with one
-abbrev pub place_lines : Board → ℕ → Option Row → List Words
-place_lines b place None = none_words place ∷ []
-place_lines b place (Some r) =
+abbrev pub place_lines : Version → Board → ℕ → Option Row → List Words
+place_lines v b place None = none_words place ∷ []
+place_lines v b place (Some r) =
     head_words place
     ∷ (each_at (page_words b) 0 r.pages
     ++ (each_at (protect_words b) 0 r.protects
     ++ (good_words b r.good
     ∷ (each_at (register_words b) 0 (zip r.regs r.sources)
     ++ (each_at counter_words 0 r.counters
-    ++ ticks_words r.base r.coeffs ∷ [])))))
+    ++ (lost_lines v r ++ ticks_words r.base (factors v r.coeffs r.lost_coeff) ∷ []))))))
 
 -- those of all places from one on
-abbrev pub lines_from : Board → ℕ → Table → List Words
-lines_from b place [] = []
-lines_from b place (r ∷ rows) = place_lines b place r ++ lines_from b (place + 1) rows
+abbrev pub lines_from : Version → Board → ℕ → Table → List Words
+lines_from v b place [] = []
+lines_from v b place (r ∷ rows) = place_lines v b place r ++ lines_from v b (place + 1) rows
+
+abbrev pub words_of_table : Version → Board → Table → List Words
+words_of_table v b t = version_lines v ++ lines_from v b 0 t
 
 -- words are parted by one space
 abbrev pub line_of : Words → List ℕ
 line_of words = join_with_byte ascii.space words
 
-abbrev pub table_lines : Board → Table → List (List ℕ)
-table_lines b t = map line_of (lines_from b 0 t)
+abbrev pub table_lines : Version → Board → Table → List (List ℕ)
+table_lines v b t = map line_of (words_of_table v b t)
 
--- each line ends with LF
+-- a table is written in the second form; each line ends with LF
 abbrev pub ended : List ℕ → List ℕ
 ended line = line ++ ascii.line_feed ∷ []
 
 abbrev pub table_text : Board → Table → List ℕ
-table_text b t = flat_map ended (table_lines b t)
+table_text b t = flat_map ended (table_lines Second b t)

@@ -11,6 +11,8 @@ use Rattle.facts.specs.domain.Sets.{Set, is_rail, set_of}
 use Rattle.facts.specs.declared.domain.source.Source.{Source}
 use Rattle.facts.specs.declared.domain.source.Source.TheVariants as source
 use Rattle.facts.specs.declared.domain.span.Span.{Span}
+use Rattle.table_check.specs.declared.text.version.Version.{Version}
+use Rattle.table_check.specs.declared.text.version.Version.TheVariants.{First, Second}
 use Rattle.table_check.specs.text.Lines.{Words, register_names, counter_names}
 
 -- what follows a key
@@ -111,12 +113,24 @@ five_numbers base k0 k1 k2 k3 =
     option_map (λ n3. (b, n0 ∷ n1 ∷ n2 ∷ n3 ∷ [])) (number_of k3)) (number_of k2))
     (number_of k1)) (number_of k0)) (number_of base)
 
-abbrev pub numbers_of : Words → Option (ℕ × List ℕ)
-numbers_of (base ∷ k0 ∷ k1 ∷ k2 ∷ k3 ∷ []) = five_numbers base k0 k1 k2 k3
-numbers_of _ = None
+-- and in the second form that of lost arbitrations
+abbrev pub with_factor : Option (ℕ × List ℕ) → Option ℕ → Option (ℕ × List ℕ × ℕ)
+with_factor five lost =
+    option_and_then (λ f. option_map (λ k. (f.0, f.1, k)) lost) five
 
-abbrev pub ticks_said : Words → Option (ℕ × List ℕ)
-ticks_said words = option_and_then numbers_of (after_key (codes "ticks") words)
+abbrev pub numbers_of : Version → Words → Option (ℕ × List ℕ × ℕ)
+numbers_of First (base ∷ k0 ∷ k1 ∷ k2 ∷ k3 ∷ []) =
+    with_factor (five_numbers base k0 k1 k2 k3) (Some 0)
+numbers_of Second (base ∷ k0 ∷ k1 ∷ k2 ∷ k3 ∷ lost ∷ []) =
+    with_factor (five_numbers base k0 k1 k2 k3) (number_of lost)
+numbers_of _ _ = None
+
+abbrev pub ticks_said : Version → Words → Option (ℕ × List ℕ × ℕ)
+ticks_said v words = option_and_then (numbers_of v) (after_key (codes "ticks") words)
+
+-- the line of lost arbitrations
+abbrev pub lost_said : Words → Option Span
+lost_said words = option_and_then only_span (after_key (codes "lost") words)
 
 -- whether the place of this number has a row, by what follows the number
 abbrev pub has_row : Words → Option Bool

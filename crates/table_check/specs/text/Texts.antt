@@ -6,25 +6,36 @@ use Rattle.table_check.specs.declared.text.fault.TableFault.{TableFault}
 use Rattle.table_check.specs.declared.text.fault.TableFault.TheVariants as fault
 use Rattle.table_check.specs.declared.table.Table.{Table as CodeTable}
 use Rattle.table_check.specs.Tables.{Table, table_view}
+use Rattle.table_check.specs.FlatTables.{IsFlat}
+use Rattle.table_check.specs.declared.text.version.Version.{Version}
+use Rattle.table_check.specs.declared.text.version.Version.TheVariants.{First, Second}
 use Rattle.table_check.specs.text.Lines.{table_lines}
 use Rattle.table_check.specs.text.Writable.{IsWritable}
 
 abbrev pub Lines : Type 0
 Lines = List (List ℕ)
 
--- the table can be written, and these are its lines
+-- a text of the first form says nothing of lost arbitrations
+abbrev pub CanBeSaid : Version → Board → Table → Type 0
+CanBeSaid First b t = IsFlat b t
+CanBeSaid Second b t = Unit {0}
+
+-- the table can be written, and these are its lines in one of the forms
 abbrev pub AreLinesOf : Board → Table → Lines → Type 0
-AreLinesOf b t lines = IsWritable b t × (lines ≡ table_lines b t)
+AreLinesOf b t lines =
+    IsWritable b t × ((v : Version) × CanBeSaid v b t × (lines ≡ table_lines v b t))
 
 abbrev pub IsTextOf : Board → Table → List ℕ → Type 0
 IsTextOf b t text = AreLinesOf b t (lines_by_feed text)
 
 -- lines with which some table's lines begin
 pub record Begins (b : Board) (lines : Lines) : Type 0 where
+  pub version : Version
   pub table : Table
   pub writable : IsWritable b table
+  pub said : CanBeSaid version b table
   pub more : Lines
-  pub all : table_lines b table ≡ lines ++ more
+  pub all : table_lines version b table ≡ lines ++ more
 
 -- up to the line before this one some table's lines begin so, with it none
 pub record IsWrongAt (b : Board) (lines : Lines) (before : ℕ) : Type 0 where

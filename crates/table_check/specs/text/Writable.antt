@@ -36,6 +36,8 @@ pub record IsTypedRow (r : Row) : Type 0 where
   pub counters : All IsWordSpan r.counters
   pub base : r.base < 2 ^ 64
   pub coeffs : All (λ k. k < 2 ^ 64) r.coeffs
+  pub lost : IsWordSpan r.lost
+  pub lost_coeff : r.lost_coeff < 2 ^ 64
 
 -- the numbers of the places have 64 bits as well
 pub record IsTyped (t : Table) : Type 0 where

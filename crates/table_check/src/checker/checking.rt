@@ -41,7 +41,7 @@ fn instr_fault(
     let edges = shaped_edges(alloc, board, program, place, instr, row)?;
     match edges_fault(board, rows, place, &edges) {
         Some(fault) => Ok(Some(fault)),
-        None => Ok(end_fault(place, instr, row)),
+        None => Ok(end_fault(board, place, instr, row)),
     }
 }
 

@@ -1,8 +1,6 @@
 //! Whether the edges of a place keep the rules.
 
 ghost use Rattle.std.specs.Prelude.{◌≡◌, ◌≤◌, ◌∷◌, [], ℕ, List, IfOk, map, slice_get, Some};
-ghost use Rattle.std.specs.Prelude.{All};
-ghost use Rattle.board.specs.Boards.{Board};
 ghost use Rattle.seq_program.specs.declared.instr.Instr.{Instr};
 ghost use Rattle.facts.specs.declared.duties.rule.Rule.TheVariants.{K1};
 ghost use Rattle.facts.specs.duties.Duties.{Meets};
@@ -13,7 +11,6 @@ ghost use Rattle.facts.specs.transfer.Ways.{timed_view};
 ghost use Rattle.table_check.specs.Tables.{Table, rows_view};
 ghost use Rattle.table_check.specs.checker.Looking.{AreShapedEdges, HasRowsOf, of_code};
 ghost use Rattle.table_check.specs.checker.Obligations.{FallsEnd, IsFirstFault, of_end};
-ghost use Rattle.seq_program.specs.declared.instr.TheConstants.{MOST_TURNS};
 
 use crate::checker::paying::{pays, pays_end};
 use crate::table::row_at;
@@ -64,7 +61,7 @@ fn edge_fault(
     };
     if !next.covers(row) {
         Some((place, Rule::K6))
-    } else if !pays(*worst, next, row) {
+    } else if !pays(board, *worst, next, row) {
         Some((place, Rule::K7))
     } else {
         None
@@ -92,12 +89,12 @@ pub(crate) fn edges_fault(
 }
 
 /// K7 at an end: whether a tick is left there.
-fn last_fault(place: usize, row: &Row) -> Option<(usize, Rule)>
-    requires { All (λ s. (s.lo ≤ s.hi) × (s.hi ≤ MOST_TURNS)) row.now.counters }
-    ensures { (b : Board) (p : List Instr) (t : Table)
-        → IsFirstFault b p t (FallsEnd place (row_view row.now) ∷ []) result }
+fn last_fault(board: &Board, place: usize, row: &Row) -> Option<(usize, Rule)>
+    requires { IsRow board.now (row_view row.now) }
+    ensures { (p : List Instr) (t : Table)
+        → IsFirstFault board.now p t (FallsEnd place (row_view row.now) ∷ []) result }
 {
-    if pays_end(row) {
+    if pays_end(board, row) {
         None
     } else {
         Some((place, Rule::K7))
@@ -105,14 +102,19 @@ fn last_fault(place: usize, row: &Row) -> Option<(usize, Rule)>
 }
 
 /// The rule that an instruction breaks which ends the program.
-pub(crate) fn end_fault(place: usize, instr: &Instr, row: &Row) -> Option<(usize, Rule)>
-    requires { All (λ s. (s.lo ≤ s.hi) × (s.hi ≤ MOST_TURNS)) row.now.counters }
-    ensures { (b : Board) (p : List Instr) (t : Table)
-        → IsFirstFault b p t (of_end place (row_view row.now) instr.now) result }
+pub(crate) fn end_fault(
+    board: &Board,
+    place: usize,
+    instr: &Instr,
+    row: &Row,
+) -> Option<(usize, Rule)>
+    requires { IsRow board.now (row_view row.now) }
+    ensures { (p : List Instr) (t : Table)
+        → IsFirstFault board.now p t (of_end place (row_view row.now) instr.now) result }
 {
     match instr {
-        Instr::End => last_fault(place, row),
-        Instr::Fail => last_fault(place, row),
+        Instr::End => last_fault(board, place, row),
+        Instr::Fail => last_fault(board, place, row),
         _ => None,
     }
 }

@@ -8,12 +8,13 @@ ghost use Rattle.table_check.specs.declared.text.fault.TableFault.TheVariants.{B
 ghost use Rattle.table_check.specs.text.Faults.{Gives};
 ghost use Rattle.table_check.specs.text.Passes.{part_view, no_part, is_full, with_set};
 ghost use Rattle.table_check.specs.text.Passes.{with_good, with_register, with_counter, with_line};
-ghost use Rattle.table_check.specs.text.Passes.{finished};
+ghost use Rattle.table_check.specs.text.Passes.{finished, with_lost, unsaid_lost};
 
 use crate::text::fault::TableFault;
 use crate::text::row_line::ticks_said;
 use crate::text::set_line::{good_said, set_said};
-use crate::text::span_line::{counter_said, register_said};
+use crate::text::span_line::{counter_said, lost_said, register_said};
+use crate::text::version::Version;
 use board::Board;
 use facts::{ByteSet, GoodSet, Kind, PageSet, ProtectSet, Row, Source, Span};
 use std::alloc::{AllocError, Global};
@@ -26,6 +27,7 @@ pub(crate) struct Part {
     pub good: Option<GoodSet>,
     pub regs: Vec<(Span, Source)>,
     pub counters: Vec<Span>,
+    pub lost: Option<Span>,
 }
 
 fn spans(known: &[(Span, Source)]) -> [Span; 8]
@@ -79,17 +81,32 @@ fn add_set<K: Kind>(
     Ok(())
 }
 
+/// How many arbitrations may be lost where no line says it.
+fn unsaid_lost(version: Version, board: &Board) -> Option<Span>
+    ensures { result ≡ unsaid_lost version board.now }
+{
+    match version {
+        Version::First => Some(Span {
+            lo: 0,
+            hi: board.contentions(),
+        }),
+        Version::Second => None,
+    }
+}
+
 impl Part {
-    /// Nothing of a row of so many targets.
-    pub(crate) fn new(alloc: Global, targets: usize) -> Result<Part, AllocError>
-        ensures { IfOk result (λ part. part_view part ≡ no_part) }
+    /// Nothing of a row.
+    pub(crate) fn new(alloc: Global, version: Version, board: &Board) -> Result<Part, AllocError>
+        ensures { IfOk result (λ part. part_view part ≡ no_part version board.now) }
     {
+        let targets = board.targets().len();
         Ok(Part {
             pages: Vec::with_capacity(alloc, targets)?,
             protects: Vec::with_capacity(alloc, targets)?,
             good: None,
             regs: Vec::with_capacity(alloc, 8)?,
             counters: Vec::with_capacity(alloc, 4)?,
+            lost: unsaid_lost(version, board),
         })
     }
 
@@ -135,6 +152,18 @@ impl Part {
         Ok(())
     }
 
+    #[tactic(auto, unfolding(crate::specs::text::Passes::with_lost))]
+    fn add_lost(&mut self, line: usize, words: &[&str]) -> Result<(), TableFault>
+        ensures { Gives (λ _. part_view self.new) result (some_or (BadLine line)
+            (with_lost (part_view self.old) (map (λ w. w.now) words.now))) }
+    {
+        let Some(span) = lost_said(words) else {
+            return Err(TableFault::BadLine(line));
+        };
+        self.lost = Some(span);
+        Ok(())
+    }
+
     /// The line that comes next, which isn't the last one.
     #[tactic(auto, unfolding(crate::specs::text::Passes::with_line))]
     pub(crate) fn add_line(
@@ -156,8 +185,10 @@ impl Part {
             self.add_good(alloc, board, line, words)
         } else if self.regs.len() < 8 {
             self.add_register(board, line, words)
-        } else {
+        } else if self.counters.len() < 4 {
             self.add_counter(line, words)
+        } else {
+            self.add_lost(line, words)
         }
     }
 
@@ -165,23 +196,28 @@ impl Part {
     pub(crate) fn is_full(&self) -> bool
         ensures { result ≡ is_full (part_view self.now) }
     {
-        self.regs.len() == 8 && self.counters.len() == 4
+        self.regs.len() == 8 && self.counters.len() == 4 && self.lost.is_some()
     }
 
     /// The row, by its last line.
     #[tactic(auto, unfolding(crate::specs::text::Passes::finished))]
-    pub(crate) fn finish(self, line: usize, words: &[&str]) -> Result<Row, TableFault>
+    pub(crate) fn finish(
+        self,
+        version: Version,
+        line: usize,
+        words: &[&str],
+    ) -> Result<Row, TableFault>
         requires { IsTrue (is_full (part_view self)) }
         ensures { Gives row_view result (some_or (BadLine line)
-            (finished (part_view self) (map (λ w. w.now) words.now))) }
+            (finished version (part_view self) (map (λ w. w.now) words.now))) }
     {
-        let Some(good) = self.good else {
+        let (Some(good), Some(lost)) = (self.good, self.lost) else {
             return Err(TableFault::BadLine(line));
         };
-        let Some(ticks) = ticks_said(words) else {
+        let Some(ticks) = ticks_said(version, words) else {
             return Err(TableFault::BadLine(line));
         };
-        let (base, coeffs) = ticks;
+        let (base, coeffs, lost_coeff) = ticks;
         let regs = spans(&self.regs);
         let sources = sources(&self.regs);
         let counters = counters(&self.counters);
@@ -192,8 +228,10 @@ impl Part {
             regs,
             sources,
             counters,
+            lost,
             base,
             coeffs,
+            lost_coeff,
         })
     }
 }

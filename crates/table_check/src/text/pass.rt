@@ -13,24 +13,27 @@ use crate::table::Table;
 use crate::text::fault::TableFault;
 use crate::text::part::Part;
 use crate::text::row_line::head_said;
+use crate::text::version::Version;
 use board::Board;
 use facts::Row;
 use std::alloc::Global;
 use texts::line_count;
 
-/// The rows so far, and what is read of the next one.
+/// The form, the rows so far, and what is read of the next one.
 #[derive(Drop)]
 pub(crate) struct RowsSoFar {
+    pub version: Version,
     pub rows: Vec<Option<Row>>,
     pub part: Option<Part>,
 }
 
 impl RowsSoFar {
-    /// No line of a text.
-    pub(crate) fn new(alloc: Global) -> RowsSoFar
-        ensures { pass_view result ≡ no_pass }
+    /// No line of a text of this form.
+    pub(crate) fn new(alloc: Global, version: Version) -> RowsSoFar
+        ensures { pass_view result ≡ no_pass version }
     {
         RowsSoFar {
+            version,
             rows: Vec::new(alloc),
             part: None,
         }
@@ -46,10 +49,10 @@ impl RowsSoFar {
     ) -> Result<(), TableFault>
         requires { self.old.part ≡ None }
         ensures { Gives (λ _. pass_view self.new) result (some_or (BadLine line)
-            (with_first (pass_view self.old) (map (λ w. w.now) words.now))) }
+            (with_first board.now (pass_view self.old) (map (λ w. w.now) words.now))) }
     {
         match head_said(self.rows.len(), words) {
-            Some(true) => self.part = Some(Part::new(alloc, board.targets().len())?),
+            Some(true) => self.part = Some(Part::new(alloc, self.version, board)?),
             Some(false) => self.rows.push(None)?,
             None => return Err(TableFault::BadLine(line)),
         }
@@ -63,7 +66,7 @@ impl RowsSoFar {
         ensures { Gives (λ _. pass_view self.new) result (some_or (BadLine line)
             (with_last (pass_view self.old) (part_view part) (map (λ w. w.now) words.now))) }
     {
-        let row = part.finish(line, words)?;
+        let row = part.finish(self.version, line, words)?;
         self.rows.push(Some(row))?;
         Ok(())
     }
@@ -78,7 +81,7 @@ impl RowsSoFar {
     ) -> Result<(), TableFault>
         requires { IfSome (pass_view self.old).part (λ part. IsTrue (is_full part)) }
         ensures { Gives (λ _. pass_view self.new) result (some_or (BadLine line)
-            (with_end (pass_view self.old) (pass_view self.old).part
+            (with_end board.now (pass_view self.old) (pass_view self.old).part
             (map (λ w. w.now) words.now))) }
     {
         match self.part.take() {

@@ -6,12 +6,13 @@ ghost use Rattle.table_check.specs.text.Faults.{Gives};
 ghost use Rattle.table_check.specs.Tables.{table_view};
 ghost use Rattle.table_check.specs.text.Texts.{IsTextOf, FindsTable, CarriesFirst};
 ghost use Rattle.table_check.specs.text.Passes.{pass_view, after_lines, no_pass, parted};
-ghost use Rattle.table_check.specs.text.Passes.{table_in};
+ghost use Rattle.table_check.specs.text.Passes.{version_of, first_number, table_in};
 
 use crate::table::Table;
 use crate::text::fault::TableFault;
 use crate::text::pass::RowsSoFar;
 use crate::text::shape::is_board;
+use crate::text::version::Version;
 use board::Board;
 use std::alloc::{AllocError, Global};
 use texts::{cut_at_space, first_by_feed, numbers_are_spelled, numbers_read_back};
@@ -30,15 +31,45 @@ fn take_words<'a>(words: &mut Vec<&'a str>, line: &'a str) -> Result<(), AllocEr
     Ok(())
 }
 
-/// All lines of a text.
-#[tactic(auto, unfolding(crate::specs::text::Passes::after_line))]
-fn pass_of(alloc: Global, board: &Board, text: &str) -> Result<RowsSoFar, TableFault>
-    ensures { Gives pass_view result
-        (after_lines board.now 1 no_pass (lines_by_feed text.now)) }
+/// The first line of a text of the second form.
+const VERSION_LINE: &str = "version 2";
+
+/// The form of a text, and what stands below the line that says it.
+fn version_of(text: &str) -> (Version, &str)
+    ensures version { result.0 ≡ (version_of (lines_by_feed text.now)).0 }
+    ensures below { lines_by_feed result.1.now ≡ (version_of (lines_by_feed text.now)).1 }
 {
-    let mut pass = RowsSoFar::new(alloc);
+    match first_by_feed(text) {
+        Some((line, below)) if line == VERSION_LINE => (Version::Second, below),
+        _ => (Version::First, text),
+    }
+}
+
+/// The number of the first line that says something of a place.
+fn first_number(version: Version) -> usize
+    ensures { result ≡ first_number version }
+{
+    match version {
+        Version::First => 1,
+        Version::Second => 2,
+    }
+}
+
+/// All lines that say something of places.
+#[tactic(auto, unfolding(crate::specs::text::Passes::after_line))]
+fn pass_of(
+    alloc: Global,
+    board: &Board,
+    version: Version,
+    text: &str,
+) -> Result<RowsSoFar, TableFault>
+    ensures { Gives pass_view result
+        (after_lines board.now (first_number version) (no_pass version)
+        (lines_by_feed text.now)) }
+{
+    let mut pass = RowsSoFar::new(alloc, version);
     let mut words = Vec::new(alloc);
-    let mut number = 1;
+    let mut number = first_number(version);
     let mut rest = text;
     while let Some((line, below)) = first_by_feed(rest) {
         take_words(&mut words, line)?;
@@ -53,7 +84,8 @@ fn pass_of(alloc: Global, board: &Board, text: &str) -> Result<RowsSoFar, TableF
 fn table_in(alloc: Global, board: &Board, text: &str) -> Result<Table, TableFault>
     ensures { Gives table_view result (table_in board.now (lines_by_feed text.now)) }
 {
-    let pass = pass_of(alloc, board, text)?;
+    let (version, places) = version_of(text);
+    let pass = pass_of(alloc, board, version, places)?;
     pass.whole(text)
 }
 

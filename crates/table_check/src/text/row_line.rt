@@ -3,9 +3,11 @@
 ghost use Rattle.std.specs.Prelude.{◌≡◌, map};
 ghost use Rattle.table_check.specs.text.Saying.{number_of, five_numbers, numbers_of, ticks_said};
 ghost use Rattle.table_check.specs.text.Saying.{has_row};
+ghost use Rattle.table_check.specs.declared.text.version.Version.TheVariants.{First, Second};
 ghost use Rattle.table_check.specs.text.Saying.{numbered, head_said};
 
 use crate::text::set_line::after_key;
+use crate::text::version::Version;
 use texts::decimal_within;
 
 fn number_of(text: &str) -> Option<u64>
@@ -26,20 +28,41 @@ fn five_numbers(base: &str, k0: &str, k1: &str, k2: &str, k3: &str) -> Option<(u
     Some((base, [k0, k1, k2, k3]))
 }
 
-fn numbers_of(words: &[&str]) -> Option<(u64, [u64; 4])>
-    ensures { result ≡ numbers_of (map (λ w. w.now) words.now) }
+/// The base of the ticks, a coefficient for each counter, and that of lost arbitrations.
+pub(crate) type Ticks = (u64, [u64; 4], u64);
+
+fn first_numbers(words: &[&str]) -> Option<Ticks>
+    ensures { result ≡ numbers_of First (map (λ w. w.now) words.now) }
 {
     match words {
-        [base, k0, k1, k2, k3] => five_numbers(base, k0, k1, k2, k3),
+        [base, k0, k1, k2, k3] => {
+            let (base, coeffs) = five_numbers(base, k0, k1, k2, k3)?;
+            Some((base, coeffs, 0))
+        }
         _ => None,
     }
 }
 
-/// The base of the ticks, and a coefficient for each counter.
-pub(crate) fn ticks_said(words: &[&str]) -> Option<(u64, [u64; 4])>
-    ensures { result ≡ ticks_said (map (λ w. w.now) words.now) }
+fn second_numbers(words: &[&str]) -> Option<Ticks>
+    ensures { result ≡ numbers_of Second (map (λ w. w.now) words.now) }
 {
-    numbers_of(after_key("ticks", words)?)
+    match words {
+        [base, k0, k1, k2, k3, lost] => {
+            let (base, coeffs) = five_numbers(base, k0, k1, k2, k3)?;
+            Some((base, coeffs, number_of(lost)?))
+        }
+        _ => None,
+    }
+}
+
+pub(crate) fn ticks_said(version: Version, words: &[&str]) -> Option<Ticks>
+    ensures { result ≡ ticks_said version (map (λ w. w.now) words.now) }
+{
+    let numbers = after_key("ticks", words)?;
+    match version {
+        Version::First => first_numbers(numbers),
+        Version::Second => second_numbers(numbers),
+    }
 }
 
 fn has_row(words: &[&str]) -> Option<bool>

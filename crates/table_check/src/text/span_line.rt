@@ -5,9 +5,9 @@ ghost use Rattle.table_check.specs.text.Lines.{register_names, counter_names};
 ghost use Rattle.table_check.specs.text.Saying.{word_of, span_of, rail_named, target_named};
 ghost use Rattle.table_check.specs.text.Saying.{named_source};
 ghost use Rattle.table_check.specs.text.Saying.{source_of, sourced_span, only_span, register_said};
-ghost use Rattle.table_check.specs.text.Saying.{counter_said};
+ghost use Rattle.table_check.specs.text.Saying.{counter_said, lost_said};
 
-use crate::text::set_line::after_name;
+use crate::text::set_line::{after_key, after_name};
 use board::Board;
 use facts::{Source, Span};
 use texts::decimal_within;
@@ -114,4 +114,11 @@ pub(crate) fn counter_said(index: usize, words: &[&str]) -> Option<Span>
     ensures { result ≡ counter_said index (map (λ w. w.now) words.now) }
 {
     only_span(after_name("counter", counter_name(index)?, words)?)
+}
+
+/// How many arbitrations may be lost.
+pub(crate) fn lost_said(words: &[&str]) -> Option<Span>
+    ensures { result ≡ lost_said (map (λ w. w.now) words.now) }
+{
+    only_span(after_key("lost", words)?)
 }

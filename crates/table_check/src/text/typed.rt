@@ -35,6 +35,8 @@ fn row_is_typed(row: &Row)
     are_word_spans(&row.counters);
     is_long(row.base);
     are_long(&row.coeffs);
+    is_word_span(row.lost);
+    is_long(row.lost_coeff);
 }
 
 fn place_is_typed(place: &Option<Row>)

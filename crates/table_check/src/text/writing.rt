@@ -7,9 +7,10 @@ ghost use Rattle.facts.specs.domain.Sets.{rails_in, values_in};
 ghost use Rattle.facts.specs.domain.Rows.{row_view};
 ghost use Rattle.table_check.specs.Tables.{rows_view, table_view};
 ghost use Rattle.table_check.specs.text.Lines.{set_words, good_words, register_words};
-ghost use Rattle.table_check.specs.text.Lines.{counter_words, ticks_words, head_words, none_words};
-ghost use Rattle.table_check.specs.text.Lines.{each_at};
-ghost use Rattle.table_check.specs.text.Lines.{place_lines, lines_from, table_text};
+ghost use Rattle.table_check.specs.text.Lines.{counter_words, ticks_words, factors, head_words};
+ghost use Rattle.table_check.specs.text.Lines.{each_at, version_words, words_of_table, lost_words};
+ghost use Rattle.table_check.specs.declared.text.version.Version.TheVariants.{Second};
+ghost use Rattle.table_check.specs.text.Lines.{none_words, place_lines, lines_from, table_text};
 ghost use Rattle.table_check.specs.text.Texts.{IsTextOf};
 ghost use Rattle.table_check.specs.text.Writable.{IsShaped};
 ghost use Rattle.table_check.specs.text.Written.{all_spaced, line_text, text_of};
@@ -152,18 +153,25 @@ fn push_numbers(alloc: Global, text: &mut String, numbers: &[u64]) -> Result<(),
     Ok(())
 }
 
-fn push_ticks_line(
-    alloc: Global,
-    text: &mut String,
-    base: u64,
-    coeffs: &[u64],
-) -> Result<(), AllocError>
+fn push_lost_line(alloc: Global, text: &mut String, span: &Span) -> Result<(), AllocError>
     ensures { OnOk result (string_bytes text.new
-        ≡ string_bytes text.old ++ line_text (ticks_words base coeffs.now)) }
+        ≡ string_bytes text.old ++ line_text (lost_words span.now)) }
+{
+    text.push_str("lost")?;
+    push_span(alloc, text, span)?;
+    text.push('\n')?;
+    Ok(())
+}
+
+fn push_ticks_line(alloc: Global, text: &mut String, row: &Row) -> Result<(), AllocError>
+    ensures { OnOk result (string_bytes text.new
+        ≡ string_bytes text.old ++ line_text
+        (ticks_words row.now.base (factors Second row.now.coeffs row.now.lost_coeff))) }
 {
     text.push_str("ticks")?;
-    push_number(alloc, text, base)?;
-    push_numbers(alloc, text, coeffs)?;
+    push_number(alloc, text, row.base)?;
+    push_numbers(alloc, text, &row.coeffs)?;
+    push_number(alloc, text, row.lost_coeff)?;
     text.push('\n')?;
     Ok(())
 }
@@ -199,7 +207,7 @@ fn push_row(
 ) -> Result<(), AllocError>
     ensures { OnOk result (string_bytes text.new
         ≡ string_bytes text.old
-        ++ text_of (place_lines board.now place (Some (row_view row.now)))) }
+        ++ text_of (place_lines Second board.now place (Some (row_view row.now)))) }
 {
     push_head(alloc, text, place)?;
     push_set_lines(text, board, "page", &row.pages)?;
@@ -207,7 +215,8 @@ fn push_row(
     push_good_line(text, board, row.good)?;
     push_register_lines(alloc, text, board, &row.regs, &row.sources)?;
     push_counter_lines(alloc, text, &row.counters)?;
-    push_ticks_line(alloc, text, row.base, &row.coeffs)
+    push_lost_line(alloc, text, &row.lost)?;
+    push_ticks_line(alloc, text, row)
 }
 
 fn push_place(
@@ -219,7 +228,7 @@ fn push_place(
 ) -> Result<(), AllocError>
     ensures { OnOk result (string_bytes text.new
         ≡ string_bytes text.old
-        ++ text_of (place_lines board.now place (option_map row_view row.now))) }
+        ++ text_of (place_lines Second board.now place (option_map row_view row.now))) }
 {
     match row {
         Some(row) => push_row(alloc, text, board, place, row),
@@ -234,7 +243,7 @@ fn push_rows(
     rows: &[Option<Row>],
 ) -> Result<(), AllocError>
     ensures { OnOk result (string_bytes text.new
-        ≡ string_bytes text.old ++ text_of (lines_from board.now 0 (rows_view rows.now))) }
+        ≡ string_bytes text.old ++ text_of (lines_from Second board.now 0 (rows_view rows.now))) }
 {
     for (place, row) in rows.iter().enumerate() {
         push_place(alloc, text, board, place, row)?;
@@ -244,9 +253,10 @@ fn push_rows(
 
 fn written(alloc: Global, board: &Board, table: &Table) -> Result<String, AllocError>
     ensures { IfOk result (λ text. string_bytes text
-        ≡ text_of (lines_from board.now 0 (table_view table.now))) }
+        ≡ text_of (words_of_table Second board.now (table_view table.now))) }
 {
     let mut text = String::new(alloc);
+    text.push_str("version 2\n")?;
     push_rows(alloc, &mut text, board, &table.rows)?;
     Ok(text)
 }

@@ -6,7 +6,7 @@ use Rattle.facts.specs.transfer.TimedEdges.{timed_edges}
 use Rattle.table_check.specs.checker.Looking.{of_code}
 use Rattle.table_check.specs.Tables.{rows_view}
 use Rattle.table_check.specs.checker.Obligations.{Duty, IsFirstFault, Obligation, of_edges, of_end}
-use Rattle.table_check.proofs.Broken.{counters_are_spans, duties_met, duty_fails, first_met}
+use Rattle.table_check.proofs.Broken.{duties_met, duty_fails, first_met}
 use Rattle.table_check.proofs.Firsts.{back, front}
 use Rattle.table_check.proofs.checker.checking.instr_fault.Goals as goal
 
@@ -47,10 +47,6 @@ returns-in-Some-edges_fault c =
     (front b p t (of_edges n es) (of_end n row i) fault
     (subst P same (subst Q c.deref.ensures.value (c.in-Some-edges_fault.ensures p))))
 
-pub end_fault-requires : goal.end_fault-requires
-end_fault-requires c =
-    counters_are_spans c.args.board.now (row_view c.args.row.now) c.requires.row
-
 pub returns : goal.returns
 returns c =
     let b = c.args.board.now in
@@ -69,4 +65,4 @@ returns c =
     (duties_met b p t n i row duties c.in_default.ensures)
     (back b p t (of_edges n es) (of_end n row i) c.end_fault.result
     (subst P same (subst Q c.deref.ensures.value (c.in-None.ensures p)))
-    (c.end_fault.ensures b p t))
+    (c.end_fault.ensures p t))

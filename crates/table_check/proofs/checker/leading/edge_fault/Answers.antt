@@ -6,8 +6,9 @@ use Rattle.table_check.proofs.Broken.{row_sized, shaped_sized, shaped_counters, 
 use Rattle.table_check.proofs.Broken.{kept, false_true}
 use Rattle.table_check.proofs.checker.leading.edge_fault.Goals as goal
 
-pub pays-requires : goal.pays-requires
-pays-requires c = shaped_counters c.args.board.now (row_view c.args.edge.now.1) c.requires.shaped
+pub pays-requires-clause-spans : goal.pays-requires-clause-spans
+pays-requires-clause-spans c =
+    shaped_counters c.args.board.now (row_view c.args.edge.now.1) c.requires.shaped
 
 pub returns-then-not-covers : goal.returns-then-not-covers
 returns-then-not-covers c = λ p.

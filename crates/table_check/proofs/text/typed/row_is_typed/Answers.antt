@@ -15,4 +15,6 @@ returns c = record {
   counters = c.are_word_spans-2.ensures;
   base = c.is_long.ensures;
   coeffs = c.are_long.ensures;
+  lost = c.is_word_span.ensures;
+  lost_coeff = c.is_long-2.ensures;
 }

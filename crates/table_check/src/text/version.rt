@@ -1,0 +1,8 @@
+//! The forms of a table's text.
+
+/// The second form counts lost arbitrations, and says so in its first line.
+#[derive(Clone, Copy, Debug, PartialEq, Eq)]
+pub(crate) enum Version {
+    First,
+    Second,
+}
