@@ -1,4 +1,6 @@
 -- What is found.
-pub mod Ticked
+mod Alike
+mod Counted
 pub mod Found
 pub mod Shaped
+pub mod Ticked

@@ -6,15 +6,15 @@ use Rattle.board.specs.Boards.{Board}
 use Rattle.board.specs.Valid.{IsBoard}
 use Rattle.seq_program.specs.declared.instr.Instr.{Instr}
 use Rattle.seq_program.specs.Valid.{IsProgram, jump_in}
-use Rattle.facts.specs.transfer.Edges.{Edge, edges}
-use Rattle.facts.specs.FactLaws.{DutiesAreKept, EdgesFollow, EdgesStayShaped}
+use Rattle.facts.specs.transfer.Edges.{Edge}
+use Rattle.facts.specs.FactLaws.{DutiesAreKept, EdgesFollow, EdgesStayShaped, without_ticks}
 use Rattle.facts.specs.domain.Rows.{Row, IsRow, RowCovers}
-use Rattle.facts.specs.Steps.{HasEdge}
-use Rattle.facts.specs.transfer.TimedEdges.{timed_edges}
+use Rattle.facts.specs.transfer.TimedEdges.{HasTimed, timed_edges}
 use Rattle.table_check.specs.checker.ByPlace.{FollowingTablesTellDuties, InductiveByPlace, MeetsAll}
 use Rattle.table_check.specs.checker.Looking.{HasRowsOf}
 use Rattle.table_check.specs.checker.Obligations.{IsInductive}
-use Rattle.table_check.specs.checker.Rules.{IsCovered, Starts}
+use Rattle.table_check.specs.checker.Rules.{IsCovered}
+use Rattle.facts.specs.well_formed.Starts.{HoldsStarts}
 use Rattle.table_check.specs.Tables.{Table, row_of}
 use Rattle.fact_search.specs.Forward.{IsForward}
 
@@ -63,13 +63,19 @@ is_changed changed place = slice_index_or changed place false
 abbrev pub IsFollowed : Board → List Instr → Table → ℕ → Type 0
 IsFollowed b p t place =
     (i : Instr) (row : Row) → slice_get p place ≡ Some i → row_of t place ≡ Some row
-    → MeetsAll b i row → (e : Edge) → HasEdge (edges b place i row) e → IsCovered b t e
+    → MeetsAll b i row → (e : Edge) (ticks : ℕ) → HasTimed (timed_edges b place i row) e ticks
+    → IsCovered b t e
 
 -- every table that keeps the rule book covers each row
 abbrev pub IsBelow : Board → List Instr → Table → Type 0
 IsBelow b p t =
     (any : Table) → IsInductive b p any → (place : ℕ) (row : Row) → row_of t place ≡ Some row
     → (above : Row) × (row_of any place ≡ Some above) × RowCovers b above row
+
+-- place 0 has a row, which holds every start, whatever its ticks are
+abbrev pub KnowsStarts : Board → Table → Type 0
+KnowsStarts b t =
+    (row : Row) × (row_of t 0 ≡ Some row) × HoldsStarts b (without_ticks row)
 
 -- what a search keeps: rows of the board with the start, which are followed wherever they didn't
 -- change since; and of a forward program no more than any table knows that keeps the rule book
@@ -78,7 +84,7 @@ pub record IsSearched (b : Board) (p : List Instr) (t : Table) (changed : List B
     pub places : length t ≡ length p
     pub flags : length changed ≡ length p
     pub rows : HasRowsOf b t
-    pub start : Starts b t
+    pub start : KnowsStarts b t
     pub followed : (place : ℕ) → is_changed changed place ≡ false → IsFollowed b p t place
     pub below : IsForward p → IsBelow b p t
 
@@ -101,6 +107,6 @@ pub record IsLearnt (b : Board) (place : ℕ) (t new : Table) (e : Edge) (change
 pub record IsFollowedTable (b : Board) (p : List Instr) (t : Table) : Type 0 where
   pub places : length t ≡ length p
   pub rows : HasRowsOf b t
-  pub start : Starts b t
+  pub start : KnowsStarts b t
   pub followed : (place : ℕ) → IsFollowed b p t place
   pub below : IsForward p → IsBelow b p t

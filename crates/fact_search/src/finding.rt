@@ -12,7 +12,7 @@ use crate::forward::is_forward;
 use crate::laws::premises;
 use crate::loops::ticks_with_loops;
 use crate::searching::search;
-use crate::ticking::{forward_ticks, with_ticks, without_coeffs};
+use crate::ticking::{ticks_onward, with_ticks};
 use board::Board;
 use seq_program::Program;
 use std::alloc::Global;
@@ -25,8 +25,9 @@ use table_check::Table;
 /// gives up, its table keeps the rule book if any table does, and where none does, the verdict on
 /// it tells the instruction that breaks a duty of its own. For programs with jumps back, spans are
 /// widened at their targets, and a counter must bound each loop; otherwise, or where a place is
-/// visited too often, GaveUp is answered with the place. Memory is answered where a growth was
-/// refused.
+/// visited too often, GaveUp is answered with the place. Lost arbitrations are paid for at each
+/// message, or as often as they may come, whichever gives the lesser bound. Memory is answered
+/// where a growth was refused.
 pub fn find(alloc: Global, board: &Board, program: &Program) -> Result<Table, FindFault>
     ensures shaped { IfOk result (λ t. IsShaped board.now (table_view t)) }
     ensures places { IfOk result (λ t. length (table_view t) ≡ length program.now) }
@@ -39,8 +40,7 @@ pub fn find(alloc: Global, board: &Board, program: &Program) -> Result<Table, Fi
     premises(board, program);
     let known = search(alloc, board, program)?;
     let lefts = if is_forward(program) {
-        let ticks = forward_ticks(alloc, board, program, &known)?;
-        without_coeffs(alloc, &ticks)?
+        ticks_onward(alloc, board, program, &known)?
     } else {
         ticks_with_loops(alloc, board, program, &known.rows)?
     };

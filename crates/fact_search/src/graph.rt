@@ -4,6 +4,7 @@ ghost use Rattle.table_check.specs.checker.Looking.{HasRowsOf};
 ghost use Rattle.table_check.specs.Tables.{rows_view};
 
 use crate::leading::edges_at;
+use crate::lost::most_cost;
 use board::Board;
 use facts::{Row, Span, duty};
 use seq_program::{Instr, Program};
@@ -25,7 +26,7 @@ pub(crate) enum Cut {
 pub(crate) struct Way {
     pub(crate) from: usize,
     pub(crate) to: usize,
-    /// The most ticks that the instruction takes.
+    /// The most ticks that the way takes.
     pub(crate) ticks: u64,
     /// The counters on this way.
     pub(crate) counters: [Span; 4],
@@ -66,6 +67,13 @@ impl Graph {
         self.ways
             .get(first..first.saturating_add(count))
             .unwrap_or(&[])
+    }
+
+    /// No way costs more than where a lost arbitration pays so many ticks.
+    pub(crate) fn cost_less(&mut self, board: &Board, program: &Program, lost: u64) {
+        for way in &mut self.ways {
+            way.ticks = way.ticks.min(most_cost(board, program, way.from, lost));
+        }
     }
 
     /// The counter that a place's instruction sets.

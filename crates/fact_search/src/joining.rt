@@ -2,7 +2,7 @@
 
 ghost use Rattle.std.specs.Prelude.{◌≡◌, ◌<◌, ◌≤◌, IfOk, All, length};
 ghost use Rattle.facts.specs.FactLaws.{IsShaped, without_ticks};
-ghost use Rattle.facts.specs.domain.Rows.{IsRow, RowCovers, SpansCover, row_view};
+ghost use Rattle.facts.specs.domain.Rows.{IsRow, RowCovers, SpanCovers, SpansCover, row_view};
 ghost use Rattle.fact_search.specs.Searching.{IsJoined};
 
 use crate::widening::Stops;
@@ -20,6 +20,7 @@ pub(crate) fn without_ticks(board: &Board, mut row: Row) -> Row
     board_is_valid(board);
     row.base = 0;
     row.coeffs = [0; 4];
+    row.lost_coeff = 0;
     row
 }
 
@@ -39,6 +40,7 @@ pub(crate) fn joined(
     let mut joined = row.join(alloc, other)?;
     joined.base = 0;
     joined.coeffs = [0; 4];
+    joined.lost_coeff = 0;
     Ok(joined)
 }
 
@@ -54,6 +56,22 @@ fn widen(stops: &Stops, old: &[Span], spans: &mut [Span], most: u16)
     }
 }
 
+/// How many arbitrations were lost goes on to all that the board lets be lost, where it grew.
+fn widen_lost(board: &Board, old: Span, span: Span) -> Span
+    requires { span.hi ≤ board.now.contentions }
+    ensures covers { SpanCovers result span }
+    ensures most { result.hi ≤ board.now.contentions }
+{
+    if old.hi < span.hi {
+        Span {
+            lo: span.lo,
+            hi: board.contentions(),
+        }
+    } else {
+        span
+    }
+}
+
 /// A row whose spans grew from those of an old one, at the target of a jump back.
 pub(crate) fn widened(board: &Board, stops: &Stops, old: &Row, mut row: Row) -> Row
     requires row { IsRow board.now (row_view row) }
@@ -65,6 +83,7 @@ pub(crate) fn widened(board: &Board, stops: &Stops, old: &Row, mut row: Row) -> 
     widen(stops, &old.regs, &mut regs, u16::MAX);
     let mut counters = row.counters;
     widen(stops, &old.counters, &mut counters, MOST_TURNS);
+    row.lost = widen_lost(board, old.lost, row.lost);
     row.regs = regs;
     row.counters = counters;
     row

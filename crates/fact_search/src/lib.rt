@@ -12,6 +12,7 @@ mod known;
 mod laws;
 mod leading;
 mod loops;
+mod lost;
 mod nest;
 mod searching;
 mod starting;

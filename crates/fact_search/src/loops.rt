@@ -6,6 +6,7 @@ ghost use Rattle.table_check.specs.Tables.{rows_view};
 use crate::carrying::carry;
 use crate::fault::FindFault;
 use crate::graph::{Cut, Graph, graph_of};
+use crate::lost::{bound, dearest_loss, lesser, paid};
 use crate::nest::{Loop, Nest, loop_at, nest_of};
 use crate::turning::{Aim, Measure, TURN, value_at};
 use board::Board;
@@ -14,11 +15,14 @@ use seq_program::Program;
 use simulator::MOST_TICKS;
 use std::alloc::{AllocError, Global};
 
-/// The ticks that are left at a place, at most: a base, and a coefficient for each counter.
+/// The ticks that are left at a place, at most: a base, a coefficient for each counter, and
+/// one for each arbitration that may still be lost.
 #[derive(Clone, Copy)]
 pub(crate) struct Ticks {
     pub base: u64,
     pub coeffs: [u64; 4],
+    /// For each arbitration that may still be lost.
+    pub lost: u64,
 }
 
 /// At all places no ticks.
@@ -26,6 +30,7 @@ fn no_ticks(alloc: Global, places: usize) -> Result<Vec<Ticks>, AllocError> {
     let none = Ticks {
         base: 0,
         coeffs: [0; 4],
+        lost: 0,
     };
     vec![in alloc; none; places]
 }
@@ -140,6 +145,7 @@ fn within_most(ticks: &Ticks, base: u64) -> Ticks {
     Ticks {
         base: MOST_TICKS.min(base),
         coeffs: ticks.coeffs.map(|coeff| MOST_TICKS.min(coeff)),
+        lost: MOST_TICKS.min(ticks.lost),
     }
 }
 
@@ -151,14 +157,6 @@ fn ticks_in(alloc: Global, graph: &Graph, nest: &mut Nest) -> Result<Vec<Ticks>,
         *ticks = within_most(ticks, *base);
     }
     Ok(ticks)
-}
-
-/// The bound on all ticks.
-fn bound(ticks: &[Ticks]) -> u64 {
-    match ticks.first() {
-        Some(start) => start.base,
-        None => 0,
-    }
 }
 
 /// The ticks with the least bound, of those with one counter favored or another.
@@ -180,6 +178,38 @@ fn least_ticks(
     Ok(least)
 }
 
+/// The least ticks, where a lost arbitration pays so many.
+fn counted_ticks(
+    alloc: Global,
+    board: &Board,
+    program: &Program,
+    graph: &mut Graph,
+    lost: u64,
+) -> Result<Vec<Ticks>, AllocError> {
+    graph.cost_less(board, program, lost);
+    let mut nest = nest_of(alloc, graph, 0)?;
+    let least = least_ticks(alloc, graph, &mut nest)?;
+    paid(alloc, &least, lost, board.contentions())
+}
+
+/// The least ticks of a graph. Lost arbitrations are paid for at each message, or as often as they
+/// may come, whichever gives the lesser bound.
+fn ticks_of(
+    alloc: Global,
+    board: &Board,
+    program: &Program,
+    graph: &mut Graph,
+    nest: &mut Nest,
+) -> Result<Vec<Ticks>, AllocError> {
+    let each = least_ticks(alloc, graph, nest)?;
+    let lost = dearest_loss(board, program);
+    if lost == 0 || board.contentions() == 0 {
+        return Ok(each);
+    }
+    let counted = counted_ticks(alloc, board, program, graph, lost)?;
+    Ok(lesser(each, counted))
+}
+
 /// The ticks that are left at each place of a program, where its rows hold: an end has one left,
 /// each other place enough for its ways.
 ///
@@ -197,6 +227,6 @@ pub(crate) fn ticks_with_loops(
     let mut nest = nest_of(alloc, &mut graph, 0)?;
     match nest.unbounded() {
         Some(place) if !graph.breaks_duty => Err(FindFault::GaveUp(place)),
-        _ => Ok(least_ticks(alloc, &mut graph, &mut nest)?),
+        _ => Ok(ticks_of(alloc, board, program, &mut graph, &mut nest)?),
     }
 }

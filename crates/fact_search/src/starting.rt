@@ -73,7 +73,7 @@ fn start_protects(alloc: Global, targets: &[Target]) -> Result<Vec<ProtectSet>, 
 }
 
 /// What is known at the start, and no more: each value that a target's PAGE and WRITE_PROTECT may
-/// have, no good rail, 0 in each register and counter, and no sources.
+/// have, no good rail, 0 in each register and counter, no sources, and no lost arbitration.
 pub(crate) fn start_row(alloc: Global, board: &Board) -> Result<Row, AllocError>
     ensures { IfOk result (λ row. IsStartRow board.now (row_view row)) }
 {
@@ -87,7 +87,9 @@ pub(crate) fn start_row(alloc: Global, board: &Board) -> Result<Row, AllocError>
         regs: [ZERO; 8],
         sources: [Source::None; 8],
         counters: [ZERO; 4],
+        lost: ZERO,
         base: 0,
         coeffs: [0; 4],
+        lost_coeff: 0,
     })
 }

@@ -1,7 +1,7 @@
 -- Tables with ticks.
 use Rattle.std.proofs.Common.{◌≡◌, ℕ, zero, suc, List, [], ◌∷◌, length, map, refl, ap, sym, ◌∙◌}
 use Rattle.std.proofs.Common.{subst, arith, drop, ◌+◌, ◌++◌, append_assoc}
-use Rattle.std.proofs.Common.{All}
+use Rattle.std.proofs.Common.{All, ◌<◌}
 use Rattle.std.specs.List.{AllByRecursion}
 use Rattle.std.proofs.lemmas.List.{length-append}
 use Rattle.std.proofs.lemmas.List.Elements.{All-from_recursion, recursion_from_All}
@@ -10,7 +10,7 @@ use Rattle.facts.specs.declared.domain.row.Row.{Row as CodeRow}
 use Rattle.facts.specs.domain.Rows.{Row, row_view}
 use Rattle.table_check.specs.Tables.{rows_view, Table, row_of}
 use Rattle.fact_search.specs.declared.loops.Ticks.{Ticks}
-use Rattle.fact_search.specs.Ticking.{plain, ticked, ticked_row, with_left}
+use Rattle.fact_search.specs.Ticking.{ahead, later, paid, plain, ticked, ticked_row, with_left}
 use Rattle.fact_search.proofs.Shared.Places.{none_some, some_same}
 
 pub length_ticked : (lefts : List Ticks) (t : Table) → length (ticked lefts t) ≡ length t
@@ -20,29 +20,50 @@ length_ticked (left ∷ lefts) (None ∷ t) = ap suc (length_ticked lefts t)
 length_ticked (left ∷ lefts) (Some row ∷ t) = ap suc (length_ticked lefts t)
 
 -- each row is one of before, with the ticks of its place
-pub plain_row : (ticks : List ℕ) (t : Table) (n : ℕ) (row : Row) → length t ≡ length ticks
-    → row_of (ticked (map plain ticks) t) n ≡ Some row
-    → (old : Row) × (row_of t n ≡ Some old) × (row ≡ with_left (plain (slice_index ticks n)) old)
-plain_row ticks [] n row e at' = absurd (none_some row at')
-plain_row [] (x ∷ t) n row e at' = absurd (omega (arith, e))
-plain_row (k ∷ ticks) (None ∷ t) zero row e at' = absurd (none_some row at')
-plain_row (k ∷ ticks) (Some old ∷ t) zero row e at' =
-    (old, refl, sym (some_same (with_left (plain k) old) row at'))
-plain_row (k ∷ ticks) (None ∷ t) (suc n) row e at' =
-    plain_row ticks t n row (omega (arith, e)) at'
-plain_row (k ∷ ticks) (Some x ∷ t) (suc n) row e at' =
-    plain_row ticks t n row (omega (arith, e)) at'
+pub old_row : (lefts : List Ticks) (t : Table) (n : ℕ) (left : Ticks) (row : Row)
+    → slice_get lefts n ≡ Some left → row_of (ticked lefts t) n ≡ Some row
+    → (old : Row) × (row_of t n ≡ Some old) × (row ≡ with_left left old)
+old_row lefts [] n left row at e = absurd (none_some row e)
+old_row [] (x ∷ t) n left row at e = absurd (none_some left at)
+old_row (k ∷ lefts) (None ∷ t) zero left row at e = absurd (none_some row e)
+old_row (k ∷ lefts) (Some old ∷ t) zero left row at e = (
+  old,
+  refl,
+  sym (some_same (with_left k old) row e) ∙ ap (λ (z : Ticks). with_left z old)
+      (some_same k left at),
+)
+old_row (k ∷ lefts) (None ∷ t) (suc n) left row at e = old_row lefts t n left row at e
+old_row (k ∷ lefts) (Some x ∷ t) (suc n) left row at e = old_row lefts t n left row at e
 
-pub new_row : (ticks : List ℕ) (t : Table) (n : ℕ) (old : Row) → length t ≡ length ticks
-    → row_of t n ≡ Some old
-    → row_of (ticked (map plain ticks) t) n ≡ Some (with_left (plain (slice_index ticks n)) old)
-new_row ticks [] n old e at' = absurd (none_some old at')
-new_row [] (x ∷ t) n old e at' = absurd (omega (arith, e))
-new_row (k ∷ ticks) (None ∷ t) zero old e at' = absurd (none_some old at')
-new_row (k ∷ ticks) (Some x ∷ t) zero old e at' =
-    ap (λ (z : Row). Some (with_left (plain k) z)) (some_same x old at')
-new_row (k ∷ ticks) (None ∷ t) (suc n) old e at' = new_row ticks t n old (omega (arith, e)) at'
-new_row (k ∷ ticks) (Some x ∷ t) (suc n) old e at' = new_row ticks t n old (omega (arith, e)) at'
+pub new_row : (lefts : List Ticks) (t : Table) (n : ℕ) (left : Ticks) (old : Row)
+    → slice_get lefts n ≡ Some left → row_of t n ≡ Some old
+    → row_of (ticked lefts t) n ≡ Some (with_left left old)
+new_row lefts [] n left old at e = absurd (none_some old e)
+new_row [] (x ∷ t) n left old at e = absurd (none_some left at)
+new_row (k ∷ lefts) (None ∷ t) zero left old at e = absurd (none_some old e)
+new_row (k ∷ lefts) (Some x ∷ t) zero left old at e =
+    ap (λ (z : Row). Some (with_left k z)) (some_same x old e)
+    ∙ ap (λ (z : Ticks). Some (with_left z old)) (some_same k left at)
+new_row (k ∷ lefts) (None ∷ t) (suc n) left old at e = new_row lefts t n left old at e
+new_row (k ∷ lefts) (Some x ∷ t) (suc n) left old at e = new_row lefts t n left old at e
+
+-- the ticks of a place that also pay for lost arbitrations
+abbrev pub left_at : ℕ → ℕ → List ℕ → ℕ → Ticks
+left_at lost most ticks zero = ahead lost most (plain (slice_index ticks 0))
+left_at lost most ticks (suc n) = later lost (plain (slice_index ticks (suc n)))
+
+later_at : (lost : ℕ) (ticks : List ℕ) (n : ℕ) → n < length ticks
+    → slice_get (map (later lost) (map plain ticks)) n
+    ≡ Some (later lost (plain (slice_index ticks n)))
+later_at lost [] n lt = absurd (omega (arith, lt))
+later_at lost (k ∷ ticks) zero lt = refl
+later_at lost (k ∷ ticks) (suc n) lt = later_at lost ticks n (omega (arith, lt))
+
+pub paid_at : (lost most : ℕ) (ticks : List ℕ) (n : ℕ) → n < length ticks
+    → slice_get (paid lost most (map plain ticks)) n ≡ Some (left_at lost most ticks n)
+paid_at lost most [] n lt = absurd (omega (arith, lt))
+paid_at lost most (k ∷ ticks) zero lt = refl
+paid_at lost most (k ∷ ticks) (suc n) lt = later_at lost ticks n (omega (arith, lt))
 
 -- one place more
 pub ticked_next : (lefts : List Ticks) (n : ℕ) (x : Option Row) (t : Table)

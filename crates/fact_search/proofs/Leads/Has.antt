@@ -3,8 +3,53 @@ use Rattle.std.proofs.Common.{◌≡◌, ℕ, ◌⊎◌, List, [], ◌∷◌, �
 use Rattle.std.proofs.Common.{Bool, true, false}
 use Rattle.std.proofs.lemmas.Bool.{cases_Bool, cond-true, cond-false}
 use Rattle.facts.specs.domain.Rows.{Row, source_at}
-use Rattle.facts.specs.transfer.Edges.{Edge, edge, edge_if, possible, is_possible}
-use Rattle.facts.specs.Steps.{HasEdge}
+use Rattle.board.specs.Boards.{Board}
+use Rattle.seq_program.specs.declared.instr.Instr.{Instr}
+use Rattle.seq_program.specs.Requests.{else_in}
+use Rattle.simulator.specs.ForeignTicks.{foreign_ticks}
+use Rattle.facts.specs.transfer.Edges.{Edge, edge, edge_if, edges, lost_edges, possible}
+use Rattle.facts.specs.transfer.Edges.{is_possible}
+use Rattle.facts.specs.transfer.Ticks.{own_ticks}
+use Rattle.facts.specs.transfer.TimedEdges.{HasTimed, timed, timed_edges}
+
+-- the edge is one of a list
+abbrev pub HasEdge : List Edge → Edge → Type 0
+HasEdge [] x = ⊥
+HasEdge (e ∷ es) x = (x ≡ e) ⊎ HasEdge es x
+
+timed_has : (n : ℕ) (es : List Edge) (x : Edge) (k : ℕ) → HasTimed (timed n es) x k
+    → HasEdge es x × (k ≡ n)
+timed_has n [] x k h = absurd h
+timed_has n (e ∷ es) x k (inl h) = (inl h.0, h.1)
+timed_has n (e ∷ es) x k (inr h) = let z = timed_has n es x k h in (inr z.0, z.1)
+
+timed_either : (xs ys : List (Edge × ℕ)) (x : Edge) (k : ℕ) → HasTimed (xs ++ ys) x k
+    → HasTimed xs x k ⊎ HasTimed ys x k
+timed_either [] ys x k h = inr h
+timed_either (e ∷ xs) ys x k (inl h) = inl (inl h)
+timed_either (e ∷ xs) ys x k (inr h) = go (timed_either xs ys x k h)
+  where
+    go : HasTimed xs x k ⊎ HasTimed ys x k → HasTimed (e ∷ xs) x k ⊎ HasTimed ys x k
+    go (inl z) = inl (inr z)
+    go (inr z) = inr z
+
+-- an edge of an instruction is one of its own, or that of a lost arbitration
+abbrev pub IsOwn : Board → ℕ → Instr → Row → Edge → ℕ → Type 0
+IsOwn b place i row x k = HasEdge (edges b place i row) x × (k ≡ own_ticks b i)
+
+abbrev pub IsLost : Board → Instr → Row → Edge → ℕ → Type 0
+IsLost b i row x k = HasEdge (lost_edges b (else_in i) row) x × (k ≡ foreign_ticks b)
+
+pub own_or_lost : (b : Board) (place : ℕ) (i : Instr) (row : Row) (x : Edge) (k : ℕ)
+    → HasTimed (timed_edges b place i row) x k → IsOwn b place i row x k ⊎ IsLost b i row x k
+own_or_lost b place i row x k h = go (timed_either (timed (own_ticks b i) (edges b place i row))
+    (timed (foreign_ticks b) (lost_edges b (else_in i) row)) x k h)
+  where
+    go : HasTimed (timed (own_ticks b i) (edges b place i row)) x k
+        ⊎ HasTimed (timed (foreign_ticks b) (lost_edges b (else_in i) row)) x k
+        → IsOwn b place i row x k ⊎ IsLost b i row x k
+    go (inl z) = inl (timed_has (own_ticks b i) (edges b place i row) x k z)
+    go (inr z) = inr (timed_has (foreign_ticks b) (lost_edges b (else_in i) row) x k z)
 
 edge_same : (e : Edge) (P : Edge → Type 0) (x : Edge) → x ≡ e → P e → P x
 edge_same e P x same p = subst P (sym same) p

@@ -7,11 +7,10 @@ use Rattle.seq_program.specs.declared.instr.Instr.{Instr}
 use Rattle.facts.specs.declared.duties.rule.Rule.{Rule}
 use Rattle.facts.specs.declared.duties.rule.Rule.TheVariants.{K1, K2, K3, K4, K5, K6, K7, K8, K9}
 use Rattle.facts.specs.duties.Duties.{IsFirstFailing, Meets, MeetsSent, duties}
-use Rattle.facts.specs.transfer.Edges.{Edge, edges}
+use Rattle.facts.specs.transfer.Edges.{Edge}
 use Rattle.seq_program.specs.Requests.{Request, request_in}
 use Rattle.facts.specs.domain.Rows.{Row}
-use Rattle.facts.specs.transfer.Ticks.{worst_ticks}
-use Rattle.facts.specs.transfer.TimedEdges.{timed}
+use Rattle.facts.specs.transfer.TimedEdges.{timed_edges}
 use Rattle.table_check.specs.checker.ByPlace.{MeetsAll}
 use Rattle.table_check.specs.Tables.{Table, row_of}
 use Rattle.fact_search.specs.Searching.{AreEdgesAt}
@@ -76,9 +75,9 @@ duty_fails b p t place i row rule here there h =
 pub duties_met : (b : Board) (p : List Instr) (t : Table) (place : ℕ) (i : Instr) (row : Row)
     (es : List (Edge × ℕ)) → Some i ≡ slice_get p place → Some row ≡ row_of t place
     → IsFirstFailing b row i duties None
-    → IfSome (slice_get p place) (λ j. es ≡ timed (worst_ticks b j) (edges b place j row))
+    → IfSome (slice_get p place) (λ j. es ≡ timed_edges b place j row)
     → AreEdgesAt b p t place es
 duties_met b p t place i row es here there h told =
     let Told : Option Instr → Type 0 = λ o. IfSome o
-    (λ j. es ≡ timed (worst_ticks b j) (edges b place j row)) in
+    (λ j. es ≡ timed_edges b place j row) in
     inr (i, row, sym here, sym there, all_met b i row h, subst Told (sym here) told)

@@ -107,6 +107,7 @@ joins_least b r s u w alike least over other =
       regs = w.regs;
       sources = as_many w.sources s.sources;
       counters = w.counters;
+      lost = w.lost;
     }) (
       zipped_first PagesCover either page_first s.pages.items u.pages.items alike.pages,
       zipped_first ProtectsCover either protect_first s.protects.items u.protects.items
@@ -115,6 +116,7 @@ joins_least b r s u w alike least over other =
       spans_to w.regs s.regs over.regs,
       many_cover w.sources s.sources s.sources refl over.sources,
       spans_to w.counters s.counters over.counters,
+      over.lost,
     ) (
       zipped_second PagesCover either page_second s.pages.items u.pages.items alike.pages,
       zipped_second ProtectsCover either protect_second s.protects.items u.protects.items
@@ -123,6 +125,7 @@ joins_least b r s u w alike least over other =
       spans_to w.regs u.regs other.regs,
       many_cover w.sources s.sources u.sources alike.sources other.sources,
       spans_to w.counters u.counters other.counters,
+      other.lost,
     ))
   where
     by : AllCover PagesCover (zipped either s.pages.items u.pages.items) r.pages.items
@@ -131,7 +134,8 @@ joins_least b r s u w alike least over other =
         × SetCovers (rails_in r.good) (rails_in (bit_and s.good u.good))
         × AllCover SpanCovers w.regs r.regs
         × AllCover SourceCovers (as_many w.sources s.sources) r.sources
-        × AllCover SpanCovers w.counters r.counters → RowCovers b w (row_view r)
+        × AllCover SpanCovers w.counters r.counters
+        × SpanCovers w.lost r.lost → RowCovers b w (row_view r)
     by c = record {
       pages = λ i lt v t.
           of_either (set_at (row_view s).pages i) (set_at (row_view u).pages i)
@@ -148,6 +152,7 @@ joins_least b r s u w alike least over other =
       regs = spans_from w.regs r.regs c.3;
       sources = cover_many w.sources s.sources r.sources c.4 over.sources;
       counters = spans_from w.counters r.counters c.5;
+      lost = c.6;
     }
       where
         of_either : (x y z : Set) (v : ℕ) → (IsTrue (x v) → IsTrue (z v))
@@ -167,8 +172,10 @@ widest b = record {
   regs = replicate 8 (up_to 65535);
   sources = [];
   counters = replicate 4 (up_to 1000);
+  lost = up_to b.contentions;
   base = 0;
   coeffs = replicate 4 0;
+  lost_coeff = 0;
 }
 
 at_map : {X Y : Type 0} (f : X → Y) (xs : List X) (i : ℕ) (x : X) (d : Y)
@@ -229,6 +236,7 @@ widest_covers b s k = record {
       (λ r lt. let h = k.reg_range r lt in omega (arith, h));
   sources = λ r. inl refl;
   counters = spans_below 4 1000 s.counters k.counter_count (λ c lt. (k.counters c lt).1);
+  lost = (omega arith, k.lost_range);
 }
 
 source_shaped : (b : Board) (r s : Source) → SourceCovers r s → IsSource b s → IsSource b r
@@ -250,8 +258,8 @@ zero_at coeffs (suc (suc (suc (suc c)))) e lt = absurd (omega (arith, lt))
 pub between_shaped : (b : Board) (r s : Row) → IsShaped b s → RowCovers b r s
     → RowCovers b (widest b) r → length r.pages ≡ length b.targets
     → length r.protects ≡ length b.targets → length r.sources ≡ 8 → r.base ≡ 0
-    → r.coeffs ≡ replicate 4 0 → IsRow b r
-between_shaped b r s k over under pages protects sources base coeffs = record {
+    → r.coeffs ≡ replicate 4 0 → r.lost_coeff ≡ 0 → IsRow b r
+between_shaped b r s k over under pages protects sources base coeffs coeff = record {
   page_sets = pages;
   protect_sets = protects;
   pages = λ i t at. record {
@@ -286,9 +294,12 @@ between_shaped b r s k over under pages protects sources base coeffs = record {
       let c = span_at_covers r.counters s.counters q over.counters in
       let h = k.counters q lt in
       (omega (arith, c.0, c.1, h.0), below_spans 4 1000 r.counters under.counters q lt);
+  lost = let c = over.lost in let h = k.lost in omega (arith, c.0, c.1, h);
+  lost_range = under.lost.1;
   base = omega (arith, base);
   coeff_count = ap (λ (l : List ℕ). length l) coeffs;
   coeffs = λ c lt. zero_at r.coeffs c coeffs lt;
+  lost_coeff = omega (arith, coeff);
 }
   where
     inside : (i : ℕ) (t : Target) → IsTargetAt b i t → i < length b.targets
@@ -304,8 +315,9 @@ cover_length Covers (x ∷ xs) [] c = absurd c
 pub joins : (b : Board) (r s u : CodeRow) → IsShaped b (row_view s) → IsShaped b (row_view u)
     → CoversByPart r s → CoversByPart r u
     → ((x : CodeRow) → CoversByPart x s → CoversByPart x u → CoversByPart x r) → r.base ≡ 0
-    → r.coeffs ≡ replicate 4 0 → IsJoined b (row_view r) (row_view s) (row_view u)
-joins b r s u k h first second least base coeffs =
+    → r.coeffs ≡ replicate 4 0 → r.lost_coeff ≡ 0
+    → IsJoined b (row_view r) (row_view s) (row_view u)
+joins b r s u k h first second least base coeffs coeff =
     let over = rows_cover b r s first in
     let below = λ (w : Row) (x : RowCovers b w (row_view s)) (y : RowCovers b w (row_view u)).
     joins_least b r s u w alike least x y in
@@ -318,7 +330,8 @@ joins b r s u k h first second least base coeffs =
           (length-map r.protects.items protects_in
           ∙ (cover_length ProtectsCover r.protects.items s.protects.items first.1
           ∙ (sym (length-map s.protects.items protects_in) ∙ k.protect_sets)))
-          (cover_length SourceCovers r.sources s.sources first.4 ∙ k.source_count) base coeffs;
+          (cover_length SourceCovers r.sources s.sources first.4 ∙ k.source_count) base coeffs
+          coeff;
       first = over;
       second = rows_cover b r u second;
       least = below;

@@ -19,7 +19,8 @@ use Rattle.facts.specs.declared.domain.source.Source.{Source}
 use Rattle.facts.specs.declared.domain.source.Source.TheVariants as source
 use Rattle.facts.specs.declared.domain.span.Span.{Span}
 use Rattle.facts.specs.duties.Duties.{one}
-use Rattle.facts.specs.domain.Rows.{IsRow, IsSetOf, IsSource, IsSpan, InSpans, SpansCover}
+use Rattle.facts.specs.domain.Rows.{IsRow, IsSetOf, IsSource, IsSpan, InSpan, InSpans}
+use Rattle.facts.specs.domain.Rows.{SpanCovers, SpansCover}
 use Rattle.facts.specs.domain.Rows.{no_span, row_view, set_at, source_at}
 use Rattle.facts.specs.domain.Sets.{Set, empty, gains, is_page, is_protect, pages_in, protects_in}
 use Rattle.facts.specs.domain.Sets.{rails_in, set_of, with_values}
@@ -191,8 +192,10 @@ pub record StartsBy (b : Board) (row : CodeRow) : Type 0 where
   pub regs : row.regs ≡ replicate 8 (one 0)
   pub sources : row.sources ≡ replicate 8 source.None
   pub counters : row.counters ≡ replicate 4 (one 0)
+  pub lost : row.lost ≡ one 0
   pub base : row.base ≡ 0
   pub coeffs : row.coeffs ≡ replicate 4 0
+  pub lost_coeff : row.lost_coeff ≡ 0
 
 zero_span : (ss : List Span) (n r : ℕ) → ss ≡ replicate n (one 0) → r < n
     → slice_index_or ss r no_span ≡ one 0
@@ -232,12 +235,16 @@ start_shaped b row is k = record {
   counter_count = ap (λ (xs : List Span). length xs) k.counters;
   counters = λ c lt. let P : Span → Type 0 = λ s. IsSpan s × (s.hi ≤ 1000) in
       subst P (sym (zero_span row.counters 4 c k.counters lt)) (omega arith, omega arith);
+  lost = subst IsSpan (sym k.lost) (omega arith);
+  lost_range = let P : Span → Type 0 = λ s. s.hi ≤ b.contentions in
+      subst P (sym k.lost) (omega arith);
   base = let z = k.base in omega (arith, z);
   coeff_count = ap (λ (xs : List ℕ). length xs) k.coeffs;
   coeffs = λ c lt.
       let none = ap (λ (xs : List ℕ). slice_index xs c) k.coeffs in
       let z : slice_index (replicate 4 0) c ≡ 0 = at_replicate 4 c 0 0 lt in
       omega (arith, none, z);
+  lost_coeff = let z = k.lost_coeff in omega (arith, z);
 }
   where
     none_at : (r : ℕ) → source_at row.sources r ≡ source.None
@@ -258,6 +265,9 @@ start_is b row is k = record {
         subst P (sym k.regs) (zeros_inside 8);
     counters = let P : List Span → Type 0 = λ ss. InSpans ss (replicate 4 0) in
         subst P (sym k.counters) (zeros_inside 4);
+    lost = let P : Span → Type 0 = λ s. InSpan s 0 in
+        subst P (sym k.lost) (omega arith, omega arith);
+    lost_coeff = k.lost_coeff;
     sources = λ r.
         ap (λ (xs : List Source). source_at xs r) k.sources ∙ no_source 8 r;
   };
@@ -282,6 +292,8 @@ start_is b row is k = record {
     sources = λ r. inl (h.sources r);
     counters = let P : List Span → Type 0 = λ ss. SpansCover other.counters ss in
         subst P (sym k.counters) (spans_hold 4 other.counters h.counters);
+    lost = let P : Span → Type 0 = λ s. SpanCovers other.lost s in
+        subst P (sym k.lost) (h.lost.0, h.lost.1);
   };
 }
 

@@ -42,11 +42,11 @@ all_by_index P xs d n e h =
     All-from_recursion P xs (by_index P xs d (λ r lt. h r (omega (arith, e, lt))))
 
 -- a row with wider spans
-pub widens : (b : Board) (row : Row) (regs counters : List Span) → IsRow b row
+pub widens : (b : Board) (row : Row) (regs counters : List Span) (lost : Span) → IsRow b row
     → SpansCover regs row.regs → All (λ s. s.hi ≤ 65535) regs → SpansCover counters row.counters
-    → All (λ s. s.hi ≤ 1000) counters
-    → IsRow b (record row { regs = regs; counters = counters })
-widens b row regs counters k c low d few = record {
+    → All (λ s. s.hi ≤ 1000) counters → SpanCovers lost row.lost → lost.hi ≤ b.contentions
+    → IsRow b (record row { regs = regs; counters = counters; lost = lost })
+widens b row regs counters lost k c low d few over under = record {
   page_sets = k.page_sets;
   protect_sets = k.protect_sets;
   pages = k.pages;
@@ -64,9 +64,12 @@ widens b row regs counters k c low d few = record {
       let x = span_at_covers counters row.counters r d in
       let y = k.counters r lt in
       (omega (arith, x.0, x.1, y.0), few r no_span (omega (arith, counter_count, lt)));
+  lost = let h = k.lost in omega (arith, over.0, over.1, h);
+  lost_range = under;
   base = k.base;
   coeff_count = k.coeff_count;
   coeffs = k.coeffs;
+  lost_coeff = k.lost_coeff;
 }
   where
     reg_count : length regs ≡ 8
@@ -75,14 +78,15 @@ widens b row regs counters k c low d few = record {
     counter_count : length counters ≡ 4
     counter_count = spans_length counters row.counters d ∙ k.counter_count
 
-pub widens_covers : (b : Board) (row : Row) (regs counters : List Span)
-    → SpansCover regs row.regs → SpansCover counters row.counters
-    → RowCovers b (record row { regs = regs; counters = counters }) row
-widens_covers b row regs counters c d = record {
+pub widens_covers : (b : Board) (row : Row) (regs counters : List Span) (lost : Span)
+    → SpansCover regs row.regs → SpansCover counters row.counters → SpanCovers lost row.lost
+    → RowCovers b (record row { regs = regs; counters = counters; lost = lost }) row
+widens_covers b row regs counters lost c d over = record {
   pages = λ i lt v t. t;
   protects = λ i lt v t. t;
   good = λ d t. t;
   regs = c;
   sources = λ r. inr refl;
   counters = d;
+  lost = (over.0, over.1);
 }

@@ -28,6 +28,9 @@ spans_trans [] (u ∷ us) vs c k = absurd c
 spans_trans (s ∷ ss) [] vs c k = absurd c
 spans_trans (s ∷ ss) (u ∷ us) [] c k = absurd k
 
+span_trans : (s u v : Span) → SpanCovers s u → SpanCovers u v → SpanCovers s v
+span_trans s u v c k = (omega (arith, c.0, k.0), omega (arith, c.1, k.1))
+
 source_trans : (s u v : Source) → SourceCovers s u → SourceCovers u v → SourceCovers s v
 source_trans s u v (inl e) k = inl e
 source_trans s u v (inr e) (inl f) = inl (e ∙ f)
@@ -41,6 +44,7 @@ covers_self b row = record {
   regs = spans_self row.regs;
   sources = λ r. inr refl;
   counters = spans_self row.counters;
+  lost = (omega arith, omega arith);
 }
 
 pub covers_trans : (b : Board) (s u v : Row) → RowCovers b s u → RowCovers b u v → RowCovers b s v
@@ -52,6 +56,7 @@ covers_trans b s u v c k = record {
   sources = λ r. source_trans (source_at s.sources r) (source_at u.sources r)
       (source_at v.sources r) (c.sources r) (k.sources r);
   counters = spans_trans s.counters u.counters v.counters c.counters k.counters;
+  lost = span_trans s.lost u.lost v.lost c.lost k.lost;
 }
 
 -- ticks are no part of what is covered
@@ -63,6 +68,7 @@ over_ticks b s u c = record {
   regs = c.regs;
   sources = c.sources;
   counters = c.counters;
+  lost = c.lost;
 }
 
 pub no_ticks_cover : (b : Board) (s u : Row) → RowCovers b s u → RowCovers b (without_ticks s) u
@@ -73,6 +79,7 @@ no_ticks_cover b s u c = record {
   regs = c.regs;
   sources = c.sources;
   counters = c.counters;
+  lost = c.lost;
 }
 
 -- a row of the board is one whatever its ticks are
@@ -90,9 +97,12 @@ row_shaped b row h = record {
   sources = h.sources;
   counter_count = h.counter_count;
   counters = h.counters;
+  lost = h.lost;
+  lost_range = h.lost_range;
   base = omega arith;
   coeff_count = refl;
   coeffs = λ c lt. zero_at c lt;
+  lost_coeff = omega arith;
 }
   where
     zero_at : (c : ℕ) → c < 4 → slice_index (replicate 4 0) c ≤ most_ticks
@@ -144,4 +154,5 @@ rows_cover b s u c = record {
   regs = spans_from s.regs u.regs c.3;
   sources = sources_at s.sources u.sources c.4;
   counters = spans_from s.counters u.counters c.5;
+  lost = c.6;
 }

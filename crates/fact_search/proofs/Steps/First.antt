@@ -7,7 +7,9 @@ use Rattle.std.specs.Prelude.{Option, Some, None}
 use Rattle.board.specs.Boards.{Board}
 use Rattle.seq_program.specs.declared.instr.Instr.{Instr}
 use Rattle.facts.specs.declared.domain.row.Row.{Row as CodeRow}
+use Rattle.facts.specs.FactLaws.{without_ticks}
 use Rattle.facts.specs.domain.Rows.{Row, IsRow, RowCovers, row_view}
+use Rattle.facts.specs.well_formed.Starts.{HoldsStarts}
 use Rattle.table_check.specs.Tables.{rows_view, Table, row_of}
 use Rattle.fact_search.specs.Starting.{IsStartRow}
 use Rattle.fact_search.specs.Searching.{IsSearched, Premises, is_changed}
@@ -65,6 +67,19 @@ first_more b rows more changed flags n e f k =
       flag = flag_more changed k.flag;
     }))
 
+-- what holds the starts does so whatever its ticks are
+bare_starts : (b : Board) (row : Row) → HoldsStarts b row → HoldsStarts b (without_ticks row)
+bare_starts b row k = record {
+  pages = k.pages;
+  protects = k.protects;
+  good = k.good;
+  regs = k.regs;
+  counters = k.counters;
+  sources = k.sources;
+  lost = k.lost;
+  lost_coeff = refl;
+}
+
 pub first_searched : (b : Board) (p : List Instr) (t : Table) (changed : List Bool)
     → Premises b p → IsFirst b t changed (length p) → IsSearched b p t changed
 first_searched b p t changed given k = record {
@@ -73,7 +88,7 @@ first_searched b p t changed given k = record {
   rows = λ n row at'.
       let P : Row → Type 0 = λ z. IsRow b z in
       subst P (only n row at') (k.first.2).shaped;
-  start = (k.first.0, k.first.1, (k.first.2).holds);
+  start = (k.first.0, k.first.1, bare_starts b k.first.0 (k.first.2).holds);
   followed = λ n e i row here there.
       absurd (false≢true (sym e ∙ (ap (is_changed changed) (k.others n row there) ∙ k.flag)));
   below = λ forward any inductive n row at'.

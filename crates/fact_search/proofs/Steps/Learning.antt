@@ -76,6 +76,7 @@ under_ticks b s u c = record {
   regs = c.regs;
   sources = c.sources;
   counters = c.counters;
+  lost = c.lost;
 }
 
 -- a place without a row takes the edge's

@@ -11,20 +11,20 @@ use Rattle.facts.specs.declared.duties.rule.Rule.TheVariants.{K1}
 use Rattle.facts.specs.declared.domain.source.Source.{Source}
 use Rattle.facts.specs.declared.domain.source.Source.TheVariants as source
 use Rattle.facts.specs.declared.domain.span.Span.{Span}
-use Rattle.facts.specs.transfer.Edges.{Edge, edge, edges}
+use Rattle.facts.specs.transfer.Edges.{Edge, edge}
 use Rattle.facts.specs.domain.Rows.{Row, RowCovers, InSpans, SpansCover, SourceCovers, row_view}
 use Rattle.facts.specs.domain.Rows.{source_at}
 use Rattle.facts.specs.well_formed.Starts.{HoldsStarts}
-use Rattle.facts.specs.Steps.{HasEdge}
-use Rattle.facts.specs.transfer.Ticks.{worst_ticks}
-use Rattle.facts.specs.transfer.TimedEdges.{timed}
+use Rattle.facts.specs.transfer.TimedEdges.{HasTimed, timed_edges}
 use Rattle.facts.specs.transfer.Ways.{timed_view}
 use Rattle.table_check.specs.checker.Looking.{HasRowsOf}
-use Rattle.table_check.specs.checker.Rules.{IsCovered, Starts}
+use Rattle.table_check.specs.checker.Rules.{IsCovered}
 use Rattle.table_check.specs.Tables.{Table, row_of}
 use Rattle.fact_search.specs.Forward.{IsForward}
+use Rattle.facts.specs.FactLaws.{without_ticks}
 use Rattle.fact_search.specs.Searching.{AreEdgesAt, IsBelow, IsFollowed, IsLearnt, IsSearched}
-use Rattle.fact_search.specs.Searching.{Premises, is_changed}
+use Rattle.fact_search.specs.Searching.{KnowsStarts, Premises, is_changed}
+use Rattle.fact_search.proofs.Leads.Has.{HasEdge}
 use Rattle.fact_search.proofs.Shared.Covers.{covers_self, covers_trans}
 use Rattle.fact_search.proofs.Shared.Places.{some_same, within}
 use Rattle.fact_search.proofs.Shared.Tables.{length_set}
@@ -43,13 +43,20 @@ firsts_view : (items : List (ℕ × CodeRow × ℕ)) → firsts (map timed_view 
 firsts_view [] = refl
 firsts_view (x ∷ items) = ap (λ es. edge x.0 (row_view x.1) ∷ es) (firsts_view items)
 
-firsts_timed : (worst : ℕ) (es : List Edge) → firsts (timed worst es) ≡ es
-firsts_timed worst [] = refl
-firsts_timed worst (e ∷ es) = ap (λ xs. e ∷ xs) (firsts_timed worst es)
+-- an edge without its ticks, and back
+first_has : (es : List (Edge × ℕ)) (x : Edge) (k : ℕ) → HasTimed es x k → HasEdge (firsts es) x
+first_has [] x k h = absurd h
+first_has (e ∷ es) x k (inl h) = inl h.0
+first_has (e ∷ es) x k (inr h) = inr (first_has es x k h)
 
-pub same_edges : (items : List (ℕ × CodeRow × ℕ)) (worst : ℕ) (es : List Edge)
-    → map timed_view items ≡ timed worst es → edges_view items ≡ es
-same_edges items worst es e = sym (firsts_view items) ∙ (ap firsts e ∙ firsts_timed worst es)
+has_first : (es : List (Edge × ℕ)) (x : Edge) → HasEdge (firsts es) x → (k : ℕ) × HasTimed es x k
+has_first [] x h = absurd h
+has_first (e ∷ es) x (inl h) = (e.1, inl (h, refl))
+has_first (e ∷ es) x (inr h) = let z = has_first es x h in (z.0, inr z.1)
+
+same_edges : (items : List (ℕ × CodeRow × ℕ)) (es : List (Edge × ℕ)) → map timed_view items ≡ es
+    → edges_view items ≡ firsts es
+same_edges items es e = sym (firsts_view items) ∙ ap firsts e
 
 no_edges : (items : List (ℕ × CodeRow × ℕ)) → map timed_view items ≡ [] → edges_view items ≡ []
 no_edges items e = sym (firsts_view items) ∙ ap firsts e
@@ -67,8 +74,8 @@ covered_on b t new e g c =
 
 followed_on : (b : Board) (p : List Instr) (t new : Table) (n : ℕ) → Grows b t new
     → row_of new n ≡ row_of t n → IsFollowed b p t n → IsFollowed b p new n
-followed_on b p t new n g same k i row here there met e h =
-    covered_on b t new e g (k i row here (sym same ∙ there) met e h)
+followed_on b p t new n g same k i row here there met e ticks h =
+    covered_on b t new e g (k i row here (sym same ∙ there) met e ticks h)
 
 grows_by : (b : Board) (place : ℕ) (t new : Table) (e : Edge) (changed : Bool)
     → IsLearnt b place t new e changed → Grows b t new
@@ -95,7 +102,8 @@ source_none : (s u : Source) → SourceCovers s u → u ≡ source.None → s �
 source_none s u (inl e) k = e
 source_none s u (inr e) k = e ∙ k
 
-pub starts_hold : (b : Board) (s u : Row) → RowCovers b s u → HoldsStarts b u → HoldsStarts b s
+pub starts_hold : (b : Board) (s u : Row) → RowCovers b s u → HoldsStarts b (without_ticks u)
+    → HoldsStarts b (without_ticks s)
 starts_hold b s u c k = record {
   pages = λ i t at' j d lt.
       c.pages i (within b.targets i t at') _ (k.pages i t at' j d lt);
@@ -106,6 +114,8 @@ starts_hold b s u c k = record {
   counters = spans_hold s.counters u.counters (replicate 4 0) c.counters k.counters;
   sources = λ r. source_none (source_at s.sources r) (source_at u.sources r) (c.sources r)
       (k.sources r);
+  lost = (omega (arith, c.lost.0, k.lost.0), omega (arith, c.lost.1, k.lost.1));
+  lost_coeff = refl;
 }
 
 -- what a visit keeps, where some edges are still to come
@@ -114,7 +124,7 @@ pub record IsVisiting (b : Board) (p : List Instr) (place : ℕ) (es : List Edge
   pub places : length t ≡ length p
   pub flags : length changed ≡ length p
   pub rows : HasRowsOf b t
-  pub start : Starts b t
+  pub start : KnowsStarts b t
   pub below : IsForward p → IsBelow b p t
   pub others : (n : ℕ) → (n ≡ place → ⊥) → is_changed changed n ≡ false → IsFollowed b p t n
   pub itself : is_changed changed place ≡ false → row_of t place ≡ row_of first place
@@ -135,8 +145,9 @@ coming_first b p t place items given below rows (inr x) e h =
     let i : Instr = x.0 in
     let row : Row = x.1 in
     let P : List Edge → Type 0 = λ es. HasEdge es e in
-    is_edge b p t place i row given below (rows place row x.3) x.2 x.3 (x.4 K1) e
-    (subst P (same_edges items (worst_ticks b i) (edges b place i row) x.5) h)
+    let z = has_first (timed_edges b place i row) e
+    (subst P (same_edges items (timed_edges b place i row) x.5) h) in
+    is_edge b p t place i row given below (rows place row x.3) x.2 x.3 (x.4 K1) e z.0 z.1
 
 pub visit_first : (b : Board) (p : List Instr) (t : Table) (changed : List Bool) (place : ℕ)
     (items : List (ℕ × CodeRow × ℕ)) → Premises b p → IsSearched b p t changed
@@ -202,7 +213,7 @@ below_more b p place t new x changed k coming below forward any inductive n row 
             let P : Row → Type 0 = λ z. RowCovers b z s in
             subst P (some_same y.0 c.0 (sym y.1 ∙ c.1)) y.2
 
-start_more : (b : Board) (t new : Table) → Grows b t new → Starts b t → Starts b new
+start_more : (b : Board) (t new : Table) → Grows b t new → KnowsStarts b t → KnowsStarts b new
 start_more b t new g s =
     let x = g 0 s.0 s.1 in
     (x.0, x.1, starts_hold b x.0 s.0 x.2 s.2)
@@ -292,18 +303,18 @@ visit_last b p place items first t changed next k led = record {
   where
     here : is_changed changed place ≡ false
         → AreEdgesAt b p first place (map timed_view items) → IsFollowed b p t place
-    here e (inl none) i row at' there met x h =
+    here e (inl none) i row at' there met x ticks h =
         absurd (none.1 i row at' (sym (k.itself e) ∙ there) met)
-    here e (inr y) i row at' there met x h =
+    here e (inr y) i row at' there met x ticks h =
         let j : Instr = y.0 in
         let old : Row = y.1 in
         let si : i ≡ j = some_same i j (sym at' ∙ y.2) in
         let sr : row ≡ old = some_same row old (sym there ∙ (k.itself e ∙ y.3)) in
-        let P : Instr → Type 0 = λ z. HasEdge (edges b place z row) x in
-        let Q : Row → Type 0 = λ z. HasEdge (edges b place j z) x in
+        let P : Instr → Type 0 = λ z. HasTimed (timed_edges b place z row) x ticks in
+        let Q : Row → Type 0 = λ z. HasTimed (timed_edges b place j z) x ticks in
         let R : List Edge → Type 0 = λ es. HasEdge es x in
-        done x (k.covered x (subst R (sym (same_edges items (worst_ticks b j)
-        (edges b place j old) y.5)) (subst Q sr (subst P si h))))
+        done x (k.covered x (subst R (sym (same_edges items (timed_edges b place j old) y.5))
+        (first_has (timed_edges b place j old) x ticks (subst Q sr (subst P si h)))))
       where
         done : (x : Edge) → ⊥ ⊎ IsCovered b t x → IsCovered b t x
         done x (inl never) = absurd never

@@ -1,6 +1,6 @@
 -- Worst ticks are low.
 use Rattle.std.proofs.Common.{◌≡◌, ℕ, ◌+◌, ◌*◌, ◌≤◌, ◌⊎◌, inl, inr, sym, ◌∙◌, subst, true, false}
-use Rattle.std.proofs.Common.{Bool, max, if◌then◌else◌, List, [], ◌∷◌, refl, arith}
+use Rattle.std.proofs.Common.{List, [], ◌∷◌, refl, arith}
 use Rattle.std.proofs.Common.{mul-le-mul}
 use Rattle.std.proofs.lemmas.List.Elements.{recursion_from_All}
 use Rattle.std.specs.Prelude.{slice_get, Option, Some, None, IfSome, option_and_then, option_map}
@@ -21,7 +21,6 @@ use Rattle.facts.specs.duties.Allowing.{lengths_at}
 use Rattle.smbus.specs.Contenders.{contender_slot_count}
 use Rattle.simulator.specs.ForeignTicks.{foreign_ticks}
 use Rattle.facts.specs.transfer.Ticks.{frame_ticks, longest_slots, ticks_of, other_ticks, own_ticks}
-use Rattle.facts.specs.transfer.Ticks.{is_contended, worst_ticks}
 use Rattle.fact_search.proofs.Shared.Places.{is_target, none_some, some_same}
 
 -- the entry that is found is one of the list
@@ -156,7 +155,7 @@ of_low b i (Some s) is f f' =
     is.targets))
     (slots_low b s is f')
 
-foreign_low : (b : Board) → IsBoard b → IsLow (foreign_ticks b)
+pub foreign_low : (b : Board) → IsBoard b → IsLow (foreign_ticks b)
 foreign_low b is =
     let bytes = is.foreign_bytes in
     let stretch = is.foreign_stretch in
@@ -166,16 +165,5 @@ foreign_low b is =
     mul-le-mul {m₂ = 5002} slots each in
     (omega arith, omega (arith, m))
 
-pub worst_low : (b : Board) (i : Instr) → IsBoard b → IsInstr i → IsLow (worst_ticks b i)
-worst_low b i is f = by (is_contended b i)
-  where
-    own : IsLow (own_ticks b i)
-    own = of_low b i (request_in i) is f (fits_blocks i f)
-
-    by : (contended : Bool)
-        → IsLow (if contended then max (own_ticks b i) (foreign_ticks b) else own_ticks b i)
-    by true =
-        let o = own in
-        let other = foreign_low b is in
-        (omega (arith, o.0), omega (arith, o.1, other.1))
-    by false = own
+pub own_low : (b : Board) (i : Instr) → IsBoard b → IsInstr i → IsLow (own_ticks b i)
+own_low b i is f = of_low b i (request_in i) is f (fits_blocks i f)

@@ -1,4 +1,4 @@
-use Rattle.std.proofs.Common.{◌≡◌, ℕ, List, sym, subst, length, map, ap, ◌∙◌, true, false}
+use Rattle.std.proofs.Common.{◌≡◌, List, sym, subst, length, ap, ◌∙◌, true, false}
 use Rattle.std.specs.Prelude.{Option}
 use Rattle.board.specs.Boards.{Board}
 use Rattle.seq_program.specs.declared.instr.Instr.{Instr}
@@ -9,23 +9,23 @@ use Rattle.fact_search.specs.Finds.{IsFound, TellsCause}
 use Rattle.fact_search.specs.Forward.{IsForward}
 use Rattle.fact_search.specs.Searching.{IsFollowedTable, Premises}
 use Rattle.fact_search.specs.declared.loops.Ticks.{Ticks}
-use Rattle.fact_search.specs.Ticking.{DoFit, plain, ticked}
+use Rattle.fact_search.specs.Ticking.{ArePaid, ticked}
 use Rattle.fact_search.proofs.Ends.Found.{is_found, tells_cause}
 use Rattle.fact_search.proofs.Ends.Shaped.{shaped}
 use Rattle.fact_search.proofs.Ends.Ticked.{length_ticked}
 use Rattle.fact_search.proofs.finding.find.Goals as goal
-use Rattle.fact_search.proofs.finding.find.Goals.{then-is_forward+in_ok-ticks+in_ok-lefts}
+use Rattle.fact_search.proofs.finding.find.Goals.{then-is_forward+in_ok-lefts}
 use Rattle.fact_search.proofs.finding.find.Goals.{else-is_forward+in_ok-lefts-2}
 
-pub forward_ticks-requires-clause-led : goal.forward_ticks-requires-clause-led
-forward_ticks-requires-clause-led c = c.in_ok-known.ensures.led
+pub ticks_onward-requires-clause-led : goal.ticks_onward-requires-clause-led
+ticks_onward-requires-clause-led c = c.in_ok-known.ensures.led
 
 pub ticks_with_loops-requires : goal.ticks_with_loops-requires
 ticks_with_loops-requires c =
     let P : List (Option CodeRow) → Type 0 = λ items. HasRowsOf c.args.board.now
     (rows_view items) in
     record {
-      rows = subst P (sym c.deref-else-is_forward.ensures.value) c.in_ok-known.ensures.done.rows;
+      rows = subst P (sym c.deref.ensures.value) c.in_ok-known.ensures.done.rows;
     }
 
 pub returns-clause-shaped : goal.returns-clause-shaped
@@ -44,28 +44,24 @@ true_false : true ≡ false → ⊥
 true_false e = cc
 
 -- of a forward program
-told : (b : Board) (p : List Instr) (t new : Table) (ticks now : List ℕ)
-    (lefts plains : List Ticks) → new ≡ ticked lefts t → lefts ≡ plains → plains ≡ map plain now
-    → now ≡ ticks → Premises b p → IsFollowedTable b p t → DoFit b p t ticks → IsForward p
-    → IsFound b p new × TellsCause b p new
-told b p t new ticks now lefts plains e f g h given k fit forward =
+told : (b : Board) (p : List Instr) (t new : Table) (lefts now : List Ticks)
+    → new ≡ ticked lefts t → lefts ≡ now → Premises b p → IsFollowedTable b p t
+    → ArePaid b p t now → IsForward p → IsFound b p new × TellsCause b p new
+told b p t new lefts now e f given k paid forward =
     let R : Table → Type 0 = λ z. IsFound b p z × TellsCause b p z in
-    let same : ticked (map plain ticks) t ≡ new =
-    sym (e
-    ∙ ap (λ (xs : List Ticks). ticked xs t) (f ∙ (g ∙ ap (λ (xs : List ℕ). map plain xs) h))) in
-    subst R same (is_found b p t ticks given k fit forward, tells_cause b p t ticks given k fit)
+    let same : ticked now t ≡ new = sym (e ∙ ap (λ (xs : List Ticks). ticked xs t) f) in
+    subst R same
+    (is_found b p t now given k paid forward, tells_cause b p t now given k paid forward)
 
 pub returns-clause-found : goal.returns-clause-found
 returns-clause-found c = λ forward.
     elim c.if-is_forward.branch [
-      | then-is_forward+in_ok-ticks+in_ok-lefts w ↦
+      | then-is_forward+in_ok-lefts w ↦
           (told c.args.board.now c.args.program.now (rows_view c.in_ok-known.known.rows.items)
-          (rows_view c.in_ok-with_ticks.field-0.items)
-          w.in_ok-ticks.ticks.items w.deref.result.now c.deref-2.result.now
+          (rows_view c.in_ok-with_ticks.field-0.items) c.deref-2.result.now
           w.in_ok-lefts.lefts.items c.in_ok-with_ticks.ensures.rows
-          (c.deref-2.ensures.value ∙ ap (λ v. v.items) w.lefts-is) w.in_ok-lefts.ensures
-          w.deref.ensures.value
-          c.premises.ensures c.in_ok-known.ensures.done w.in_ok-ticks.ensures forward).0
+          (c.deref-2.ensures.value ∙ ap (λ v. v.items) w.lefts-is) c.premises.ensures
+          c.in_ok-known.ensures.done w.in_ok-lefts.ensures forward).0
       | else-is_forward+in_ok-lefts-2 w ↦
           absurd (true_false (sym (c.is_forward.ensures.1 forward) ∙ w.if-is_forward.false))
     ]
@@ -73,14 +69,12 @@ returns-clause-found c = λ forward.
 pub returns-clause-cause : goal.returns-clause-cause
 returns-clause-cause c = λ forward.
     elim c.if-is_forward.branch [
-      | then-is_forward+in_ok-ticks+in_ok-lefts w ↦
+      | then-is_forward+in_ok-lefts w ↦
           (told c.args.board.now c.args.program.now (rows_view c.in_ok-known.known.rows.items)
-          (rows_view c.in_ok-with_ticks.field-0.items)
-          w.in_ok-ticks.ticks.items w.deref.result.now c.deref-2.result.now
+          (rows_view c.in_ok-with_ticks.field-0.items) c.deref-2.result.now
           w.in_ok-lefts.lefts.items c.in_ok-with_ticks.ensures.rows
-          (c.deref-2.ensures.value ∙ ap (λ v. v.items) w.lefts-is) w.in_ok-lefts.ensures
-          w.deref.ensures.value
-          c.premises.ensures c.in_ok-known.ensures.done w.in_ok-ticks.ensures forward).1
+          (c.deref-2.ensures.value ∙ ap (λ v. v.items) w.lefts-is) c.premises.ensures
+          c.in_ok-known.ensures.done w.in_ok-lefts.ensures forward).1
       | else-is_forward+in_ok-lefts-2 w ↦
           absurd (true_false (sym (c.is_forward.ensures.1 forward) ∙ w.if-is_forward.false))
     ]

@@ -17,10 +17,12 @@ widen-requires-2-clause-most c =
 pub returns-clause-row : goal.returns-clause-row
 returns-clause-row c =
     widens c.args.board.now (row_view c.args.row) c.widen.new.spans c.widen-2.new.spans
-    c.requires.row c.widen.ensures.covers c.widen.ensures.most c.widen-2.ensures.covers
-    c.widen-2.ensures.most
+    c.widen_lost-row.result c.requires.row c.widen.ensures.covers c.widen.ensures.most
+    c.widen-2.ensures.covers c.widen-2.ensures.most c.widen_lost-row.ensures.covers
+    c.widen_lost-row.ensures.most
 
 pub returns-clause-covers : goal.returns-clause-covers
 returns-clause-covers c =
     widens_covers c.args.board.now (row_view c.args.row) c.widen.new.spans c.widen-2.new.spans
-    c.widen.ensures.covers c.widen-2.ensures.covers
+    c.widen_lost-row.result c.widen.ensures.covers c.widen-2.ensures.covers
+    c.widen_lost-row.ensures.covers

@@ -18,8 +18,10 @@ returns c =
       regs = replicate 8 (one 0);
       sources = replicate 8 source.None;
       counters = replicate 4 (one 0);
+      lost = one 0;
       base = 0;
       coeffs = replicate 4 0;
+      lost_coeff = 0;
     } in
     let P : List Target → Type 0 = λ ts. HoldEachStart pages_in (λ t. t.start_pages)
     row.pages.items ts in
@@ -32,6 +34,8 @@ returns c =
       regs = refl;
       sources = refl;
       counters = refl;
+      lost = refl;
       base = refl;
       coeffs = refl;
+      lost_coeff = refl;
     })

@@ -9,7 +9,7 @@ use Rattle.fact_search.proofs.ticking.forward_ticks.Goals as goal
 pub loop-done-init : goal.loop-done-init
 loop-done-init c =
     fit_first c.args.board.now c.args.program.now (rows_view c.args.known.now.rows.items)
-    c.in_ok-ticks.ticks.items c.places-places.result
+    c.args.lost c.in_ok-ticks.ticks.items c.places-places.result
     (c.in_ok-ticks.ensures.items_if_clones_equal (λ y e. e)) c.places-places.ensures.count
 
 pub index-requires : goal.index-requires
@@ -55,10 +55,10 @@ longest-requires-clause-most c =
     let count = c.places-places.ensures.count in
     let more = c.loop-done-test.true in
     let Q : List ℕ → Type 0 = λ xs. All (λ n. n ≤ 1099511627776) xs in
-    subst Q (sym c.deref-in-loop-done.ensures.value)
-    (all_low c.args.board.now c.args.program.now (rows_view c.args.known.now.rows.items)
-    c.loop-done.ticks.items c.loop-done.done c.loop-done.invariant
-    (omega (arith, few, count, more)))
+    subst Q (sym c.deref-in-loop-done.ensures.value) (λ i d lt.
+    let low = all_low c.args.board.now c.args.program.now (rows_view c.args.known.now.rows.items)
+    c.args.lost c.loop-done.ticks.items c.loop-done.done c.loop-done.invariant
+    (omega (arith, few, count, more)) i d lt in omega (arith, low))
 
 pub index_mut-requires : goal.index_mut-requires
 index_mut-requires c =
@@ -85,13 +85,16 @@ loop-done-preserved c =
     c.args.known.now.leads.items (c.places-places.result - 1 - c.loop-done.done)
     c.index.result.now c.deref.result.now c.requires.led (omega (arith, count, more))
     c.index.ensures c.deref.ensures.value in
-    let P : List ℕ → Type 0 = λ xs. PaysAt b p t xs place n in
+    let lost = c.args.lost in
+    let cost = c.most_cost-cost.result in
+    let P : List ℕ → Type 0 = λ xs. PaysAt b p t lost xs place n in
     let Q : List ℕ → Type 0 = λ xs. (bound : ℕ) → 1 ≤ bound → All (λ m. m ≤ bound) xs
     → n ≤ bound + most_worst in
-    fit_more b p t ticks done place n c.requires.forward c.loop-done.invariant
+    fit_more b p t lost ticks done place n c.requires.forward c.loop-done.invariant
     (omega (arith, count, more)) c.longest.ensures.some
     (subst P c.deref-in-loop-done.ensures.value (leads_pay b p t place c.deref.result.now
-    c.deref-in-loop-done.result.now n led c.longest.ensures.pays))
+    lost cost c.deref-in-loop-done.result.now n led c.most_cost-cost.ensures
+    c.longest.ensures.pays))
     (subst Q c.deref-in-loop-done.ensures.value c.longest.ensures.most)
 
 pub returns : goal.returns
@@ -101,5 +104,5 @@ returns c =
     let stop = c.loop-done-test.false in
     let end = c.loop-done.auto.done-end in
     do_fit c.args.board.now c.args.program.now (rows_view c.args.known.now.rows.items)
-    c.loop-done.ticks.items c.loop-done.done c.loop-done.invariant
+    c.args.lost c.loop-done.ticks.items c.loop-done.done c.loop-done.invariant
     (omega (arith, count, stop)) (omega (arith, few, count, end))

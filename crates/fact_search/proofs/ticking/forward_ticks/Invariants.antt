@@ -4,4 +4,4 @@ use Rattle.fact_search.proofs.ticking.forward_ticks.Given as goal
 
 abbrev pub invariant-loop-done : goal.invariant-loop-done
 invariant-loop-done l =
-    FitLast l.board l.program (rows_view l.known.rows.items) l.ticks.items l.done
+    FitLast l.board l.program (rows_view l.known.rows.items) l.lost l.ticks.items l.done
