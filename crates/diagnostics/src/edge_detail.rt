@@ -98,6 +98,18 @@ fn sources_detail<'a>(
     Some(source_detail(board, index, *source))
 }
 
+/// How many arbitrations may be lost, where the row doesn't cover that.
+fn lost_detail(known: &Row, claimed: &Row) -> Option<Sentence<'static>> {
+    if claimed.lost.covers(&known.lost) {
+        return None;
+    }
+    Some(Sentence::two(
+        "`lost` may be {}, and there the row has {}",
+        Word::Span(known.lost.lo, known.lost.hi),
+        Word::Span(claimed.lost.lo, claimed.lost.hi),
+    ))
+}
+
 /// What a row says that isn't known.
 fn uncovered<'a>(board: &'a Board, known: &'a Row, claimed: &'a Row) -> Option<Sentence<'a>> {
     let pages = pages_detail(board, known, claimed);
@@ -112,12 +124,23 @@ fn uncovered<'a>(board: &'a Board, known: &'a Row, claimed: &'a Row) -> Option<S
         .or(regs)
         .or(sources)
         .or(counters)
+        .or(lost_detail(known, claimed))
 }
 
-/// What a row leaves at some counters.
-fn ticks_at(row: &Row, counters: &[u16; 4]) -> u128 {
-    let mut ticks = u128::from(row.base);
-    for (coeff, counter) in row.coeffs.iter().zip(counters) {
+/// Where ticks are counted: at these counters, and so many lost arbitrations of how many may be.
+#[derive(Clone, Copy)]
+struct Spot {
+    counters: [u16; 4],
+    lost: u16,
+    most: u16,
+}
+
+/// What a row leaves at some counters and lost arbitrations.
+fn ticks_at(row: &Row, spot: &Spot) -> u128 {
+    let left = u128::from(spot.most.saturating_sub(spot.lost));
+    let lost = u128::from(row.lost_coeff).saturating_mul(left);
+    let mut ticks = u128::from(row.base).saturating_add(lost);
+    for (coeff, counter) in row.coeffs.iter().zip(&spot.counters) {
         let more = u128::from(*coeff).saturating_mul(u128::from(*counter));
         ticks = ticks.saturating_add(more);
     }
@@ -135,19 +158,32 @@ fn worst_counters(row: &Row, next: &[u64; 4]) -> [u16; 4] {
     counters
 }
 
-/// The counters that count, if some do.
-fn counters_text(
-    alloc: Global,
-    counters: &[u16; 4],
-    row: &Row,
-    next: &[u64; 4],
-) -> Result<String, AllocError> {
+/// How many arbitrations were lost where a row leaves least, beside another row.
+fn worst_lost(row: &Row, next: &Row) -> u16 {
+    if next.lost_coeff > row.lost_coeff {
+        row.lost.lo
+    } else {
+        row.lost.hi
+    }
+}
+
+/// What joins what counts to what was said.
+fn joint(text: &str) -> &'static str {
+    if text.is_empty() { ", where" } else { " and" }
+}
+
+/// The counters that count and the lost arbitrations, if they do.
+fn spot_text(alloc: Global, spot: &Spot, row: &Row, next: &Row) -> Result<String, AllocError> {
     let mut text = String::new(alloc);
-    for (index, counter) in counters.iter().enumerate() {
-        if row.coeffs[index] > 0 || next[index] > 0 {
-            let joint = if text.is_empty() { ", where" } else { " and" };
+    for (index, counter) in spot.counters.iter().enumerate() {
+        if row.coeffs[index] > 0 || next.coeffs[index] > 0 {
+            let joint = joint(&text);
             write!(text, "{joint} c{index} is {counter} then")?;
         }
+    }
+    if row.lost_coeff > 0 || next.lost_coeff > 0 {
+        let (joint, lost) = (joint(&text), spot.lost);
+        write!(text, "{joint} `lost` is {lost} then")?;
     }
     Ok(text)
 }
@@ -155,22 +191,27 @@ fn counters_text(
 /// Both sums, where the ticks that are left don't pay for what follows.
 fn ticks_detail(
     alloc: Global,
+    board: &Board,
     place: usize,
     edge: &Edge,
     next: &Row,
 ) -> Result<Option<String>, AllocError> {
     let (to, row, worst) = edge;
-    let counters = worst_counters(row, &next.coeffs);
-    let (before, after) = (ticks_at(row, &counters), ticks_at(next, &counters));
+    let spot = Spot {
+        counters: worst_counters(row, &next.coeffs),
+        lost: worst_lost(row, next),
+        most: board.contentions(),
+    };
+    let (before, after) = (ticks_at(row, &spot), ticks_at(next, &spot));
     let needed = u128::from(*worst).saturating_add(after);
     if needed <= before {
         return Ok(None);
     }
     let unit = if *worst == 1 { "tick" } else { "ticks" };
-    let counters = counters_text(alloc, &counters, row, &next.coeffs)?;
+    let spot = spot_text(alloc, &spot, row, next)?;
     Ok(Some(format!(in alloc;
         "{worst} {unit} at most and the {after} of row {to} are {needed}, and row {place} leaves \
-         {before} for them{counters}"
+         {before} for them{spot}"
     )?))
 }
 
@@ -186,7 +227,7 @@ fn broken_by(
         return Ok(Some(format!(in alloc; "row {to} is none")?));
     };
     if next.covers(known) {
-        ticks_detail(alloc, place, edge, next)
+        ticks_detail(alloc, judged.board, place, edge, next)
     } else {
         match uncovered(judged.board, known, next) {
             Some(detail) => {
@@ -212,6 +253,15 @@ fn end_detail(
     }
 }
 
+/// What tells an edge from the others of its place: a third one is that of a lost arbitration.
+fn way_name(number: usize) -> &'static str {
+    if number < 2 {
+        ""
+    } else {
+        " after a lost arbitration"
+    }
+}
+
 /// What the first edge breaks that breaks something, with the line to which it leads.
 pub(crate) fn edge_detail(
     alloc: Global,
@@ -219,11 +269,12 @@ pub(crate) fn edge_detail(
     lines: &[usize],
     place: usize,
 ) -> Result<Option<String>, AllocError> {
-    for edge in &judged.edges(alloc, place)? {
+    for (number, edge) in judged.edges(alloc, place)?.iter().enumerate() {
         if let Some(detail) = broken_by(alloc, judged, place, edge)? {
             let (to, _row, _ticks) = edge;
             let line = lines.get(*to).copied().unwrap_or(0);
-            return Ok(Some(format!(in alloc; "on the way to line {line}, {detail}")?));
+            let way = way_name(number);
+            return Ok(Some(format!(in alloc; "on the way to line {line}{way}, {detail}")?));
         }
     }
     end_detail(alloc, judged, place)

@@ -179,13 +179,22 @@ fn find_note(alloc: Global, text: &str, sequence: &Sequence) -> Result<Option<St
     }
 }
 
+/// What may help where the first line is none of a table.
+fn version_help(alloc: Global, number: usize) -> Result<Option<String>, AllocError> {
+    if number != 1 {
+        return Ok(None);
+    }
+    let help = "a table that counts lost arbitrations begins with the line `version 2`";
+    Ok(Some(String::from_str(alloc, help)?))
+}
+
 /// The note on a line that is none of a table.
 fn table_note(alloc: Global, table: &str, number: usize) -> Result<String, AllocError>
     ensures { IfOk result
         (λ note. IsNote (codes "%table") number (lines_by_feed table.now) (string_bytes note)) }
 {
-    let message = "no table of this board goes on with this line";
-    let remark = Remark::plain(alloc, message)?;
+    let message = String::from_str(alloc, "no table of this board goes on with this line")?;
+    let remark = Remark::new(message, version_help(alloc, number)?);
     note_of(alloc, "%table", table, number, &remark)
 }
 

@@ -77,8 +77,9 @@ fn help_on(refusal: Refusal) -> Option<&'static str> {
              it; when they are used up, the line below `again` comes next",
         ),
         Refusal::Breaks(Rule::K7) => Some(
-            "of a row's `ticks`, the first are left in any case, and the others for each turn left \
-             of c0 to c3; `find` makes a table anew",
+            "of a row's `ticks`, the first are left in any case, the next four for each turn left \
+             of c0 to c3, and a sixth for each arbitration that may still be lost; `find` makes a \
+             table anew",
         ),
         Refusal::Breaks(Rule::K6 | Rule::K8) => Some(
             "in a row, values stand side by side, as in `page a 00 01`; `find` makes a table anew",

@@ -73,8 +73,10 @@ fn start_row(alloc: Global, board: &Board, mut choice: Choice) -> Result<Row, Al
         regs: [ZERO; 8],
         sources: [Source::None; 8],
         counters: [ZERO; 4],
+        lost: ZERO,
         base: 0,
         coeffs: [0; 4],
+        lost_coeff: 0,
     })
 }
 

@@ -34,13 +34,38 @@ fn foreign_page<'a>(board: &'a Board, row: &Row) -> Option<Sentence<'a>> {
     None
 }
 
+/// What is wrong with the number of lost arbitrations.
+fn lost_detail(board: &Board, row: &Row) -> Option<Sentence<'static>> {
+    let Span { lo, hi } = row.lost;
+    let high = Word::Number(u64::from(hi));
+    if lo > hi {
+        let low = Word::Number(u64::from(lo));
+        return Some(Sentence::two("`lost` is from {} to {}, in no order", low, high));
+    }
+    let most = board.contentions();
+    if hi > most {
+        let most = Word::Number(u64::from(most));
+        return Some(Sentence::two("`lost` is up to {}, and `contentions` is {}", high, most));
+    }
+    None
+}
+
+/// Whether a number of `ticks` is over what it may be.
+fn has_many_ticks(row: &Row) -> bool {
+    let ticks = [row.base, row.lost_coeff];
+    ticks
+        .iter()
+        .chain(&row.coeffs)
+        .any(|ticks| *ticks > MOST_TICKS)
+}
+
 /// The first number of a row that is over what it may be.
 fn greatest_detail(row: &Row) -> Option<Sentence<'static>> {
     if let Some(index) = row.counters.iter().position(|span| span.hi > MOST_TURNS) {
         let most = Word::Number(u64::from(MOST_TURNS));
         return Some(Sentence::two("c{} is over {}", Word::Count(index), most));
     }
-    if row.base > MOST_TICKS || row.coeffs.iter().any(|coeff| *coeff > MOST_TICKS) {
+    if has_many_ticks(row) {
         let most = Word::Number(MOST_TICKS);
         return Some(Sentence::one("a number of `ticks` is over {}", most));
     }
@@ -53,6 +78,7 @@ fn row_detail<'a>(board: &'a Board, row: &Row) -> Option<Sentence<'a>> {
     foreign_page(board, row)
         .or(regs)
         .or(counters)
+        .or(lost_detail(board, row))
         .or(greatest_detail(row))
 }
 
@@ -174,6 +200,21 @@ fn source_start(sources: &[Source; 8]) -> Option<Sentence<'static>> {
     ))
 }
 
+/// That row 0 knows of lost arbitrations, or pays for one.
+fn lost_start(row: &Row) -> Option<Sentence<'static>> {
+    if row.lost.lo > 0 {
+        let lost = Word::Span(row.lost.lo, row.lost.hi);
+        return Some(Sentence::one("`lost` is 0 at the start, and row 0 has {}", lost));
+    }
+    if row.lost_coeff > 0 {
+        return Some(Sentence::one(
+            "the last number of `ticks` is 0 at the start, and row 0 has {}",
+            Word::Number(row.lost_coeff),
+        ));
+    }
+    None
+}
+
 /// K8: what of the start isn't in row 0.
 pub(crate) fn start_detail(judged: Judged<'_>) -> Option<Sentence<'_>> {
     let board = judged.board;
@@ -187,4 +228,5 @@ pub(crate) fn start_detail(judged: Judged<'_>) -> Option<Sentence<'_>> {
         .or(regs)
         .or(source_start(&row.sources))
         .or(counters)
+        .or(lost_start(row))
 }

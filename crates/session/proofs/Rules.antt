@@ -75,9 +75,12 @@ shaped_row b row k = record {
   sources = λ r lt. subst (IsSource b) (sym (no_source r)) tt;
   counter_count = k.counter_count;
   counters = k.counters;
+  lost = k.lost;
+  lost_range = k.lost_range;
   base = omega arith;
   coeff_count = refl;
   coeffs = no_coeff;
+  lost_coeff = omega arith;
 }
 
 shaped_known : (b : Board) (p : List Instr) (row : Row) (m : Machine) (h : List Entry) (good : Set)
@@ -110,9 +113,14 @@ shaped_known b p row m h good k = record {
       let low = (in_span row.counters m.counters c k.admits.counters in').1 in
       subst (λ (s : Span). IsSpan s × (s.hi ≤ 1000)) (sym (one_at m.counters c in'))
       (omega arith, omega (arith, high, low));
+  lost = omega arith;
+  lost_range =
+      let low = k.admits.lost.1 in
+      let high = k.shaped.lost_range in omega (arith, low, high);
   base = omega arith;
   coeff_count = refl;
   coeffs = no_coeff;
+  lost_coeff = omega arith;
 }
   where
     belongs : Belongs b m.bus
@@ -137,6 +145,7 @@ covers b p row m h good k = record {
   regs = spans_cover row.regs m.regs k.admits.regs;
   sources = λ r. inl (no_source r);
   counters = spans_cover row.counters m.counters k.admits.counters;
+  lost = (k.admits.lost.0, k.admits.lost.1);
 }
   where
     belongs : Belongs b m.bus

@@ -21,8 +21,10 @@ known_row m good =
       regs = map one m.regs;
       sources = replicate 8 source.None;
       counters = map one m.counters;
+      lost = one m.bus.lost;
       base = 0;
       coeffs = replicate 4 0;
+      lost_coeff = 0;
     }
 
 -- the rails of the set are those of the board whose last report is good

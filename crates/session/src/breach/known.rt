@@ -91,7 +91,9 @@ pub(crate) fn known_row(
         regs: register_spans(&machine.regs),
         sources: [Source::None; 8],
         counters: counter_spans(&machine.counters),
+        lost: one(machine.bus.lost),
         base: 0,
         coeffs: [0; 4],
+        lost_coeff: 0,
     })
 }
