@@ -4,6 +4,7 @@ mod branches;
 mod duties;
 mod edges;
 mod known;
+mod lost_edges;
 mod ticks;
 
 use crate::boards::two_board;

@@ -9,7 +9,8 @@ use seq_program::{Program, read_program};
 use std::alloc::Global;
 use std::test::*;
 use table_check::{
-    Table, Verdict, check, read_table, row_at, shaped, tables_are_judged_by_place, write_table,
+    Table, Verdict, check, read_table, row_at, shaped, tables_are_judged_by_place,
+    uncounted_tables_are_judged, write_table,
 };
 
 /// How many rows a table that is found has, the ticks that are left at places 1 and 2, whether
@@ -48,6 +49,7 @@ fn found(alloc: Global) -> Option<Found> {
 #[test]
 fn found_by_call(rt: HostRuntime) {
     tables_are_judged_by_place();
+    uncounted_tables_are_judged();
     let accepted = Verdict::Accepted { bound: 3 };
     same(
         &rt,
@@ -67,7 +69,8 @@ fn faults_of_the_search(rt: HostRuntime) {
 }
 
 /// What is known where a program of one place begins, and that it takes a tick.
-const ONE_ROW: &str = "row 0
+const ONE_ROW: &str = "version 2
+row 0
 page a 00
 page b 00
 protect a 00
@@ -85,7 +88,8 @@ counter c0 0 0
 counter c1 0 0
 counter c2 0 0
 counter c3 0 0
-ticks 1 0 0 0 0
+lost 0 0
+ticks 1 0 0 0 0 0
 ";
 
 fn written(alloc: Global, board: &Board, table: &Table) -> Option<String> {
@@ -110,5 +114,30 @@ fn written_again(alloc: Global) -> Option<String> {
 #[test]
 fn a_table_is_written_as_it_was_read(rt: HostRuntime) {
     let text = written_again(rt.alloc());
+    same(&rt, text.as_deref(), Some(ONE_ROW));
+}
+
+/// The same table in the first form, which doesn't count lost arbitrations.
+fn first_form(alloc: Global) -> Option<String> {
+    let text = ONE_ROW.replace(alloc, "version 2\n", "").ok()?;
+    let text = text.replace(alloc, "lost 0 0\n", "").ok()?;
+    text.replace(alloc, "ticks 1 0 0 0 0 0", "ticks 1 0 0 0 0")
+        .ok()
+}
+
+fn written_from_first(alloc: Global, board: &Board) -> Option<String> {
+    let text = first_form(alloc)?;
+    let table = read_table(alloc, board, &text).ok()?;
+    written(alloc, board, &table)
+}
+
+fn written_anew(alloc: Global) -> Option<String> {
+    let board = two_board(alloc).ok()?;
+    written_from_first(alloc, &board)
+}
+
+#[test]
+fn a_table_of_the_first_form_is_written_in_the_second(rt: HostRuntime) {
+    let text = written_anew(rt.alloc());
     same(&rt, text.as_deref(), Some(ONE_ROW));
 }

@@ -12,7 +12,12 @@ const NO: Source = Source::None;
 
 /// The edges of a program's first instruction, with the ticks; `None` where one of its duties isn't
 /// met.
-fn edges_of(alloc: Global, board: &Board, line: &str, row: &Row) -> Option<Vec<(usize, Row, u64)>> {
+pub(super) fn edges_of(
+    alloc: Global,
+    board: &Board,
+    line: &str,
+    row: &Row,
+) -> Option<Vec<(usize, Row, u64)>> {
     let text = format!(in alloc; "{line}\nend\nx:\nend").ok()?;
     let program = read_program(alloc, board, &text).ok()?;
     let instr = program.at(0)?;
@@ -23,7 +28,11 @@ fn edges_of(alloc: Global, board: &Board, line: &str, row: &Row) -> Option<Vec<(
 }
 
 fn is_same(row: &Row, other: &Row) -> bool {
-    row.covers(other) && other.covers(row) && row.base == other.base && row.coeffs == other.coeffs
+    row.covers(other)
+        && other.covers(row)
+        && row.base == other.base
+        && row.coeffs == other.coeffs
+        && row.lost_coeff == other.lost_coeff
 }
 
 /// A place, and what is known there.

@@ -112,7 +112,9 @@ pub(crate) fn row_of(alloc: Global, known: Known, counted: Counted) -> Option<Ro
         regs: [span_of(span), ZERO, ZERO, ZERO, ZERO, ZERO, ZERO, ZERO],
         sources: [source, none, none, none, none, none, none, Source::Page(1)],
         counters: [span_of(counter), ZERO, ZERO, ZERO],
+        lost: ZERO,
         base,
         coeffs: [coeff, 5, 0, 0],
+        lost_coeff: 0,
     })
 }

@@ -1,7 +1,7 @@
 use super::known::{rule_board, slow_board};
 use crate::expected::same;
 use board::Board;
-use facts::worst_ticks;
+use facts::own_ticks;
 use seq_program::read_program;
 use std::alloc::Global;
 use std::process::Abort;
@@ -50,7 +50,7 @@ fn ticks_on(alloc: Global, board: &Board, line: &str) -> Option<u64> {
     let text = format!(in alloc; "{line}\nx:\nend").ok()?;
     let program = read_program(alloc, board, &text).ok()?;
     let instr = program.at(0)?;
-    Some(worst_ticks(board, instr))
+    Some(own_ticks(board, instr))
 }
 
 /// The same on the board where no target stretches the clock.
@@ -73,6 +73,6 @@ fn all_take(rt: &impl Abort, alloc: Global, rows: &[Ticks]) {
 }
 
 #[test]
-fn worst_ticks_of_forms(rt: HostRuntime) {
+fn own_ticks_of_forms(rt: HostRuntime) {
     all_take(&rt, rt.alloc(), &TICKS);
 }

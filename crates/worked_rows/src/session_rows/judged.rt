@@ -21,7 +21,8 @@ end
 "#;
 
 /// What is known where such a program starts: PAGE and WRITE_PROTECT are 00h, all else is 0.
-const TABLE: &str = "row 0
+const TABLE: &str = "version 2
+row 0
 page a 00
 protect a 00
 good
@@ -37,7 +38,8 @@ counter c0 0 0
 counter c1 0 0
 counter c2 0 0
 counter c3 0 0
-ticks 1 0 0 0 0
+lost 0 0
+ticks 1 0 0 0 0 0
 ";
 
 /// Tries that a session accepts, and what it prints.
