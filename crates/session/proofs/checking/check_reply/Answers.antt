@@ -24,7 +24,8 @@ pub returns-in-Err-BadLine-clause-replies : goal.returns-in-Err-BadLine-clause-r
 returns-in-Err-BadLine-clause-replies c =
     let First : TableFault → List ℕ → Type 0 = λ e text.
     CarriesFirst c.args.trial.now.board (lines_by_feed text) e in
-    let read = subst (First c.in-Err-BadLine.field-0) c.deref.ensures c.in-Err-BadLine.ensures.bad in
+    let read = subst (First c.in-Err-BadLine.field-0) c.deref.ensures
+    c.in-Err-BadLine.ensures.bad in
     unread (trial_view c.args.trial.now) c.in-Err-BadLine.line c.refused.result
     (subst (λ e. First e (string_bytes c.args.trial.now.table)) c.in-Err-BadLine.field-0-is read)
     c.refused.ensures.replies
