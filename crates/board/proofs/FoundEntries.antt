@@ -2,8 +2,6 @@
 use Rattle.std.proofs.Common.{◌≡◌, ◌∙◌, ℕ, Bool, true, false, cond, ltb, length, List, [], ◌∷◌}
 use Rattle.std.proofs.Common.{◌++◌, map, find, position, slice_get, Some, None, refl, sym, ap}
 use Rattle.std.specs.List.{list_any, position_or_len}
-use Rattle.std.proofs.lemmas.Bool.{ltb-false}
-use Rattle.std.proofs.lemmas.Option.{slice_get_past}
 use Rattle.std.proofs.lemmas.List.Folds.{find_at}
 use Rattle.smbus.specs.declared.message.Form.{Form}
 use Rattle.board.specs.declared.allow_list.EntryKey.{EntryKey}
@@ -11,6 +9,7 @@ use Rattle.board.specs.Boards.{Allow, code_in, is_for, entry_of, has_entry}
 use Rattle.board.specs.EntryKeys.{key_for, key_of, same_key}
 use Rattle.board.proofs.Lists.{list_any-map, map-push}
 use Rattle.board.proofs.Places.{position-map}
+use Rattle.board.proofs.Firsts.{find_none}
 use Rattle.indexmap.specs.IndexSet.{insert_key}
 
 pub found : (f : Form) (c : ℕ) (allow : List Allow) (keys : List EntryKey) → keys ≡ map key_of allow
@@ -45,16 +44,6 @@ kept_entry a f c allow keys k e g h b m n =
     let new = ap (λ (l : EntryKey). list_any (same_key l) keys) (sym own)
     ∙ found a.form a.code allow keys m ∙ n in
     ap (insert_key same_key keys) (e ∙ own_key a f c g h b) ∙ kept a allow keys m new
-
-find_none : {X : Type 0} (p : X → Bool) (xs : List X) → position p xs ≡ None → find p xs ≡ None
-find_none p xs e = by (ltb (position_or_len p xs) (length xs)) refl e
-  where
-    by : (b : Bool) → ltb (position_or_len p xs) (length xs) ≡ b
-        → cond b (Some (position_or_len p xs)) None ≡ None → find p xs ≡ None
-    by true l e = absurd cc
-    by false l e =
-        find_at p xs
-        ∙ slice_get_past xs (position_or_len p xs) (ltb-false (position_or_len p xs) (length xs) l)
 
 find_some : {X : Type 0} (p : X → Bool) (xs : List X) (i : ℕ) → position p xs ≡ Some i
     → find p xs ≡ slice_get xs i

@@ -1,17 +1,11 @@
 -- The keys of a table beside its members.
-use Rattle.std.proofs.Common.{◌≡◌, Bool, ◌&&◌, ◌||◌, List, [], ◌∷◌, refl, ap, String, Global}
-use Rattle.std.proofs.Common.{string_bytes}
-use Rattle.std.specs.List.{list_all}
+use Rattle.std.proofs.Common.{◌≡◌, ℕ, List, [], ◌∷◌, map, refl, ap, String, Global, string_bytes}
 use Rattle.std.specs.Map.{keys_of}
 use Rattle.toml.specs.declared.value.Value.{Value}
 use Rattle.toml.specs.View.{members_view}
-use Rattle.board.specs.Keys.{Key, is_known, all_known}
+use Rattle.board.specs.Keys.{names_in}
 
-pub all_known-keys : (needed optional : List Key) (es : List (String Global × Value))
-    → all_known needed optional (members_view es)
-    ≡ list_all (λ k. is_known needed (string_bytes k) || is_known optional (string_bytes k))
-    (keys_of es)
-all_known-keys needed optional [] = refl
-all_known-keys needed optional (e ∷ es) =
-    ap (λ (b : Bool). (is_known needed (string_bytes e.0) || is_known optional (string_bytes e.0))
-    && b) (all_known-keys needed optional es)
+pub names_in-keys : (es : List (String Global × Value))
+    → names_in (members_view es) ≡ map string_bytes (keys_of es)
+names_in-keys [] = refl
+names_in-keys (e ∷ es) = ap (λ (ns : List (List ℕ)). string_bytes e.0 ∷ ns) (names_in-keys es)

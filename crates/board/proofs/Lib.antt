@@ -1,5 +1,6 @@
 pub mod Places
 pub mod Lists
+pub mod Firsts
 pub mod KnownKeys
 pub mod Ranges
 pub mod NewNames
@@ -24,3 +25,4 @@ pub mod ValidBoards
 pub mod LastOthers
 pub mod FoundEntries
 pub mod BytesRead
+pub mod AddressesRead

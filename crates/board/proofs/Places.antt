@@ -2,7 +2,7 @@
 use Rattle.std.proofs.Common.{◌≡◌, List, [], ◌∷◌, map, length, suc, Bool, position, refl, ap}
 use Rattle.std.specs.List.{position_or_len}
 
-length_of_map : {X Y : Type 0} (f : X → Y) (xs : List X) → length (map f xs) ≡ length xs
+pub length_of_map : {X Y : Type 0} (f : X → Y) (xs : List X) → length (map f xs) ≡ length xs
 length_of_map f [] = refl
 length_of_map f (x ∷ xs) = ap suc (length_of_map f xs)
 

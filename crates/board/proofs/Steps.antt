@@ -3,6 +3,7 @@ use Rattle.std.proofs.Common.{◌≡◌, Bool, true, false, not, cond, Option, S
 use Rattle.std.proofs.Common.{Err, refl}
 use Rattle.texts.specs.Reading.{◌>>=◌, some_or, value_if}
 use Rattle.board.specs.declared.fault.BoardFault.{BoardFault}
+use Rattle.board.specs.Reading.{unless_wrong}
 
 pub bind_ok : {A B : Type 0} (r : Result A BoardFault) (f : A → Result B BoardFault) (y : B)
     → (r >>= f) ≡ Ok y → (x : A) × (r ≡ Ok x) × (f x ≡ Ok y)
@@ -17,6 +18,11 @@ pub if_ok : {A : Type 0} (d : BoardFault) (b : Bool) (x y : A) → value_if d b 
     → (b ≡ true) × (x ≡ y)
 if_ok d true x y e = (refl, cc)
 if_ok d false x y e = absurd cc
+
+pub unless_ok : {W A : Type 0} (fault : W → BoardFault) (o : Option W) (x y : A)
+    → unless_wrong fault o x ≡ Ok y → (o ≡ None) × (x ≡ y)
+unless_ok fault None x y e = (refl, cc)
+unless_ok fault (Some w) x y e = absurd cc
 
 pub chosen_some : {A : Type 0} (b : Bool) (x y : A) → cond b (Some x) None ≡ Some y
     → (b ≡ true) × (x ≡ y)

@@ -1,6 +1,6 @@
 -- The entries of an allow list that are read.
 use Rattle.std.proofs.Common.{◌≡◌, ℕ, ◌<◌, ◌≤◌, Bool, true, false, cond, not, ◌&&◌, eqb, List, []}
-use Rattle.std.proofs.Common.{◌∷◌, ◌++◌, length, get_or, unwrap_or, codes, Ok, refl, sym, ap, ◌∙◌}
+use Rattle.std.proofs.Common.{◌∷◌, ◌++◌, length, get_or, unwrap_or, Ok, refl, sym, ap, ◌∙◌}
 use Rattle.std.proofs.Common.{subst, arith}
 use Rattle.std.proofs.lemmas.Bool.{eq-eqb}
 use Rattle.std.specs.List.{All, AllPairs}
@@ -11,7 +11,11 @@ use Rattle.smbus.specs.declared.message.Form.{Form}
 use Rattle.smbus.specs.FormWords.{carries_code}
 use Rattle.texts.specs.Reading.{some_or, value_if}
 use Rattle.pmbus_table.specs.Forms.{form_number}
-use Rattle.board.specs.declared.fault.BoardFault.TheVariants.{SameName, BadRange, UnknownCommand}
+use Rattle.board.specs.declared.key.Key.TheVariants as key
+use Rattle.board.specs.declared.site.Place.{Place}
+use Rattle.board.specs.declared.site.Place.TheVariants.{Entry}
+use Rattle.board.specs.Sites.{table_fault, key_fault}
+use Rattle.board.specs.declared.fault.FaultKind.TheVariants.{SameName, BadRange, UnknownCommand}
 use Rattle.board.specs.Boards.{Allow, code_in, is_for, has_entry}
 use Rattle.board.specs.Keys.{check_keys}
 use Rattle.board.specs.Entries.{check_entry_keys, needed_by, optional_for, form_at, command_for}
@@ -31,32 +35,36 @@ low_high : (b : Bool) → 0 ≤ cond b 65535 255
 low_high true = omega arith
 low_high false = omega arith
 
-entry_valid : (done : List Allow) (ms : Members) (a : Allow) → entry_from done ms ≡ Ok a
-    → IsNext done a
+entry_valid : (table : Place) (done : List Allow) (ms : Members) (a : Allow)
+    → entry_from table done ms ≡ Ok a → IsNext done a
 unfolding entry_from allow_of
-entry_valid done ms a e =
-    let k = bind_ok (check_entry_keys ms) _ a e in
-    let f = bind_ok (some_or UnknownCommand (form_at k.0)) _ a k.2 in
-    let m = bind_ok (check_keys (needed_by f.0) (optional_for f.0) k.0) _ a f.2 in
-    let c = bind_ok (command_for f.0 m.0) _ a m.2 in
-    let n = bind_ok (value_if SameName (not (has_entry f.0 (unwrap_or c.0 0) done)) c.0) _ a c.2 in
-    let v = bind_ok (some_or BadRange (range_at (full_values f.0) (codes "values") m.0)) _ a n.2 in
-    let l = bind_ok (some_or BadRange (range_at full_length (codes "length") m.0)) _ a v.2 in
-    let same = if_ok SameName _ c.0 n.0 n.1 in
-    let fits = subst (CommandFits f.0) same.1 (command_fits f.0 m.0 c.0 c.1) in
+entry_valid table done ms a e =
+    let k = bind_ok (check_entry_keys table ms) _ a e in
+    let f = bind_ok (some_or (key_fault UnknownCommand table key.Form) (form_at k.0)) _ a k.2 in
+    let m = bind_ok (check_keys table (needed_by f.0) (optional_for f.0) k.0) _ a f.2 in
+    let c = bind_ok (command_for table f.0 m.0) _ a m.2 in
+    let n = bind_ok
+    (value_if (table_fault SameName table) (not (has_entry f.0 (unwrap_or c.0 0) done)) c.0) _ a
+    c.2 in
+    let v = bind_ok (some_or (key_fault BadRange table key.Values)
+    (range_at (full_values f.0) key.Values m.0)) _ a n.2 in
+    let l = bind_ok (some_or (key_fault BadRange table key.Length)
+    (range_at full_length key.Length m.0)) _ a v.2 in
+    let same = if_ok _ _ c.0 n.0 n.1 in
+    let fits = subst (CommandFits f.0) same.1 (command_fits table f.0 m.0 c.0 c.1) in
     let new = not_false (has_entry f.0 (unwrap_or c.0 0) done) same.0 in
     let made : Allow = record { form = f.0; code = unwrap_or n.0 0; values = v.0; length = l.0 } in
     subst (IsNext done) (ok_is made a l.2) (record {
       entry = record {
-        to_target = form_to_target k.0 f.0 (some_ok UnknownCommand _ f.0 f.1);
+        to_target = form_to_target k.0 f.0 (some_ok _ _ f.0 f.1);
         takes = fits.takes;
         bare = fits.bare;
         in_values =
-            range_at_within (full_values f.0) (codes "values") m.0 v.0 (low_high (has_words f.0))
-            (some_ok BadRange _ v.0 v.1);
+            range_at_within (full_values f.0) key.Values m.0 v.0 (low_high (has_words f.0))
+            (some_ok _ _ v.0 v.1);
         in_length =
-            range_at_within full_length (codes "length") m.0 l.0 (omega arith)
-            (some_ok BadRange _ l.0 l.1);
+            range_at_within full_length key.Length m.0 l.0 (omega arith)
+            (some_ok _ _ l.0 l.1);
       };
       new = rw (← same.1) new;
     })
@@ -85,14 +93,14 @@ differs done a v e k d h f c =
     let used = used_before (get_or done k d) a.form a.code f (c ∙ own_code a v) in
     cc
 
-pub entries_valid : (done : List Allow) (tables : List Members) (xs : List Allow)
-    → entries_of done tables ≡ Ok xs
+pub entries_valid : (target : ℕ) (done : List Allow) (tables : List Members) (xs : List Allow)
+    → entries_of target done tables ≡ Ok xs
     → All IsEntry done → AllPairs DifferInUse done → All IsEntry xs × AllPairs DifferInUse xs
-entries_valid done [] xs e a p =
+entries_valid target done [] xs e a p =
     let same = ok_is done xs e in
     (subst (All IsEntry) same a, subst (AllPairs DifferInUse) same p)
-entries_valid done (ms ∷ tables) xs e a p =
-    let n = bind_ok (entry_from done ms) _ xs e in
-    let v = entry_valid done ms n.0 n.1 in
-    entries_valid (done ++ n.0 ∷ []) tables xs n.2 (All-push IsEntry done n.0 a v.entry)
+entries_valid target done (ms ∷ tables) xs e a p =
+    let n = bind_ok (entry_from (Entry target (length done)) done ms) _ xs e in
+    let v = entry_valid (Entry target (length done)) done ms n.0 n.1 in
+    entries_valid target (done ++ n.0 ∷ []) tables xs n.2 (All-push IsEntry done n.0 a v.entry)
     (all_pairs_push DifferInUse done n.0 p (differs done n.0 v.entry v.new))

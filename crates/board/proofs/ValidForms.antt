@@ -12,7 +12,10 @@ use Rattle.smbus.specs.declared.message.Form.TheVariants.{BlockProcessCall, Aler
 use Rattle.smbus.specs.FormWords.{form_named, carries_code}
 use Rattle.texts.specs.Reading.{some_or}
 use Rattle.pmbus_table.specs.Commands.{command_named, takes_form}
-use Rattle.board.specs.declared.fault.BoardFault.TheVariants.{UnknownCommand}
+use Rattle.board.specs.declared.key.Key.TheVariants as key
+use Rattle.board.specs.declared.fault.FaultKind.TheVariants.{UnknownCommand}
+use Rattle.board.specs.declared.site.Place.{Place}
+use Rattle.board.specs.Sites.{key_fault}
 use Rattle.board.specs.Fields.{text_at}
 use Rattle.board.specs.Entries.{form_at, command_at, command_for}
 use Rattle.board.proofs.Steps.{some_ok, chosen_some}
@@ -43,7 +46,7 @@ named w f =
     (none_next f))))))))))))
 
 pub form_to_target : (ms : Members) (f : Form) → form_at ms ≡ Some f → f ≢ Alert
-form_to_target ms f e = by (text_at (codes "form") ms) e
+form_to_target ms f e = by (text_at key.Form ms) e
   where
     by : (o : Option (List ℕ)) → option_and_then form_named o ≡ Some f → f ≢ Alert
     by None e = absurd cc
@@ -55,7 +58,7 @@ pub record CommandFits (f : Form) (command : Option ℕ) : Type 0 where
   pub bare : carries_code f ≡ false → unwrap_or command 0 ≡ 0
 
 command_takes : (f : Form) (ms : Members) (c : ℕ) → command_at f ms ≡ Some c → takes_form c f ≡ true
-command_takes f ms c e = by (option_and_then command_named (text_at (codes "command") ms)) e
+command_takes f ms c e = by (option_and_then command_named (text_at key.Command ms)) e
   where
     by : (o : Option ℕ) → option_and_then (λ c. cond (takes_form c f) (Some c) None) o ≡ Some c
         → takes_form c f ≡ true
@@ -64,9 +67,9 @@ command_takes f ms c e = by (option_and_then command_named (text_at (codes "comm
         let p = chosen_some (takes_form d f) d c e in
         rw (← p.1) p.0
 
-pub command_fits : (f : Form) (ms : Members) (command : Option ℕ) → command_for f ms ≡ Ok command
-    → CommandFits f command
-command_fits f ms command e = by (carries_code f) refl e
+pub command_fits : (table : Place) (f : Form) (ms : Members) (command : Option ℕ)
+    → command_for table f ms ≡ Ok command → CommandFits f command
+command_fits table f ms command e = by (carries_code f) refl e
   where
     taken : (o : Option ℕ) → command_at f ms ≡ o → option_map Some o ≡ Some command
         → carries_code f ≡ true → CommandFits f command
@@ -76,11 +79,13 @@ command_fits f ms command e = by (carries_code f) refl e
         rw (← same) (record { takes = λ t. command_takes f ms c s; bare = λ n. absurd cc })
 
     by : (b : Bool) → carries_code f ≡ b
-        → cond b (some_or UnknownCommand (option_map Some (command_at f ms))) (Ok None) ≡ Ok command
+        → cond b
+        (some_or (key_fault UnknownCommand table key.Command) (option_map Some (command_at f ms)))
+        (Ok None) ≡ Ok command
         → CommandFits f command
     by true h e =
         taken (command_at f ms) refl
-        (some_ok UnknownCommand (option_map Some (command_at f ms)) command e) h
+        (some_ok _ (option_map Some (command_at f ms)) command e) h
     by false h e =
         let same : None ≡ command = cc in
         rw (← same) (record { takes = λ t. absurd cc; bare = λ n. refl })

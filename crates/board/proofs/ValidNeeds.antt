@@ -9,9 +9,9 @@ use Rattle.std.proofs.lemmas.List.{length_push, append-nil}
 use Rattle.std.proofs.lemmas.List.Elements.{All-push}
 use Rattle.std.proofs.lemmas.List.Quantifiers.{position-Some}
 use Rattle.texts.specs.Reading.{some_or}
-use Rattle.board.specs.declared.fault.BoardFault.TheVariants.{UnknownNeed, SelfNeed}
+use Rattle.board.specs.declared.fault.FaultKind.TheVariants.{UnknownNeed}
 use Rattle.board.specs.Boards.{Rail, place_of_name}
-use Rattle.board.specs.Rails.{RailDraft, need_of, needs_of, rails_of, rail_with}
+use Rattle.board.specs.Rails.{RailDraft, need_fault, need_of, needs_of, rails_of, rail_with}
 use Rattle.board.proofs.Steps.{bind_ok, some_ok, if_ok, ok_is, not_false}
 use Rattle.board.proofs.Lists.{map-push}
 use Rattle.board.proofs.Apart.{push_cases}
@@ -23,13 +23,13 @@ pub record IsNeed (rails rail n : ℕ) : Type 0 where
   pub there : n < rails
   pub other : n ≢ rail
 
-need_ok : (names : List (List ℕ)) (rail : ℕ) (name : List ℕ) (n : ℕ)
-    → need_of names rail name ≡ Ok n → IsNeed (length names) rail n
+need_ok : (names : List (List ℕ)) (rail need : ℕ) (name : List ℕ) (n : ℕ)
+    → need_of names rail need name ≡ Ok n → IsNeed (length names) rail n
 unfolding need_of
-need_ok names rail name n e =
-    let a = bind_ok (some_or UnknownNeed (place_of_name name names)) _ n e in
-    let b = if_ok SelfNeed (not (eqb a.0 rail)) a.0 n a.2 in
-    let place = some_ok UnknownNeed _ a.0 a.1 in
+need_ok names rail need name n e =
+    let a = bind_ok (some_or (need_fault UnknownNeed rail need) (place_of_name name names)) _ n e in
+    let b = if_ok _ (not (eqb a.0 rail)) a.0 n a.2 in
+    let place = some_ok _ _ a.0 a.1 in
     rw (← b.1) (record {
       there = (position-Some (bytes_eq name) names a.0 [] place).0;
       other = λ s. differs (eqb a.0 rail) (not_false (eqb a.0 rail) b.0) (eq-eqb a.0 rail s);
@@ -45,9 +45,10 @@ needs_ok : (names : List (List ℕ)) (rail : ℕ) (done : List ℕ) (needs : Lis
 needs_ok names rail done [] ns e a =
     subst (All (IsNeed (length names) rail)) (ok_is done ns e) a
 needs_ok names rail done (name ∷ needs) ns e a =
-    let n = bind_ok (need_of names rail name) _ ns e in
+    let n = bind_ok (need_of names rail (length done) name) _ ns e in
     needs_ok names rail (done ++ n.0 ∷ []) needs ns n.2
-    (All-push (IsNeed (length names) rail) done n.0 a (need_ok names rail name n.0 n.1))
+    (All-push (IsNeed (length names) rail) done n.0 a
+    (need_ok names rail (length done) name n.0 n.1))
 
 -- each rail's needs
 pub record HaveNeeds (count : ℕ) (rails : List Rail) : Type 0 where

@@ -1,7 +1,7 @@
 -- The rails that are read, before their needs are.
 use Rattle.std.proofs.Common.{◌≡◌, ℕ, ◌+◌, ◌<◌, ◌≤◌, Bool, true, false, cond, not, ◌&&◌, eqb, ltb}
 use Rattle.std.proofs.Common.{List, [], ◌∷◌, length, get_or, map, slice_get, Option, Some, None}
-use Rattle.std.proofs.Common.{option_and_then, codes, Ok, refl, ap, subst, ◌∙◌, arith}
+use Rattle.std.proofs.Common.{option_and_then, Ok, refl, ap, subst, ◌∙◌, arith}
 use Rattle.std.specs.List.{list_any, All, AllPairs}
 use Rattle.std.proofs.lemmas.Bool.{ltb-true, eq-eqb}
 use Rattle.std.proofs.lemmas.List.Elements.{All-push}
@@ -10,7 +10,10 @@ use Rattle.std.proofs.lemmas.List.Quantifiers.{all_pairs_push}
 use Rattle.toml.specs.Data.{Members}
 use Rattle.texts.specs.Names.{is_name}
 use Rattle.texts.specs.Reading.{some_or, value_if}
-use Rattle.board.specs.declared.fault.BoardFault.TheVariants.{BadRail, BadRange}
+use Rattle.board.specs.declared.key.Key.TheVariants as key
+use Rattle.board.specs.declared.site.Place.TheVariants as place
+use Rattle.board.specs.Sites.{key_fault}
+use Rattle.board.specs.declared.fault.FaultKind.TheVariants.{BadRail, BadRange}
 use Rattle.board.specs.Boards.{Target, Rail}
 use Rattle.board.specs.Fields.{number_at, texts_at}
 use Rattle.board.specs.Named.{Named, is_named, no_named, with_item}
@@ -37,7 +40,7 @@ abbrev pub without_needs : RailDraft → Rail
 without_needs s = rail_with s []
 
 page_below : (ms : Members) (t : Target) (p : ℕ) → page_of ms t ≡ Some p → p < t.pages
-page_below ms t p e = by (number_at 0 255 (codes "page") ms) e
+page_below ms t p e = by (number_at 0 255 key.Page ms) e
   where
     by : (o : Option ℕ) → option_and_then (λ q. cond (ltb q t.pages) (Some q) None) o ≡ Some p
         → p < t.pages
@@ -64,25 +67,30 @@ record IsNextDraft (targets : List Target) (done : Named RailDraft) (name : List
   pub new : is_named name done.names ≡ false
   pub free : has_page s.target s.page done.items ≡ false
 
-draft_ok : (targets : Named Target) (done : Named RailDraft) (ms : Members) (x : List ℕ × RailDraft)
-    → draft_from targets done ms ≡ Ok x → IsNextDraft targets.items done x.0 x.1
+draft_ok : (index : ℕ) (targets : Named Target) (done : Named RailDraft) (ms : Members)
+    (x : List ℕ × RailDraft)
+    → draft_from index targets done ms ≡ Ok x → IsNextDraft targets.items done x.0 x.1
 unfolding draft_from
-draft_ok targets done ms x e =
-    let k = bind_ok (check_rail_keys ms) _ x e in
-    let n = bind_ok (new_name done.names k.0) _ x k.2 in
-    let t = bind_ok (some_or BadRail (target_at targets.names k.0)) _ x n.2 in
-    let p = bind_ok (some_or BadRail (page_at targets.items t.0 k.0)) _ x t.2 in
-    let f = bind_ok (value_if BadRail (not (has_page t.0 p.0 done.items)) p.0) _ x p.2 in
-    let l = bind_ok (some_or BadRange (number_at 1 4294967295 (codes "limit_uv") k.0)) _ x f.2 in
-    let name = new_name_ok done.names k.0 n.0 n.1 in
-    let page = page_there targets.items t.0 k.0 p.0 (some_ok BadRail _ p.0 p.1) in
-    let free = if_ok BadRail _ p.0 f.0 f.1 in
-    let limit = at_bounds 1 4294967295 (codes "limit_uv") k.0 l.0 (some_ok BadRange _ l.0 l.1) in
+draft_ok index targets done ms x e =
+    let table = place.Rail index in
+    let no_page = key_fault BadRail table key.Page in
+    let k = bind_ok (check_rail_keys table ms) _ x e in
+    let n = bind_ok (new_name table done.names k.0) _ x k.2 in
+    let t = bind_ok (some_or (key_fault BadRail table key.Target) (target_at targets.names k.0)) _ x
+    n.2 in
+    let p = bind_ok (some_or no_page (page_at targets.items t.0 k.0)) _ x t.2 in
+    let f = bind_ok (value_if no_page (not (has_page t.0 p.0 done.items)) p.0) _ x p.2 in
+    let l = bind_ok (some_or (key_fault BadRange table key.LimitUv)
+    (number_at 1 4294967295 key.LimitUv k.0)) _ x f.2 in
+    let name = new_name_ok table done.names k.0 n.0 n.1 in
+    let page = page_there targets.items t.0 k.0 p.0 (some_ok _ _ p.0 p.1) in
+    let free = if_ok _ _ p.0 f.0 f.1 in
+    let limit = at_bounds 1 4294967295 key.LimitUv k.0 l.0 (some_ok _ _ l.0 l.1) in
     let made : RailDraft = record {
       target = t.0;
       page = f.0;
       limit_uv = l.0;
-      needs = texts_at (codes "needs") k.0;
+      needs = texts_at key.Needs k.0;
     } in
     subst (λ y. IsNextDraft targets.items done y.0 y.1) (ok_is (n.0, made) x l.2) (record {
       placed = record {
@@ -90,7 +98,7 @@ draft_ok targets done ms x e =
         least_limit = limit.0;
         most_limit = limit.1;
       };
-      good = rw (← name.text) (good_name _ _ ms k.0 k.1);
+      good = rw (← name.text) (good_name _ _ _ ms k.0 k.1);
       new = name.new;
       free = rw (← free.1) (not_false (has_page t.0 p.0 done.items) free.0);
     })
@@ -141,9 +149,10 @@ pub drafts_valid : (targets : Named Target) (done : Named RailDraft) (tables : L
     → AreDrafts targets.items n
 drafts_valid targets done [] n e a = subst (AreDrafts targets.items) (ok_is done n e) a
 drafts_valid targets done (ms ∷ tables) n e a =
-    let s = bind_ok (draft_from targets done ms) _ n e in
+    let s = bind_ok (draft_from (length done.items) targets done ms) _ n e in
     drafts_valid targets (with_item s.0.0 s.0.1 done) tables n s.2
-    (more_drafts targets.items done s.0.0 s.0.1 a (draft_ok targets done ms s.0 s.1))
+    (more_drafts targets.items done s.0.0 s.0.1 a
+    (draft_ok (length done.items) targets done ms s.0 s.1))
 
 pub drafts_count : (targets : Named Target) (done : Named RailDraft) (tables : List Members)
     (n : Named RailDraft)
@@ -152,6 +161,6 @@ drafts_count targets done [] n e =
     let same = ap (λ (x : Named RailDraft). length x.items) (ok_is done n e) in
     omega (arith, same)
 drafts_count targets done (ms ∷ tables) n e =
-    let s = bind_ok (draft_from targets done ms) _ n e in
+    let s = bind_ok (draft_from (length done.items) targets done ms) _ n e in
     let rest = drafts_count targets (with_item s.0.0 s.0.1 done) tables n s.2 in
     omega (arith, rest, length_push done.items s.0.1)

@@ -3,13 +3,13 @@ use Rattle.std.proofs.Common.{◌≡◌, ℕ, ℤ, pos, negsuc, ◌≤◌, ◌&&
 use Rattle.std.proofs.Common.{option_map, option_and_then, refl, subst, arith}
 use Rattle.std.proofs.lemmas.Bool.{and_parts, leb-true}
 use Rattle.std.specs.Option.{option_map_or}
-use Rattle.toml.specs.Data.{Data, Items, no_items, item, Members, get_member, as_integer, as_array}
+use Rattle.toml.specs.Data.{Data, Items, no_items, item, Members, as_integer, as_array}
 use Rattle.board.specs.declared.entry.Range.{Range}
-use Rattle.board.specs.Fields.{number_within, number_in, number_at}
+use Rattle.board.specs.declared.key.Key.{Key}
+use Rattle.board.specs.Fields.{value_at, number_within, number_in, number_at}
 use Rattle.board.specs.Entries.{range_in, range_at}
 use Rattle.board.specs.Valid.{IsWithin}
 use Rattle.board.proofs.Steps.{chosen_some}
-use Rattle.std.specs.Prelude.{List}
 
 pub within_bounds : (low high : ℕ) (z : ℤ) (n : ℕ) → number_within low high z ≡ Some n
     → (low ≤ n) × (n ≤ high)
@@ -28,9 +28,9 @@ in_bounds low high d n e = by (as_integer d) e
     by None e = absurd cc
     by (Some z) e = within_bounds low high z n e
 
-pub at_bounds : (low high : ℕ) (key : List ℕ) (ms : Members) (n : ℕ)
-    → number_at low high key ms ≡ Some n → (low ≤ n) × (n ≤ high)
-at_bounds low high key ms n e = by (get_member key ms) e
+pub at_bounds : (low high : ℕ) (k : Key) (ms : Members) (n : ℕ)
+    → number_at low high k ms ≡ Some n → (low ≤ n) × (n ≤ high)
+at_bounds low high k ms n e = by (value_at k ms) e
   where
     by : (o : Option Data) → option_and_then (number_in low high) o ≡ Some n
         → (low ≤ n) × (n ≤ high)
@@ -67,9 +67,9 @@ range_within full (item low (item high no_items)) r e = two_within full low high
 range_within full (item a (item b (item c ds))) r e = absurd cc
 
 -- a range is the full one where the key is missing
-pub range_at_within : (full : Range) (key : List ℕ) (ms : Members) (r : Range)
-    → full.low ≤ full.high → range_at full key ms ≡ Some r → IsWithin full r
-range_at_within full key ms r h e = by (option_and_then as_array (get_member key ms)) e
+pub range_at_within : (full : Range) (k : Key) (ms : Members) (r : Range)
+    → full.low ≤ full.high → range_at full k ms ≡ Some r → IsWithin full r
+range_at_within full k ms r h e = by (option_and_then as_array (value_at k ms)) e
   where
     by : (o : Option Items) → option_map_or (range_in full) o (Some full) ≡ Some r → IsWithin full r
     by None e =

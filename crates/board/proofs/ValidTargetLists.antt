@@ -73,9 +73,9 @@ pub targets_valid : (done : Named Target) (tables : List Members) (n : Named Tar
     → targets_of done tables ≡ Ok n → AreTargets done → AreTargets n
 targets_valid done [] n e a = subst AreTargets (ok_is done n e) a
 targets_valid done (ms ∷ tables) n e a =
-    let t = bind_ok (target_from done ms) _ n e in
+    let t = bind_ok (target_from (length done.items) done ms) _ n e in
     targets_valid (with_item t.0.0 t.0.1 done) tables n t.2
-    (more_targets done t.0.0 t.0.1 a (target_ok done ms t.0 t.1))
+    (more_targets done t.0.0 t.0.1 a (target_ok (length done.items) done ms t.0 t.1))
 
 pub targets_count : (done : Named Target) (tables : List Members) (n : Named Target)
     → targets_of done tables ≡ Ok n → length n.items ≡ length done.items + length tables
@@ -83,6 +83,6 @@ targets_count done [] n e =
     let same = ap (λ (x : Named Target). length x.items) (ok_is done n e) in
     omega (arith, same)
 targets_count done (ms ∷ tables) n e =
-    let t = bind_ok (target_from done ms) _ n e in
+    let t = bind_ok (target_from (length done.items) done ms) _ n e in
     let rest = targets_count (with_item t.0.0 t.0.1 done) tables n t.2 in
     omega (arith, rest, length_push done.items t.0.1)

@@ -1,9 +1,9 @@
--- The numbers and the names of the faults.
+-- The numbers and the names of the kinds of faults.
 use Rattle.std.specs.Prelude.{ℕ, List, codes}
-use Rattle.board.specs.declared.fault.BoardFault.{BoardFault}
-use Rattle.board.specs.declared.fault.BoardFault.TheVariants as fault
+use Rattle.board.specs.declared.fault.FaultKind.{FaultKind}
+use Rattle.board.specs.declared.fault.FaultKind.TheVariants as fault
 
-abbrev pub number_of : BoardFault → ℕ
+abbrev pub number_of : FaultKind → ℕ
 number_of fault.Memory = 1
 number_of fault.Toml = 2
 number_of fault.MissingKey = 3
@@ -21,7 +21,7 @@ number_of fault.SelfNeed = 14
 number_of fault.BadRail = 15
 number_of fault.BadKey = 16
 
-abbrev pub name_of : BoardFault → List ℕ
+abbrev pub name_of : FaultKind → List ℕ
 name_of fault.Memory = codes "Memory"
 name_of fault.Toml = codes "Toml"
 name_of fault.MissingKey = codes "MissingKey"

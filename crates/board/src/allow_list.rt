@@ -1,9 +1,9 @@
 //! The entries of a target, each found by its form and command.
 
 ghost use Rattle.std.specs.Prelude.{◌≡◌, ◌==◌, ◌++◌, ◌∷◌, [], false, option_map, slice_get, IfOk};
-ghost use Rattle.std.specs.Prelude.{IfErr};
+ghost use Rattle.std.specs.Prelude.{IfErr, length};
 ghost use Rattle.pmbus_table.specs.Forms.{form_number};
-ghost use Rattle.board.specs.declared.fault.BoardFault.TheVariants.{Memory};
+ghost use Rattle.board.specs.Sites.{out_of_memory};
 ghost use Rattle.board.specs.Boards.{entry_of, has_entry};
 ghost use Rattle.board.specs.EntryKeys.{key_for};
 
@@ -111,6 +111,12 @@ impl AllowList {
         self.entries.as_slice()
     }
 
+    pub fn len(&self) -> usize
+        ensures { result ≡ length self.now }
+    {
+        self.entries.len()
+    }
+
     /// The entry of a form and a code.
     pub fn get(&self, form: Form, code: u8) -> Option<&Allow>
         ensures { option_map (λ a. a.now) result ≡ entry_of form code self.now }
@@ -130,7 +136,7 @@ impl AllowList {
     pub fn with(self, entry: Allow) -> Result<AllowList, BoardFault>
         requires { has_entry entry.form entry.code self ≡ false }
         ensures ok { IfOk result (λ list. list ≡ self ++ entry ∷ []) }
-        ensures err { IfErr result (λ e. e ≡ Memory) }
+        ensures err { IfErr result (λ e. e ≡ out_of_memory) }
     {
         let AllowList {
             mut entries,

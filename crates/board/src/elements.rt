@@ -7,6 +7,7 @@ ghost use Rattle.board.specs.Fields.{tables_at, texts_at};
 ghost use Rattle.board.specs.Elements.{table_seen, tables_left, texts_left};
 
 use crate::fields::items_at;
+use crate::key::Key;
 use toml::{Table, Value};
 
 /// The tables of a list, in order: all its elements, where its key was checked.
@@ -34,8 +35,8 @@ impl<'a> Iterator for Tables<'a> {
 }
 
 /// The tables of a key's list, none where it is missing.
-pub(crate) fn tables_at<'a>(key: &str, table: &'a Table) -> Tables<'a>
-    ensures { tables_left result ≡ tables_at key.now (table_view table.now) }
+pub(crate) fn tables_at<'a>(key: Key, table: &'a Table) -> Tables<'a>
+    ensures { tables_left result ≡ tables_at key (table_view table.now) }
 {
     Tables {
         values: items_at(key, table),
@@ -67,8 +68,8 @@ impl<'a> Iterator for Texts<'a> {
 }
 
 /// The texts of a key's list, none where it is missing.
-pub(crate) fn texts_at<'a>(key: &str, table: &'a Table) -> Texts<'a>
-    ensures { texts_left result ≡ texts_at key.now (table_view table.now) }
+pub(crate) fn texts_at<'a>(key: Key, table: &'a Table) -> Texts<'a>
+    ensures { texts_left result ≡ texts_at key (table_view table.now) }
 {
     Texts {
         values: items_at(key, table),

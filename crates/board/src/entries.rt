@@ -4,7 +4,6 @@ ghost use Rattle.std.specs.Prelude.{◌≡◌, [], false, IfOk, unwrap_or};
 ghost use Rattle.toml.specs.View.{table_view, items_view};
 ghost use Rattle.board.specs.Boards.{has_entry, IsCommandFor};
 ghost use Rattle.board.specs.Reading.{Gives};
-ghost use Rattle.board.specs.KeyViews.{key_views};
 ghost use Rattle.board.specs.Elements.{tables_left};
 ghost use Rattle.board.specs.Entries.{check_entry_keys, needed_by, optional_for, form_at};
 ghost use Rattle.board.specs.Entries.{command_at};
@@ -14,32 +13,35 @@ ghost use Rattle.board.specs.Entries.{entries_of};
 use crate::allow_list::AllowList;
 use crate::elements::Tables;
 use crate::entry::{Allow, Range, full_length, full_values};
-use crate::fault::BoardFault;
+use crate::fault::{BoardFault, FaultKind};
 use crate::fields::{text_at, word_in};
-use crate::keys::{Key, Kind, Sort, check_keys, value_at};
+use crate::key::Key;
+use crate::keys::{Field, Kind, Sort, check_keys, value_at};
+use crate::site::Place;
 use pmbus_table::{Command, by_name};
 use smbus::{Form, carries_code, form_named};
 use std::alloc::Global;
 use toml::{Table, Value};
 
-const FORM: Key = ("form", Kind::One(Sort::Text));
+const FORM: Field = (Key::Form, Kind::One(Sort::Text));
 
-const COMMAND: Key = ("command", Kind::One(Sort::Text));
+const COMMAND: Field = (Key::Command, Kind::One(Sort::Text));
 
-const VALUES: Key = ("values", Kind::List);
+const VALUES: Field = (Key::Values, Kind::List);
 
-const LENGTH: Key = ("length", Kind::List);
+const LENGTH: Field = (Key::Length, Kind::List);
 
 /// Refuses a table that is no entry of any form.
-fn check_entry_keys(table: &Table) -> Result<(), BoardFault>
-    ensures { Gives (λ u. table_view table.now) result (check_entry_keys (table_view table.now)) }
+fn check_entry_keys(place: Place, table: &Table) -> Result<(), BoardFault>
+    ensures { Gives (λ u. table_view table.now) result
+        (check_entry_keys place (table_view table.now)) }
 {
-    check_keys(&[FORM], &[COMMAND, VALUES, LENGTH], table)
+    check_keys(place, &[FORM], &[COMMAND, VALUES, LENGTH], table)
 }
 
 /// What an entry of a form needs.
-fn needed_by(form: Form) -> &'static [Key]
-    ensures { key_views result.now ≡ needed_by form }
+fn needed_by(form: Form) -> &'static [Field]
+    ensures { result.now ≡ needed_by form }
 {
     if carries_code(form) {
         &[FORM, COMMAND]
@@ -49,8 +51,8 @@ fn needed_by(form: Form) -> &'static [Key]
 }
 
 /// What it may have.
-fn optional_for(form: Form) -> &'static [Key]
-    ensures { key_views result.now ≡ optional_for form }
+fn optional_for(form: Form) -> &'static [Field]
+    ensures { result.now ≡ optional_for form }
 {
     match form {
         Form::Quick(_) | Form::SendByte | Form::Alert => &[],
@@ -62,14 +64,14 @@ fn optional_for(form: Form) -> &'static [Key]
 fn form_at(table: &Table) -> Option<Form>
     ensures { result ≡ form_at (table_view table.now) }
 {
-    form_named(text_at("form", table)?)
+    form_named(text_at(Key::Form, table)?)
 }
 
 /// The command, if it takes the form.
 fn command_at(form: Form, table: &Table) -> Option<Command>
     ensures { result ≡ command_at form (table_view table.now) }
 {
-    let command = by_name(text_at("command", table)?)?;
+    let command = by_name(text_at(Key::Command, table)?)?;
     if command.takes(form) {
         Some(command)
     } else {
@@ -78,8 +80,8 @@ fn command_at(form: Form, table: &Table) -> Option<Command>
 }
 
 /// The command of an entry, nothing for a form that carries none.
-fn command_for(form: Form, table: &Table) -> Result<Option<Command>, BoardFault>
-    ensures value { Gives (λ c. c) result (command_for form (table_view table.now)) }
+fn command_for(place: Place, form: Form, table: &Table) -> Result<Option<Command>, BoardFault>
+    ensures value { Gives (λ c. c) result (command_for place form (table_view table.now)) }
     ensures carried { IfOk result (IsCommandFor form) }
 {
     if !carries_code(form) {
@@ -87,7 +89,7 @@ fn command_for(form: Form, table: &Table) -> Result<Option<Command>, BoardFault>
     }
     match command_at(form, table) {
         Some(command) => Ok(Some(command)),
-        None => Err(BoardFault::UnknownCommand),
+        None => Err(FaultKind::UnknownCommand.at_key(place, Key::Command)),
     }
 }
 
@@ -114,8 +116,8 @@ fn range_in(full: Range, values: &[Value]) -> Option<Range>
 }
 
 /// The full range where the key is missing.
-fn range_at(full: Range, key: &str, table: &Table) -> Option<Range>
-    ensures { result ≡ range_at full key.now (table_view table.now) }
+fn range_at(full: Range, key: Key, table: &Table) -> Option<Range>
+    ensures { result ≡ range_at full key (table_view table.now) }
 {
     match value_at(table, key) {
         Some(Value::Array(values)) => range_in(full, values.as_slice()),
@@ -125,41 +127,57 @@ fn range_at(full: Range, key: &str, table: &Table) -> Option<Range>
 
 /// The entry of a form and a command.
 #[tactic(auto, unfolding(crate::specs::Entries::allow_of))]
-fn allow_of(form: Form, command: Option<Command>, table: &Table) -> Result<Allow, BoardFault>
+fn allow_of(
+    place: Place,
+    form: Form,
+    command: Option<Command>,
+    table: &Table,
+) -> Result<Allow, BoardFault>
     requires { IsCommandFor form command }
-    ensures value { Gives (λ a. a) result (allow_of form command (table_view table.now)) }
+    ensures value { Gives (λ a. a) result (allow_of place form command (table_view table.now)) }
     ensures form { IfOk result (λ a. a.form ≡ form) }
     ensures code { IfOk result (λ a. a.code ≡ unwrap_or command 0) }
 {
-    let values = range_at(full_values(form), "values", table).ok_or(BoardFault::BadRange)?;
-    let length = range_at(full_length(), "length", table).ok_or(BoardFault::BadRange)?;
+    let bad_values = FaultKind::BadRange.at_key(place, Key::Values);
+    let values = range_at(full_values(form), Key::Values, table).ok_or(bad_values)?;
+    let bad_length = FaultKind::BadRange.at_key(place, Key::Length);
+    let length = range_at(full_length(), Key::Length, table).ok_or(bad_length)?;
     Ok(Allow::new(form, command, values, length))
 }
 
 /// The entry of a table, after the entries before it.
 #[tactic(auto, unfolding(crate::specs::Entries::entry_from))]
-fn entry_from(done: &AllowList, table: &Table) -> Result<Allow, BoardFault>
-    ensures value { Gives (λ a. a) result (entry_from done.now (table_view table.now)) }
+fn entry_from(place: Place, done: &AllowList, table: &Table) -> Result<Allow, BoardFault>
+    ensures value { Gives (λ a. a) result (entry_from place done.now (table_view table.now)) }
     ensures new { IfOk result (λ a. has_entry a.form a.code done.now ≡ false) }
 {
-    check_entry_keys(table)?;
-    let form = form_at(table).ok_or(BoardFault::UnknownCommand)?;
-    check_keys(needed_by(form), optional_for(form), table)?;
-    let command = command_for(form, table)?;
+    check_entry_keys(place, table)?;
+    let unknown = FaultKind::UnknownCommand.at_key(place, Key::Form);
+    let form = form_at(table).ok_or(unknown)?;
+    check_keys(place, needed_by(form), optional_for(form), table)?;
+    let command = command_for(place, form, table)?;
     let code = code_of(&command);
     if done.has(form, code) {
-        return Err(BoardFault::SameName);
+        return Err(FaultKind::SameName.at_table(place));
     }
-    allow_of(form, command, table)
+    allow_of(place, form, command, table)
 }
 
-/// The entries of a list, in order.
-pub(crate) fn entries_of(alloc: Global, tables: Tables<'_>) -> Result<AllowList, BoardFault>
-    ensures { Gives (λ l. l) result (entries_of [] (tables_left tables.entry)) }
+/// The entries of the target of an index, in order.
+pub(crate) fn entries_of(
+    alloc: Global,
+    target: usize,
+    tables: Tables<'_>,
+) -> Result<AllowList, BoardFault>
+    ensures { Gives (λ l. l) result (entries_of target [] (tables_left tables.entry)) }
 {
     let mut entries = AllowList::new(alloc);
     for table in tables {
-        let entry = entry_from(&entries, table)?;
+        let place = Place::Entry {
+            target,
+            entry: entries.len(),
+        };
+        let entry = entry_from(place, &entries, table)?;
         entries = entries.with(entry)?;
     }
     Ok(entries)

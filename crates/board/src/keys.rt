@@ -1,15 +1,17 @@
 //! The keys of a table: which ones it may have, what stands at each, and which ones it needs.
 
 ghost use Rattle.std.specs.Prelude.{◌≡◌, option_map};
-ghost use Rattle.std.specs.List.{list_all};
-ghost use Rattle.toml.specs.Data.{get_member};
 ghost use Rattle.toml.specs.View.{view, table_view, items_view};
 ghost use Rattle.board.specs.Reading.{Gives};
-ghost use Rattle.board.specs.Keys.{all_items, is_one, is_of, is_known, all_known, is_good_at};
-ghost use Rattle.board.specs.Keys.{is_there, check_keys};
-ghost use Rattle.board.specs.KeyViews.{key_views};
+ghost use Rattle.board.specs.Fields.{value_at};
+ghost use Rattle.board.specs.Keys.{all_items, is_one, is_of, is_known, first_unknown, is_good_at};
+ghost use Rattle.board.specs.Keys.{first_bad, other_in, first_other, wrong_at, is_there};
+ghost use Rattle.board.specs.Keys.{first_missing};
+ghost use Rattle.board.specs.Keys.{check_known, check_kinds, check_there, check_keys};
 
-use crate::fault::BoardFault;
+use crate::fault::{BoardFault, FaultKind};
+use crate::key::Key;
+use crate::site::{At, Place};
 use texts::is_name;
 use toml::{Table, Value};
 
@@ -33,14 +35,14 @@ pub(crate) enum Kind {
     ListOf(Sort),
 }
 
-/// The name of a key, and the kind of what stands there.
-pub(crate) type Key = (&'static str, Kind);
+/// A key that a table may have, and the kind of what stands there.
+pub(crate) type Field = (Key, Kind);
 
 /// What stands at a key of a table.
-pub(crate) fn value_at<'a>(table: &'a Table, key: &str) -> Option<&'a Value>
-    ensures { option_map (λ v. view v.now) result ≡ get_member key.now (table_view table.now) }
+pub(crate) fn value_at<'a>(table: &'a Table, key: Key) -> Option<&'a Value>
+    ensures { option_map (λ v. view v.now) result ≡ value_at key (table_view table.now) }
 {
-    table.get(key)
+    table.get(key.name())
 }
 
 fn is_one(sort: Sort, value: &Value) -> bool
@@ -77,68 +79,132 @@ fn is_of(kind: Kind, value: &Value) -> bool
     }
 }
 
-fn is_good_at(table: &Table, name: &str, kind: Kind) -> bool
-    ensures { result ≡ is_good_at (table_view table.now) (name.now, kind) }
+fn is_good_at(table: &Table, field: Field) -> bool
+    ensures { result ≡ is_good_at (table_view table.now) field }
 {
-    match value_at(table, name) {
+    match value_at(table, field.0) {
         None => true,
-        Some(value) => is_of(kind, value),
+        Some(value) => is_of(field.1, value),
     }
 }
 
-fn are_good(keys: &[Key], table: &Table) -> bool
-    ensures { result ≡ list_all (is_good_at (table_view table.now)) (key_views keys.now) }
+/// The first field with a value of another kind.
+fn first_bad(fields: &[Field], table: &Table) -> Option<Field>
+    ensures { result ≡ first_bad fields.now (table_view table.now) }
 {
-    for (name, kind) in keys {
-        if !is_good_at(table, name, *kind) {
-            return false;
-        }
+    fields
+        .iter()
+        .copied()
+        .find(|field| !is_good_at(table, *field))
+}
+
+/// The place of the first value of another sort.
+fn other_in(sort: Sort, values: &[Value]) -> Option<usize>
+    ensures { result ≡ other_in sort (items_view values.now) }
+{
+    values.iter().position(|value| !is_one(sort, value))
+}
+
+/// The place of the first item of another sort, where a value is to be a list of a sort.
+fn first_other(kind: Kind, value: &Value) -> Option<usize>
+    ensures { result ≡ first_other kind (view value.now) }
+{
+    match (kind, value) {
+        (Kind::ListOf(sort), Value::Array(values)) => other_in(sort, values.as_slice()),
+        _ => None,
     }
-    true
 }
 
-fn are_there(keys: &[Key], table: &Table) -> bool
-    ensures { result ≡ list_all (is_there (table_view table.now)) (key_views keys.now) }
+/// Where the value of a field is wrong: at its first item of another sort, or as a whole.
+fn wrong_at(table: &Table, field: Field) -> At
+    ensures { result ≡ wrong_at (table_view table.now) field }
 {
-    for (name, _) in keys {
-        if value_at(table, name).is_none() {
-            return false;
-        }
+    match value_at(table, field.0) {
+        Some(value) => match first_other(field.1, value) {
+            Some(item) => At::Item(field.0, item),
+            None => At::Key(field.0),
+        },
+        None => At::Key(field.0),
     }
-    true
 }
 
-fn is_known(keys: &[Key], name: &str) -> bool
-    ensures { result ≡ is_known (key_views keys.now) name.now }
+/// The first field without a value.
+fn first_missing(fields: &[Field], table: &Table) -> Option<Field>
+    ensures { result ≡ first_missing fields.now (table_view table.now) }
 {
-    keys.iter().any(|(known, _)| *known == name)
+    fields
+        .iter()
+        .copied()
+        .find(|field| value_at(table, field.0).is_none())
 }
 
-fn all_known(needed: &[Key], optional: &[Key], table: &Table) -> bool
-    ensures { result
-        ≡ all_known (key_views needed.now) (key_views optional.now) (table_view table.now) }
+fn is_known(fields: &[Field], name: &str) -> bool
+    ensures { result ≡ is_known fields.now name.now }
 {
-    table.keys().all(|name| is_known(needed, name.as_str()) || is_known(optional, name.as_str()))
+    fields.iter().any(|field| field.0.name() == name)
+}
+
+/// The place of the first key that is none of these.
+fn first_unknown(needed: &[Field], optional: &[Field], table: &Table) -> Option<usize>
+    ensures { result ≡ first_unknown needed.now optional.now (table_view table.now) }
+{
+    table.keys().position(|name| {
+        !(is_known(needed, name.as_str()) || is_known(optional, name.as_str()))
+    })
+}
+
+/// Refuses a table with a key that is none of these.
+fn check_known(
+    place: Place,
+    needed: &[Field],
+    optional: &[Field],
+    table: &Table,
+) -> Result<(), BoardFault>
+    ensures { Gives (λ u. table_view table.now) result
+        (check_known place needed.now optional.now (table_view table.now)) }
+{
+    match first_unknown(needed, optional, table) {
+        Some(unknown) => Err(FaultKind::BadKey.at(place, At::Unknown(unknown))),
+        None => Ok(()),
+    }
+}
+
+/// Refuses a table where one of these has a value of another kind.
+fn check_kinds(place: Place, fields: &[Field], table: &Table) -> Result<(), BoardFault>
+    ensures { Gives (λ u. table_view table.now) result
+        (check_kinds place fields.now (table_view table.now)) }
+{
+    match first_bad(fields, table) {
+        Some(field) => Err(FaultKind::BadKey.at(place, wrong_at(table, field))),
+        None => Ok(()),
+    }
+}
+
+/// Refuses a table without one of these.
+fn check_there(place: Place, fields: &[Field], table: &Table) -> Result<(), BoardFault>
+    ensures { Gives (λ u. table_view table.now) result
+        (check_there place fields.now (table_view table.now)) }
+{
+    match first_missing(fields, table) {
+        Some(field) => Err(FaultKind::MissingKey.at_key(place, field.0)),
+        None => Ok(()),
+    }
 }
 
 /// Refuses a table with a key that isn't one of these, with a value of another kind than its key's,
 /// or without a key that is needed.
 #[tactic(auto, unfolding(crate::specs::Keys::check_keys))]
-pub(crate) fn check_keys(needed: &[Key], optional: &[Key], table: &Table) -> Result<(), BoardFault>
+pub(crate) fn check_keys(
+    place: Place,
+    needed: &[Field],
+    optional: &[Field],
+    table: &Table,
+) -> Result<(), BoardFault>
     ensures { Gives (λ u. table_view table.now) result
-        (check_keys (key_views needed.now) (key_views optional.now) (table_view table.now)) }
+        (check_keys place needed.now optional.now (table_view table.now)) }
 {
-    if !all_known(needed, optional, table) {
-        return Err(BoardFault::BadKey);
-    }
-    if !are_good(needed, table) {
-        return Err(BoardFault::BadKey);
-    }
-    if !are_good(optional, table) {
-        return Err(BoardFault::BadKey);
-    }
-    if !are_there(needed, table) {
-        return Err(BoardFault::MissingKey);
-    }
-    Ok(())
+    check_known(place, needed, optional, table)?;
+    check_kinds(place, needed, table)?;
+    check_kinds(place, optional, table)?;
+    check_there(place, needed, table)
 }

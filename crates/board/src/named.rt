@@ -2,7 +2,7 @@
 
 ghost use Rattle.std.specs.Prelude.{◌≡◌, false, OnOk, IfErr};
 ghost use Rattle.board.specs.Named.{named_view, names, is_named, with_item, no_named};
-ghost use Rattle.board.specs.declared.fault.BoardFault.TheVariants.{Memory};
+ghost use Rattle.board.specs.Sites.{out_of_memory};
 
 use crate::fault::BoardFault;
 use crate::names::add_name;
@@ -33,7 +33,7 @@ impl<T> Named<T> {
         requires { is_named name.now (names self.old.names) ≡ false }
         ensures ok { OnOk result
             (named_view self.new ≡ with_item name.now item (named_view self.old)) }
-        ensures err { IfErr result (λ e. e ≡ Memory) }
+        ensures err { IfErr result (λ e. e ≡ out_of_memory) }
     {
         add_name(alloc, &mut self.names, name)?;
         self.items.push(item)?;

@@ -4,7 +4,7 @@ ghost use Rattle.std.specs.Prelude.{◌≡◌, ◌++◌, ◌∷◌, [], false, o
 ghost use Rattle.std.specs.Prelude.{IfErr};
 ghost use Rattle.board.specs.Boards.{place_of_name};
 ghost use Rattle.board.specs.Named.{names, is_named};
-ghost use Rattle.board.specs.declared.fault.BoardFault.TheVariants.{Memory};
+ghost use Rattle.board.specs.Sites.{out_of_memory};
 
 use crate::fault::BoardFault;
 use indexmap::IndexSet;
@@ -39,7 +39,7 @@ pub(crate) fn add_name(
 ) -> Result<(), BoardFault>
     requires { is_named name.now (names set.old) ≡ false }
     ensures ok { OnOk result (names set.new ≡ names set.old ++ name.now ∷ []) }
-    ensures err { IfErr result (λ e. e ≡ Memory) }
+    ensures err { IfErr result (λ e. e ≡ out_of_memory) }
 {
     set.insert_full(String::from_str(alloc, name)?)?;
     Ok(())

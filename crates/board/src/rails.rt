@@ -2,36 +2,38 @@
 
 ghost use Rattle.std.specs.Prelude.{◌≡◌, [], false, map, OnOk, IfOk, IfErr};
 ghost use Rattle.toml.specs.View.{table_view};
-ghost use Rattle.board.specs.declared.fault.BoardFault.TheVariants.{Memory};
+ghost use Rattle.board.specs.Sites.{out_of_memory};
 ghost use Rattle.board.specs.Reading.{Gives};
 ghost use Rattle.board.specs.Named.{named_view, names, is_named, with_item, no_named};
 ghost use Rattle.board.specs.Elements.{tables_left, texts_left};
 ghost use Rattle.board.specs.Rails.{check_rail_keys, target_at, page_of, page_at, has_page};
 ghost use Rattle.board.specs.Rails.{draft_from};
-ghost use Rattle.board.specs.Rails.{drafts_of, need_of, needs_of, rails_of};
+ghost use Rattle.board.specs.Rails.{drafts_of, need_fault, need_of, needs_of, rails_of};
 ghost use Rattle.board.specs.DraftViews.{draft_view, drafts_view};
 
 use crate::elements::{Tables, Texts, texts_at};
-use crate::fault::BoardFault;
+use crate::fault::{BoardFault, FaultKind};
 use crate::fields::{byte_at, number_at, text_at};
-use crate::keys::{Key, Kind, Sort, check_keys};
+use crate::key::Key;
+use crate::keys::{Field, Kind, Sort, check_keys};
 use crate::named::Named;
 use crate::names::place_of;
 use crate::rail::Rail;
+use crate::site::Place;
 use crate::target::Target;
 use crate::targets::new_name;
 use indexmap::IndexSet;
 use std::alloc::Global;
 use toml::Table;
 
-const NEEDED: [Key; 4] = [
-    ("name", Kind::Name),
-    ("target", Kind::One(Sort::Text)),
-    ("page", Kind::One(Sort::Integer)),
-    ("limit_uv", Kind::One(Sort::Integer)),
+const NEEDED: [Field; 4] = [
+    (Key::Name, Kind::Name),
+    (Key::Target, Kind::One(Sort::Text)),
+    (Key::Page, Kind::One(Sort::Integer)),
+    (Key::LimitUv, Kind::One(Sort::Integer)),
 ];
 
-const OPTIONAL: [Key; 1] = [("needs", Kind::ListOf(Sort::Text))];
+const OPTIONAL: [Field; 1] = [(Key::Needs, Kind::ListOf(Sort::Text))];
 
 /// A rail whose needs aren't judged yet.
 #[derive(Clone, Copy)]
@@ -43,24 +45,25 @@ pub(crate) struct RailDraft<'a> {
 }
 
 /// Refuses a table that is no rail.
-fn check_rail_keys(table: &Table) -> Result<(), BoardFault>
-    ensures { Gives (λ u. table_view table.now) result (check_rail_keys (table_view table.now)) }
+fn check_rail_keys(place: Place, table: &Table) -> Result<(), BoardFault>
+    ensures { Gives (λ u. table_view table.now) result
+        (check_rail_keys place (table_view table.now)) }
 {
-    check_keys(&NEEDED, &OPTIONAL, table)
+    check_keys(place, &NEEDED, &OPTIONAL, table)
 }
 
 /// The index of the target that a rail names.
 fn target_at(targets: &IndexSet<String>, table: &Table) -> Option<usize>
     ensures { result ≡ target_at (names targets.now) (table_view table.now) }
 {
-    place_of(targets, text_at("target", table)?)
+    place_of(targets, text_at(Key::Target, table)?)
 }
 
 /// The page, if the target has it.
 fn page_of(table: &Table, target: &Target) -> Option<u8>
     ensures { result ≡ page_of (table_view table.now) target.now }
 {
-    let page = byte_at(0, 255, "page", table)?;
+    let page = byte_at(0, 255, Key::Page, table)?;
     if page < target.pages() {
         Some(page)
     } else {
@@ -82,32 +85,37 @@ fn has_page(target: usize, page: u8, drafts: &[RailDraft<'_>]) -> bool
         .any(|draft| draft.target == target && draft.page == page)
 }
 
-/// The rail of a table, after the rails before it.
+/// The rail of an index, as its table says, after the rails before it.
 #[tactic(auto, unfolding(crate::specs::Rails::draft_from))]
 fn draft_from<'a>(
+    index: usize,
     targets: &Named<Target>,
     done: &Named<RailDraft<'_>>,
     table: &'a Table,
 ) -> Result<(&'a str, RailDraft<'a>), BoardFault>
     ensures value { Gives (λ s. (s.0.now, draft_view s.1)) result
-        (draft_from (named_view targets.now) (drafts_view done.now) (table_view table.now)) }
+        (draft_from index (named_view targets.now) (drafts_view done.now) (table_view table.now)) }
     ensures new { IfOk result (λ s. is_named s.0.now (names done.now.names) ≡ false) }
 {
-    check_rail_keys(table)?;
-    let name = new_name(&done.names, table)?;
-    let target = target_at(&targets.names, table).ok_or(BoardFault::BadRail)?;
-    let page = page_at(targets.items.as_slice(), target, table).ok_or(BoardFault::BadRail)?;
+    let place = Place::Rail(index);
+    check_rail_keys(place, table)?;
+    let name = new_name(place, &done.names, table)?;
+    let no_target = FaultKind::BadRail.at_key(place, Key::Target);
+    let target = target_at(&targets.names, table).ok_or(no_target)?;
+    let no_page = FaultKind::BadRail.at_key(place, Key::Page);
+    let page = page_at(targets.items.as_slice(), target, table).ok_or(no_page)?;
     if has_page(target, page, done.items.as_slice()) {
-        return Err(BoardFault::BadRail);
+        return Err(no_page);
     }
-    let limit_uv = number_at(1, u32::MAX, "limit_uv", table).ok_or(BoardFault::BadRange)?;
+    let bad_limit = FaultKind::BadRange.at_key(place, Key::LimitUv);
+    let limit_uv = number_at(1, u32::MAX, Key::LimitUv, table).ok_or(bad_limit)?;
     Ok((
         name,
         RailDraft {
             target,
             page,
             limit_uv,
-            needs: texts_at("needs", table),
+            needs: texts_at(Key::Needs, table),
         },
     ))
 }
@@ -123,7 +131,7 @@ fn push_draft<'a>(
     ensures ok { OnOk result
         (drafts_view drafts.new
         ≡ with_item name.now (draft_view draft.entry) (drafts_view drafts.old)) }
-    ensures err { IfErr result (λ e. e ≡ Memory) }
+    ensures err { IfErr result (λ e. e ≡ out_of_memory) }
 {
     drafts.push(alloc, name, draft)?;
     Ok(())
@@ -140,20 +148,34 @@ pub(crate) fn drafts_of<'a>(
 {
     let mut drafts = Named::new(alloc);
     for table in tables {
-        let (name, draft) = draft_from(targets, &drafts, table)?;
+        let index = drafts.items.len();
+        let (name, draft) = draft_from(index, targets, &drafts, table)?;
         push_draft(alloc, &mut drafts, name, draft)?;
     }
     Ok(drafts)
 }
 
+/// A fault of a need of a rail, by its place among these.
+fn need_fault(kind: FaultKind, rail: usize, need: usize) -> BoardFault
+    ensures { result ≡ need_fault kind rail need }
+{
+    kind.at_item(Place::Rail(rail), Key::Needs, need)
+}
+
 /// The index of the rail that is needed, which isn't the one that needs it.
 #[tactic(auto, unfolding(crate::specs::Rails::need_of))]
-fn need_of(rails: &IndexSet<String>, rail: usize, name: &str) -> Result<usize, BoardFault>
-    ensures { Gives (λ n. n) result (need_of (names rails.now) rail name.now) }
+fn need_of(
+    rails: &IndexSet<String>,
+    rail: usize,
+    need: usize,
+    name: &str,
+) -> Result<usize, BoardFault>
+    ensures { Gives (λ n. n) result (need_of (names rails.now) rail need name.now) }
 {
-    let needed = place_of(rails, name).ok_or(BoardFault::UnknownNeed)?;
+    let unknown = need_fault(FaultKind::UnknownNeed, rail, need);
+    let needed = place_of(rails, name).ok_or(unknown)?;
     if needed == rail {
-        return Err(BoardFault::SelfNeed);
+        return Err(need_fault(FaultKind::SelfNeed, rail, need));
     }
     Ok(needed)
 }
@@ -169,7 +191,8 @@ fn needs_of(
 {
     let mut needs = Vec::new(alloc);
     for name in texts {
-        needs.push(need_of(rails, rail, name)?)?;
+        let needed = need_of(rails, rail, needs.len(), name)?;
+        needs.push(needed)?;
     }
     Ok(needs)
 }
