@@ -1,4 +1,4 @@
--- Lemmas of the code: bits of masks, headings of requests, rails, rows and edges.
+-- Lemmas of the code: bits of masks, what is to blame, rails, rows and edges.
 pub mod Words
 pub mod Placed
 pub mod Passing
@@ -6,9 +6,12 @@ pub mod Ends
 pub mod Covering
 pub mod Joining
 pub mod Protections
-pub mod Headed
 pub mod Limits
-pub mod FirstFailing
+pub mod Firsts
+pub mod Untaken
+pub mod Refused
+pub mod Blamed
+pub mod OneAnswer
 pub mod Mapping
 pub mod Withdrawn
 pub mod RowCovering

@@ -4,4 +4,5 @@ pub mod transfer
 pub mod well_formed
 pub mod Steps
 pub mod FactLaws
+pub mod BlameLaws
 pub mod Witnesses

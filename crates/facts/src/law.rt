@@ -1,5 +1,6 @@
 ghost use Rattle.facts.specs.FactLaws.{CoveringRowsAdmit, DutiesAreKept, EdgesFollow};
 ghost use Rattle.facts.specs.FactLaws.{EdgesStayShaped, ElseEdgesCover, CoveringGoesOn};
+ghost use Rattle.facts.specs.BlameLaws.{BlameBreaks, OneIsToBlame};
 ghost use Rattle.facts.specs.Steps.{MetDutiesSend, StepsAreSound};
 ghost use Rattle.facts.specs.Witnesses.{SomeMachineStands, SomeRowIsWider};
 
@@ -41,3 +42,10 @@ pub fn covered_rows_follow()
 {
     small_programs_are_judged();
 }
+
+/// The law of violations. What is to blame for a refusal breaks its rule, and nothing else is to
+/// blame for that rule: with the first rule that isn't met, the answer is one.
+pub fn one_is_to_blame()
+    ensures breaks { BlameBreaks }
+    ensures one { OneIsToBlame }
+{}

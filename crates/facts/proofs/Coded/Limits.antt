@@ -1,81 +1,131 @@
--- Duties over rails, from the loops over them.
-use Rattle.std.proofs.Common.{◌≡◌, ◌↔◌, ◌∙◌, ◌==◌, ◌&&◌, ℕ, Bool, IsTrue, List, slice_get}
-use Rattle.std.proofs.Common.{slice_index_or, Some}
-use Rattle.std.proofs.Common.{All, sym, ap, subst}
-use Rattle.std.proofs.lemmas.List.Elements.{All-get_or}
-use Rattle.std.proofs.lemmas.Option.{slice_get_within, get_or_from_slice_get, slice_get-get_or}
-use Rattle.pmbus_table.specs.Voltage.{IsWithin}
-use Rattle.board.specs.Boards.{Rail, Target, Board}
-use Rattle.facts.specs.domain.Sets.{Set, pages_in, rails_in}
-use Rattle.facts.specs.domain.Rows.{Row}
-use Rattle.seq_program.specs.declared.instr.Written.{Written}
+-- K4 and K5: rails that are touched, from what is found among a board's.
+use Rattle.std.proofs.Common.{◌≡◌, ◌==◌, ◌&&◌, ℕ, Bool, true, false, IsTrue, List, All}
+use Rattle.std.proofs.Common.{slice_get, slice_index_or, Option, Some, None, sym, subst, refl}
+use Rattle.std.proofs.lemmas.Option.{slice_get-get_or}
+use Rattle.std.specs.Prelude.{cond, option_map}
+use Rattle.pmbus_table.specs.Codes.{operation_code}
+use Rattle.pmbus_table.specs.Operation.{enables}
+use Rattle.pmbus_table.specs.Voltage.{IsWithin, carries_voltage}
+use Rattle.board.specs.Boards.{Rail, Board}
 use Rattle.seq_program.specs.declared.instr.Written.TheVariants as written
-use Rattle.seq_program.specs.Requests.{Value}
-use Rattle.pmbus_table.specs.Voltage.{carries_voltage}
-use Rattle.facts.specs.duties.Duties.{may_select, written_span, IsWithinLimits}
-use Rattle.facts.specs.duties.Duties.{SetsWithinLimits}
-use Rattle.facts.specs.duties.Touching.{IsWithinLimit, HasGoodNeeds}
+use Rattle.seq_program.specs.Requests.{Content, Nothing, Value, Block, Transaction, code_in}
 use Rattle.facts.specs.declared.domain.span.Span.{Span}
-use Rattle.facts.proofs.Coded.Headed.{some_is}
-
--- of each rail, by its index
-rail_at : (P : Rail → Type 0) (rails : List Rail) → All P rails → (d : ℕ) (r : Rail)
-    → slice_get rails d ≡ Some r → P r
-rail_at P rails all d r here =
-    subst P (get_or_from_slice_get rails d r r here)
-    (All-get_or P rails d r (slice_get_within rails d r here) all)
+use Rattle.facts.specs.declared.duties.rule.Rule.TheVariants.{K5}
+use Rattle.facts.specs.declared.duties.violation.Violation.TheVariants.{NotGood}
+use Rattle.facts.specs.domain.Rows.{Row, set_at}
+use Rattle.facts.specs.domain.Sets.{Set, pages_in, rails_in}
+use Rattle.facts.specs.duties.Duties.{may_select, IsWithinLimits, LimitsOf}
+use Rattle.facts.specs.duties.Duties.{CommandsWithinLimits}
+use Rattle.facts.specs.duties.Duties.{AreNeedsGood, EnablesInOrder, HasNeeds}
+use Rattle.facts.specs.duties.Violations.{words_of, IsFirstNot, IsRailWithin}
+use Rattle.facts.specs.duties.Violations.{ExceedsLimit, TurnsOn, IsRailReady, LacksNeed}
+use Rattle.facts.specs.duties.Blaming.{FindsUnready, Blames}
+use Rattle.facts.proofs.Shared.Places.{all_at, some_same, none_some}
+use Rattle.facts.proofs.Coded.Firsts.{not_all}
 
 each_rail : (P : Rail → Type 0) (rails : List Rail)
     → ((d : ℕ) (r : Rail) → slice_get rails d ≡ Some r → P r) → All P rails
 each_rail P rails each =
     λ d r lt. each d (slice_index_or rails d r) (slice_get-get_or rails d r lt)
 
-abbrev pub Needs : List Rail → ℕ → ℕ → Set → Type 0
-Needs rails i good s = (d : ℕ) (r : Rail) → slice_get rails d ≡ Some r
-    → IsTrue ((r.target == i) && may_select s r.page)
-    → All (λ need. IsTrue (rails_in good need)) r.needs
+-- ---- which voltages are commanded
 
-pub order_iff : (rails : List Rail) (i good p : ℕ) (s : Set) (x : Bool) → pages_in p ≡ s
-    → IsTrue x ↔ All (HasGoodNeeds p i good) rails → IsTrue x ↔ Needs rails i good s
-order_iff rails i good p s x e iff = subst (λ u. IsTrue x ↔ Needs rails i good u) e (
-  (λ holds. rail_at (HasGoodNeeds p i good) rails (iff.0 holds)),
-  (λ all. iff.1 (each_rail (HasGoodNeeds p i good) rails all)),
+limits_given : (b : Board) (row : Row) (i code : ℕ) (content : Content) (register : Option ℕ)
+    (s : Span) → words_of row content register ≡ Some s → IsTrue (carries_voltage code)
+    → LimitsOf b row i code content register → IsWithinLimits b row i s
+limits_given b row i code (Value (written.Byte n)) None s is carries h = absurd (none_some s is)
+limits_given b row i code (Value (written.Word n)) None s is carries h =
+    subst (IsWithinLimits b row i) (some_same _ s is) (h carries)
+limits_given b row i code (Value (written.Register r)) None s is carries h =
+    subst (IsWithinLimits b row i) (some_same _ s is) (h carries)
+limits_given b row i code Nothing None s is carries h = absurd (none_some s is)
+limits_given b row i code (Block bytes) None s is carries h = absurd (none_some s is)
+limits_given b row i code (Value (written.Byte n)) (Some r) s is carries h =
+    absurd (none_some s is)
+limits_given b row i code (Value (written.Word n)) (Some r) s is carries h =
+    absurd (none_some s is)
+limits_given b row i code (Value (written.Register n)) (Some r) s is carries h =
+    absurd (none_some s is)
+limits_given b row i code Nothing (Some r) s is carries h = absurd (none_some s is)
+limits_given b row i code (Block bytes) (Some r) s is carries h = absurd (none_some s is)
+
+-- a choice that gives something
+given : (t : Bool) (o : Option Span) (s : Span) → cond t o None ≡ Some s → (t ≡ true) × (o ≡ Some s)
+given true o s is = (refl, is)
+given false o s is = absurd (none_some s is)
+
+-- ---- K4
+
+pub exceeding_breaks : (b : Board) (row : Row) (i : ℕ) (x : Transaction) (rail most : ℕ)
+    → ExceedsLimit b row i x rail most → CommandsWithinLimits b row i x → ⊥
+exceeding_breaks b row i x rail most h met =
+    let from = given (carries_voltage (code_in x)) _ h.voltages h.commanded in
+    let within =
+    limits_given b row i (code_in x) x.content x.register h.voltages from.1 from.0 met in
+    not_all (IsRailWithin row i h.target most) b.rails rail h.limited h.first
+    (each_rail (IsRailWithin row i h.target most) b.rails
+    (λ d r here touched. subst (λ n. IsWithin n h.target.exponent r.limit_uv) (sym h.greatest)
+    (within h.target d r h.at here touched)))
+
+-- ---- K5
+
+off : (b : Board) (row : Row) (i : ℕ) (x : Transaction) (content : Content) → x.content ≡ content
+    → (TurnsOn x → ⊥) → EnablesInOrder b row i (code_in x) content
+off b row i x (Value (written.Byte n)) is never = λ operation enabling. absurd
+    (never (record { value = n; written = is; operation = operation; enabling = enabling }))
+off b row i x (Value (written.Word n)) is never = tt
+off b row i x (Value (written.Register r)) is never = tt
+off b row i x Nothing is never = tt
+off b row i x (Block bytes) is never = tt
+
+pub k5_off : (b : Board) (row : Row) (i : ℕ) (x : Transaction) → (TurnsOn x → ⊥)
+    → Blames b row i x K5 None
+k5_off b row i x never = off b row i x x.content refl never
+
+in_order : (b : Board) (row : Row) (i code : ℕ) (content : Content) → AreNeedsGood b row i
+    → EnablesInOrder b row i code content
+in_order b row i code (Value (written.Byte n)) good = λ operation enabling. good
+in_order b row i code (Value (written.Word n)) good = tt
+in_order b row i code (Value (written.Register r)) good = tt
+in_order b row i code Nothing good = tt
+in_order b row i code (Block bytes) good = tt
+
+abbrev Ready : Set → ℕ → Set → Rail → Type 0
+Ready pages i good r =
+    IsTrue ((r.target == i) && may_select pages r.page) → All (λ d. IsTrue (good d)) r.needs
+
+pub k5 : (b : Board) (row : Row) (i : ℕ) (x : Transaction) (pages good : ℕ)
+    (found : Option (ℕ × ℕ)) → TurnsOn x → pages_in pages ≡ set_at row.pages i
+    → rails_in good ≡ row.good → FindsUnready pages i good b.rails found
+    → Blames b row i x K5 (option_map (λ (at : ℕ × ℕ). NotGood at.0 at.1) found)
+k5 b row i x pages good None on same same_good h =
+    in_order b row i (code_in x) x.content
+    (λ d r here touched. all_at (IsRailReady row i) b.rails d r
+    (subst (λ g. All (Ready (set_at row.pages i) i g) b.rails) same_good
+    (subst (λ u. All (Ready u i (rails_in good)) b.rails) same h)) here touched)
+k5 b row i x pages good (Some (rail, need)) on same same_good h = (
+  refl,
+  record {
+    on = on;
+    dependent = h.0;
+    first = subst (λ g. IsFirstNot (Ready (set_at row.pages i) i g) b.rails rail h.0) same_good
+        (subst (λ u. IsFirstNot (Ready u i (rails_in good)) b.rails rail h.0) same h.1);
+    place = h.2.1.0;
+    lacking = subst (λ (g : Set). IsFirstNot (λ d. IsTrue (g d)) h.0.needs h.2.1.0 need) same_good
+        h.2.1.1;
+  },
 )
 
-abbrev pub Limits : Board → ℕ → ℕ → Set → Type 0
-Limits b i voltage s =
-    (t : Target) (d : ℕ) (r : Rail) → slice_get b.targets i ≡ Some t → slice_get b.rails d ≡ Some r
-    → IsTrue ((r.target == i) && may_select s r.page)
-    → IsWithin voltage t.exponent r.limit_uv
+ordered : (b : Board) (row : Row) (i code value : ℕ) (content : Content)
+    → content ≡ Value (written.Byte value) → code ≡ operation_code → IsTrue (enables value)
+    → EnablesInOrder b row i code content → AreNeedsGood b row i
+ordered b row i code value content is operation enabling h =
+    subst (λ c. EnablesInOrder b row i code c) is h operation enabling
 
-pub limits_iff : (b : Board) (i voltage p : ℕ) (s : Set) (t : Target) (x : Bool) → pages_in p ≡ s
-    → Some t ≡ slice_get b.targets i
-    → IsTrue x ↔ All (IsWithinLimit p i t.exponent voltage) b.rails
-    → IsTrue x ↔ Limits b i voltage s
-limits_iff b i voltage p s t x e at iff = subst (λ u. IsTrue x ↔ Limits b i voltage u) e (
-  (λ holds u d r at' here touched.
-      let same : t ≡ u = some_is t u (at ∙ at') in
-      subst (λ (v : Target). IsWithin voltage v.exponent r.limit_uv) same
-      (rail_at (IsWithinLimit p i t.exponent voltage) b.rails (iff.0 holds) d r here touched)),
-  (λ all. iff.1 (each_rail (IsWithinLimit p i t.exponent voltage) b.rails
-      (λ d r here touched. all t d r (sym at) here touched))),
-)
-
--- a word that is written, and a register's
-pub word_limits : (b : Board) (row : Row) (i code w : ℕ) (v : Written) (s : Span) (x : Bool)
-    → v ≡ written.Word w → s ≡ written_span row v
-    → IsTrue x ↔ (IsTrue (carries_voltage code) → IsWithinLimits b row i s)
-    → IsTrue x ↔ SetsWithinLimits b row i code (Value v)
-word_limits b row i code w v s x e q iff =
-    subst (λ u. IsTrue x ↔ SetsWithinLimits b row i code (Value u)) (sym e)
-    (subst (λ z. IsTrue x ↔ (IsTrue (carries_voltage code) → IsWithinLimits b row i z))
-    (q ∙ ap (written_span row) e) iff)
-
-pub register_limits : (b : Board) (row : Row) (i code r : ℕ) (v : Written) (s : Span) (x : Bool)
-    → v ≡ written.Register r → s ≡ written_span row v
-    → IsTrue x ↔ (IsTrue (carries_voltage code) → IsWithinLimits b row i s)
-    → IsTrue x ↔ SetsWithinLimits b row i code (Value v)
-register_limits b row i code r v s x e q iff =
-    subst (λ u. IsTrue x ↔ SetsWithinLimits b row i code (Value u)) (sym e)
-    (subst (λ z. IsTrue x ↔ (IsTrue (carries_voltage code) → IsWithinLimits b row i z))
-    (q ∙ ap (written_span row) e) iff)
+pub lacking_breaks : (b : Board) (row : Row) (i : ℕ) (x : Transaction) (rail need : ℕ)
+    → LacksNeed b row i x rail need → HasNeeds b row i x → ⊥
+lacking_breaks b row i x rail need h met =
+    not_all (IsRailReady row i) b.rails rail h.dependent h.first
+    (each_rail (IsRailReady row i) b.rails
+    (λ d r here touched. ordered b row i (code_in x) h.on.value x.content h.on.written
+    h.on.operation h.on.enabling met d r here touched))

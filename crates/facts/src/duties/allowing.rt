@@ -1,18 +1,20 @@
-//! Whether a target allows what may be sent to it.
+//! K1: whether a target allows what may be sent to it, and what is to blame where it doesn't.
 
-ghost use Rattle.std.specs.Prelude.{◌≡◌, ◌+◌, ◌↔◌, length, IsTrue, All};
-ghost use Rattle.facts.specs.duties.KnownBytes.{IsKnownByte};
-ghost use Rattle.simulator.specs.Allowed.{IsBlockIn};
+ghost use Rattle.std.specs.Prelude.{◌≡◌, ◌+◌, ◌↔◌, length, IsTrue, None, Some};
+ghost use Rattle.board.specs.Boards.{entry_of};
 ghost use Rattle.targets.specs.Fitting.{IsIn};
-ghost use Rattle.facts.specs.domain.Rows.{row_view};
+ghost use Rattle.seq_program.specs.Requests.{Value, Block};
 ghost use Rattle.seq_program.specs.RequestViews.{content_view, transaction_view};
-ghost use Rattle.facts.specs.duties.Duties.{written_span, one, IsWithinRange, IsContentIn};
-ghost use Rattle.facts.specs.duties.Duties.{LeavesRoom};
-ghost use Rattle.facts.specs.duties.Duties.{IsInEntry, IsKnownValue};
+ghost use Rattle.facts.specs.declared.duties.rule.Rule.TheVariants.{K1};
+ghost use Rattle.facts.specs.domain.Rows.{Row as AnyRow, row_view};
+ghost use Rattle.facts.specs.duties.Duties.{written_span, one, LeavesRoom, IsKnownValue};
+ghost use Rattle.facts.specs.duties.KnownBytes.{IsKnownByte};
+ghost use Rattle.facts.specs.duties.Blaming.{FindsPlace, FindsOutside, FindsUntaken, Blames};
 
 use crate::domain::row::Row;
 use crate::domain::span::Span;
-use board::{Allow, Range, Target, is_page_value};
+use crate::duties::violation::Violation;
+use board::{Allow, Board, Range, Target, is_page_value};
 use pmbus_table::code::{OPERATION, PAGE, WRITE_PROTECT};
 use pmbus_table::{enables, is_protection};
 use seq_program::{Content, Transaction, Written};
@@ -38,10 +40,17 @@ pub(crate) fn written_span(row: &Row, value: Written) -> Span
     }
 }
 
-fn is_within_range(range: Range, span: Span) -> bool
-    ensures { IsTrue result ↔ IsWithinRange range span }
+/// What of a value that may be written isn't within an entry's.
+fn outside_values(row: &Row, entry: &Allow, value: Written) -> Option<Violation>
+    ensures { FindsOutside (row_view row.now) entry.now (Value value) None result }
 {
-    range.low <= span.lo && span.hi <= range.high
+    let range = entry.values();
+    let span = written_span(row, value);
+    if range.low <= span.lo && span.hi <= range.high {
+        None
+    } else {
+        Some(Violation::Values(span))
+    }
 }
 
 fn is_in(range: Range, number: usize) -> bool
@@ -50,27 +59,34 @@ fn is_in(range: Range, number: usize) -> bool
     usize::from(range.low) <= number && number <= usize::from(range.high)
 }
 
-fn are_in(range: Range, bytes: &[u8]) -> bool
-    ensures { IsTrue result ↔ All (IsIn range) bytes.now }
+/// The place of the first byte that isn't in a range.
+fn first_outside(range: Range, bytes: &[u8]) -> Option<usize>
+    ensures { FindsPlace (IsIn range) bytes.now result }
 {
-    bytes.iter().all(|byte| is_in(range, usize::from(*byte)))
+    bytes
+        .iter()
+        .position(|byte| !is_in(range, usize::from(*byte)))
 }
 
-fn is_block_in(entry: &Allow, bytes: &[u8]) -> bool
-    ensures { IsTrue result ↔ IsBlockIn entry.now bytes.now }
+/// What of a block isn't within an entry's ranges.
+fn outside_block(entry: &Allow, bytes: &[u8]) -> Option<Violation>
+    ensures { (row : AnyRow) → FindsOutside row entry.now (Block bytes.now) None result }
 {
-    is_in(entry.length(), bytes.len()) && are_in(entry.values(), bytes)
+    if !is_in(entry.length(), bytes.len()) {
+        return Some(Violation::BlockLength);
+    }
+    let place = first_outside(entry.values(), bytes)?;
+    Some(Violation::BlockByte(place))
 }
 
-/// Whether what is written lies in an entry's ranges.
-fn is_content_in(row: &Row, entry: &Allow, content: &Content<'_>) -> bool
-    ensures { IsTrue result
-        ↔ IsContentIn (row_view row.now) entry.now (content_view content.now) }
+/// What of a write isn't within an entry's ranges.
+fn outside_content(row: &Row, entry: &Allow, content: &Content<'_>) -> Option<Violation>
+    ensures { FindsOutside (row_view row.now) entry.now (content_view content.now) None result }
 {
     match content {
-        Content::Value(value) => is_within_range(entry.values(), written_span(row, *value)),
-        Content::Block(bytes) => is_block_in(entry, bytes.bytes()),
-        Content::Nothing => true,
+        Content::Value(value) => outside_values(row, entry, *value),
+        Content::Block(bytes) => outside_block(entry, bytes.bytes()),
+        Content::Nothing => None,
     }
 }
 
@@ -84,14 +100,15 @@ fn leaves_room(entry: &Allow, content: &Content<'_>) -> bool
     }
 }
 
-/// Whether an entry takes what is written.
-pub(crate) fn is_in_entry(row: &Row, entry: &Allow, transaction: &Transaction<'_>) -> bool
-    ensures { IsTrue result
-        ↔ IsInEntry (row_view row.now) entry.now (transaction_view transaction.now) }
+/// What of a message isn't within an entry's ranges.
+fn outside_entry(row: &Row, entry: &Allow, transaction: &Transaction<'_>) -> Option<Violation>
+    ensures { let x = transaction_view transaction.now in
+        FindsOutside (row_view row.now) entry.now x.content x.register result }
 {
     match transaction.register {
-        None => is_content_in(row, entry, &transaction.content),
-        Some(_) => leaves_room(entry, &transaction.content),
+        None => outside_content(row, entry, &transaction.content),
+        Some(_) if leaves_room(entry, &transaction.content) => None,
+        Some(_) => Some(Violation::NoRoom),
     }
 }
 
@@ -108,11 +125,50 @@ fn is_known_byte(device: &Target, code: u8, value: u8) -> bool
 }
 
 /// Whether a byte that is written is one of its command's values.
-pub(crate) fn is_known_value(device: &Target, transaction: &Transaction<'_>) -> bool
+fn is_known_value(device: &Target, transaction: &Transaction<'_>) -> bool
     ensures { IsTrue result ↔ IsKnownValue device.now (transaction_view transaction.now) }
 {
     match &transaction.content {
         Content::Value(Written::Byte(value)) => is_known_byte(device, transaction.code(), *value),
         _ => true,
     }
+}
+
+/// What of a message an entry doesn't take, or that it writes none of its command's values.
+fn untaken(
+    row: &Row,
+    device: &Target,
+    entry: &Allow,
+    transaction: &Transaction<'_>,
+) -> Option<Violation>
+    ensures { FindsUntaken (row_view row.now) device.now entry.now
+        (transaction_view transaction.now) result }
+{
+    if let Some(outside) = outside_entry(row, entry, transaction) {
+        return Some(outside);
+    }
+    if is_known_value(device, transaction) {
+        None
+    } else {
+        Some(Violation::UnknownValue)
+    }
+}
+
+/// K1: why a target doesn't allow the message with every value that it may carry.
+pub(crate) fn disallowed(
+    board: &Board,
+    row: &Row,
+    target: usize,
+    transaction: &Transaction<'_>,
+) -> Option<Violation>
+    ensures { Blames board.now (row_view row.now) target (transaction_view transaction.now) K1
+        result }
+{
+    let Some(device) = board.target(target) else {
+        return Some(Violation::NoEntry);
+    };
+    let Some(entry) = device.entry(transaction.form, transaction.code()) else {
+        return Some(Violation::NoEntry);
+    };
+    untaken(row, device, entry, transaction)
 }

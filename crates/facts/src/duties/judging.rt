@@ -1,23 +1,21 @@
-//! The duties of an instruction at a row.
+//! The duties of an instruction at a row, and what is to blame where it doesn't meet one.
 
-ghost use Rattle.std.specs.Prelude.{◌≡◌, ◌↔◌, ℕ, true, false, Some};
-ghost use Rattle.std.specs.Prelude.{None, if◌then◌else◌, IsTrue, IfSome, All};
-ghost use Rattle.pmbus_table.specs.Commands.{form_read, is_paged, counts_as_write};
-ghost use Rattle.pmbus_table.specs.Protect.{permits};
-ghost use Rattle.facts.specs.duties.Duties.{may_select, IsWithinLimits};
-ghost use Rattle.pmbus_table.specs.Voltage.{carries_voltage};
-ghost use Rattle.facts.specs.duties.Duties.{IsInEntry, IsKnownValue, MayBeSent, ReadsOnePage};
+ghost use Rattle.std.specs.Prelude.{◌≡◌, ◌↔◌, false, Some, None, IsTrue, IfSome, All, option_map};
 ghost use Rattle.smbus.specs.FormWords.{carries_code};
-ghost use Rattle.facts.specs.duties.Duties.{IsUnprotected, SetsWithinLimits, CommandsWithinLimits};
-ghost use Rattle.facts.specs.duties.Duties.{AreNeedsGood, HasNeeds, duties, IsFirstFailing};
-ghost use Rattle.seq_program.specs.Requests.{Value};
-ghost use Rattle.seq_program.specs.RequestViews.{transaction_view};
-ghost use Rattle.facts.specs.domain.Rows.{row_view};
-ghost use Rattle.facts.specs.declared.duties.rule.Rule.TheVariants.{K1, K2, K3, K4, K5};
-ghost use Rattle.facts.specs.duties.Touching.{touches_in, IsWithinLimit, HasGoodNeeds};
-ghost use Rattle.facts.specs.duties.Permitting.{FourPermit};
 ghost use Rattle.pmbus_table.specs.Codes.{all_pages};
-ghost use Rattle.facts.specs.domain.Sets.{pages_in, protects_in, rails_in};
+ghost use Rattle.pmbus_table.specs.Commands.{form_read, is_paged};
+ghost use Rattle.board.specs.Boards.{Board as AnyBoard};
+ghost use Rattle.seq_program.specs.RequestViews.{content_view, transaction_view};
+ghost use Rattle.facts.specs.declared.duties.rule.Rule.TheVariants.{K2, K3, K4, K5};
+ghost use Rattle.facts.specs.domain.Rows.{row_view};
+ghost use Rattle.facts.specs.domain.Sets.{pages_in, rails_in};
+ghost use Rattle.facts.specs.duties.Duties.{may_select, duties, IsFirstFailing};
+ghost use Rattle.facts.specs.duties.Permitting.{PermitsAt, protections};
+ghost use Rattle.facts.specs.duties.Touching.{touches_in, IsWithinLimit, HasGoodNeeds};
+ghost use Rattle.facts.specs.duties.Violations.{rule_of, words_of, voltages_of, TurnsOn, IsToBlame};
+ghost use Rattle.facts.specs.duties.Blaming.{FindsPlace, FindsItem};
+ghost use Rattle.facts.specs.duties.Blaming.{FindsLacking, FindsUnready};
+ghost use Rattle.facts.specs.duties.Blaming.{Blames, BlamesFirst};
 
 use crate::domain::good_set::GoodSet;
 use crate::domain::page_set::PageSet;
@@ -25,30 +23,42 @@ use crate::domain::parts::{pages_at, protects_at};
 use crate::domain::protect_set::ProtectSet;
 use crate::domain::row::Row;
 use crate::domain::span::Span;
-use crate::duties::allowing::{is_in_entry, is_known_value, written_span};
+use crate::duties::allowing::{disallowed, written_span};
 use crate::duties::rule::Rule;
-use board::{Allow, Board, Rail, Target};
+use crate::duties::violation::Violation;
+use board::{Board, Rail, Target};
 use pmbus_table::code::{ALL_PAGES, OPERATION};
 use pmbus_table::{Command, carries_voltage, enables, permits, within};
 use seq_program::{Content, Instr, Transaction, Written};
 use smbus::Form;
 
-/// Whether a paged command isn't read while PAGE may stand for all pages.
-fn reads_one_page(pages: PageSet, command: Command, form: Form) -> bool
-    ensures { IsTrue result ↔ (IsTrue (is_paged command) → form_read command ≡ Some form
-        → pages_in pages all_pages ≡ false) }
+/// The values of WRITE_PROTECT, the least first (PMBus 1.3 Part II, 11.1).
+const PROTECTIONS: [u8; 4] = [0x00, 0x20, 0x40, 0x80];
+
+/// Whether a paged command is read while PAGE may stand for all pages.
+fn reads_all_pages(pages: PageSet, command: Command, form: Form) -> bool
+    ensures { IsTrue result ↔ (IsTrue (is_paged command) × (form_read command ≡ Some form)
+        × IsTrue (pages_in pages all_pages)) }
 {
-    if command.paged() && command.form_read() == Some(form) {
-        !pages.contains(ALL_PAGES)
+    command.paged() && command.form_read() == Some(form) && pages.contains(ALL_PAGES)
+}
+
+/// K2: a read of all pages at once.
+fn read_of_all(row: &Row, target: usize, transaction: &Transaction<'_>) -> Option<Violation>
+    ensures { (b : AnyBoard) → Blames b (row_view row.now) target
+        (transaction_view transaction.now) K2 result }
+{
+    let command = transaction.command?;
+    if reads_all_pages(pages_at(row, target), command, transaction.form) {
+        Some(Violation::AllPages)
     } else {
-        true
+        None
     }
 }
 
 /// Whether a protection, where it may be stored, permits writes of a code.
 fn permits_at(protects: ProtectSet, protect: u8, code: u8) -> bool
-    ensures { IsTrue result
-        ↔ (IsTrue (protects_in protects protect) → permits protect code ≡ Some true) }
+    ensures { IsTrue result ↔ PermitsAt protects code protect }
 {
     if protects.contains(protect) {
         permits(protect, code) == Some(true)
@@ -57,51 +67,28 @@ fn permits_at(protects: ProtectSet, protect: u8, code: u8) -> bool
     }
 }
 
-/// Whether each of the four protections that may be stored permits writes of a code.
-fn four_permit(protects: ProtectSet, code: u8) -> bool
-    ensures { IsTrue result ↔ FourPermit protects code }
+/// The least protection that may be stored and doesn't permit writes of a code.
+fn least_forbidding(protects: ProtectSet, code: u8) -> Option<u8>
+    ensures { FindsItem (PermitsAt protects code) protections result }
 {
-    permits_at(protects, 0x00, code)
-        && permits_at(protects, 0x20, code)
-        && permits_at(protects, 0x40, code)
-        && permits_at(protects, 0x80, code)
+    let place = PROTECTIONS
+        .iter()
+        .position(|protect| !permits_at(protects, *protect, code))?;
+    Some(PROTECTIONS[place])
 }
 
-/// Whether every protection that may be stored permits writes of a code.
-fn all_permit(protects: ProtectSet, code: u8) -> bool
-    ensures { IsTrue result ↔ ((protect : ℕ) → IsTrue (protects_in protects protect)
-        → permits protect code ≡ Some true) }
+/// K3: a protection that may be stored and doesn't permit the write.
+fn forbidden(row: &Row, target: usize, transaction: &Transaction<'_>) -> Option<Violation>
+    requires { transaction.now.command ≡ None → carries_code transaction.now.form ≡ false }
+    ensures { (b : AnyBoard) → Blames b (row_view row.now) target
+        (transaction_view transaction.now) K3 result }
 {
-    four_permit(protects, code)
-}
-
-/// Whether the message isn't a write that a protection that may be stored forbids.
-fn is_unprotected(protects: ProtectSet, command: Command, form: Form) -> bool
-    ensures { IsTrue result ↔ (IsTrue (counts_as_write command form) → (protect : ℕ)
-        → IsTrue (protects_in protects protect) → permits protect command ≡ Some true) }
-{
-    if command.counts_as_write(form) {
-        all_permit(protects, command.code())
-    } else {
-        true
+    let command = transaction.command?;
+    if !command.counts_as_write(transaction.form) {
+        return None;
     }
-}
-
-/// Whether a rail is known to be good.
-fn is_good(good: GoodSet, rail: usize) -> bool
-    ensures { result ≡ rails_in good rail }
-{
-    match u8::try_from(rail) {
-        Ok(rail) => good.contains(rail),
-        Err(_) => false,
-    }
-}
-
-/// Whether all rails of a list are known to be good.
-fn are_good(good: GoodSet, rails: &[usize]) -> bool
-    ensures { IsTrue result ↔ All (λ rail. IsTrue (rails_in good rail)) rails.now }
-{
-    rails.iter().all(|rail| is_good(good, *rail))
+    let protect = least_forbidding(protects_at(row, target), command.code())?;
+    Some(Violation::Protected(protect))
 }
 
 /// Whether some page of a set selects a page.
@@ -135,184 +122,170 @@ fn is_within_limit(
     }
 }
 
-/// Whether a voltage is within the limit of each rail that is touched.
-fn is_within_limits(
+/// The first rail that is touched and whose limit is under a voltage.
+fn first_over(
     board: &Board,
     pages: PageSet,
     target: usize,
     device: &Target,
     voltage: u16,
-) -> bool
-    ensures { IsTrue result
-        ↔ All (IsWithinLimit pages target device.now.exponent voltage) board.now.rails }
+) -> Option<usize>
+    ensures { FindsPlace (IsWithinLimit pages target device.now.exponent voltage) board.now.rails
+        result }
 {
-    board.rails().iter().all(|rail| is_within_limit(pages, target, device, voltage, rail))
+    board.rails().iter().position(|rail| !is_within_limit(pages, target, device, voltage, rail))
 }
 
-/// Whether a rail's needs are good, where the rail is touched.
-fn has_good_needs(pages: PageSet, target: usize, good: GoodSet, rail: &Rail) -> bool
-    ensures { IsTrue result ↔ HasGoodNeeds pages target good rail.now }
+/// The values that may be written as a word.
+fn words_of(row: &Row, content: &Content<'_>) -> Option<Span>
+    ensures { result ≡ words_of (row_view row.now) (content_view content.now) None }
 {
-    if touches(pages, target, rail) {
-        are_good(good, rail.needs())
+    match content {
+        Content::Value(Written::Byte(_)) => None,
+        Content::Value(value) => Some(written_span(row, *value)),
+        _ => None,
+    }
+}
+
+/// The voltages that may be commanded. A message that reads commands none.
+fn voltages_of(row: &Row, transaction: &Transaction<'_>) -> Option<Span>
+    ensures { result ≡ voltages_of (row_view row.now) (transaction_view transaction.now) }
+{
+    if transaction.register.is_none() && carries_voltage(transaction.code()) {
+        words_of(row, &transaction.content)
     } else {
-        true
+        None
     }
 }
 
-/// Whether the needs of each rail that is touched are good.
-fn has_needs(board: &Board, pages: PageSet, target: usize, good: GoodSet) -> bool
-    ensures { IsTrue result ↔ All (HasGoodNeeds pages target good) board.now.rails }
-{
-    board
-        .rails()
-        .iter()
-        .all(|rail| has_good_needs(pages, target, good, rail))
-}
-
-/// Whether an entry takes what is written, and it is one of its command's values.
-fn is_taken(row: &Row, device: &Target, entry: &Allow, transaction: &Transaction<'_>) -> bool
-    ensures { IsTrue result
-        ↔ (IsInEntry (row_view row.now) entry.now (transaction_view transaction.now)
-        × IsKnownValue device.now (transaction_view transaction.now)) }
-{
-    is_in_entry(row, entry, transaction) && is_known_value(device, transaction)
-}
-
-/// Whether a target allows the message, with every value that it may carry.
-fn may_be_sent(board: &Board, row: &Row, target: usize, transaction: &Transaction<'_>) -> bool
-    ensures { IsTrue result
-        ↔ MayBeSent board.now (row_view row.now) target (transaction_view transaction.now) }
-{
-    let Some(device) = board.target(target) else {
-        return false;
-    };
-    let Some(entry) = device.entry(transaction.form, transaction.code()) else {
-        return false;
-    };
-    is_taken(row, device, entry, transaction)
-}
-
-/// Whether a paged command isn't read while PAGE may stand for all pages.
-fn is_read_at_one_page(row: &Row, target: usize, transaction: &Transaction<'_>) -> bool
-    ensures { IsTrue result
-        ↔ ReadsOnePage (row_view row.now) target (transaction_view transaction.now) }
-{
-    match transaction.command {
-        Some(command) => reads_one_page(pages_at(row, target), command, transaction.form),
-        None => true,
-    }
-}
-
-/// Whether every protection that may be stored permits the write.
-fn is_permitted(row: &Row, target: usize, transaction: &Transaction<'_>) -> bool
-    requires { transaction.now.command ≡ None → carries_code transaction.now.form ≡ false }
-    ensures { IsTrue result
-        ↔ IsUnprotected (row_view row.now) target (transaction_view transaction.now) }
-{
-    match transaction.command {
-        Some(command) => is_unprotected(protects_at(row, target), command, transaction.form),
-        None => true,
-    }
-}
-
-/// Whether the greatest voltage is within the limit of each rail that is touched.
-fn keeps_limits(board: &Board, row: &Row, target: usize, voltages: Span) -> bool
-    ensures { IsTrue result ↔ IsWithinLimits board.now (row_view row.now) target voltages }
-{
-    match board.target(target) {
-        Some(device) => is_within_limits(board, pages_at(row, target), target, device, voltages.hi),
-        None => true,
-    }
-}
-
-/// Whether what each rail that is touched needs is good.
-fn keeps_order(board: &Board, row: &Row, target: usize) -> bool
-    ensures { IsTrue result ↔ AreNeedsGood board.now (row_view row.now) target }
-{
-    has_needs(board, pages_at(row, target), target, row.good)
-}
-
-/// Whether these values, if the command sets a voltage, are within the limits.
-fn may_set(board: &Board, row: &Row, target: usize, code: u8, values: Span) -> bool
-    ensures { IsTrue result ↔ (IsTrue (carries_voltage code)
-        → IsWithinLimits board.now (row_view row.now) target values) }
-{
-    if carries_voltage(code) {
-        keeps_limits(board, row, target, values)
-    } else {
-        true
-    }
-}
-
-/// Whether a voltage that is written is within the limits.
-fn writes_within_limits(board: &Board, row: &Row, target: usize, code: u8, value: &Written) -> bool
-    ensures { IsTrue result
-        ↔ SetsWithinLimits board.now (row_view row.now) target code (Value value.now) }
-{
-    match value {
-        Written::Byte(_) => true,
-        Written::Word(_) => may_set(board, row, target, code, written_span(row, *value)),
-        Written::Register(_) => may_set(board, row, target, code, written_span(row, *value)),
-    }
-}
-
-/// Whether a voltage that is commanded is within the limits. A message that reads commands none.
-fn commands_within_limits(
+/// K4: a rail that may be touched, and whose limit is under the greatest voltage.
+fn over_limit(
     board: &Board,
     row: &Row,
     target: usize,
     transaction: &Transaction<'_>,
-) -> bool
-    ensures { IsTrue result ↔ CommandsWithinLimits board.now (row_view row.now) target
-        (transaction_view transaction.now) }
+) -> Option<Violation>
+    ensures { Blames board.now (row_view row.now) target (transaction_view transaction.now) K4
+        result }
 {
-    if transaction.register.is_some() {
-        return true;
-    }
-    match &transaction.content {
-        Content::Value(value) => {
-            writes_within_limits(board, row, target, transaction.code(), value)
-        }
-        _ => true,
+    let most = voltages_of(row, transaction)?.hi;
+    let device = board.target(target)?;
+    let rail = first_over(board, pages_at(row, target), target, device, most)?;
+    Some(Violation::OverLimit { rail, most })
+}
+
+/// Whether a rail is known to be good.
+fn is_good(good: GoodSet, rail: usize) -> bool
+    ensures { result ≡ rails_in good rail }
+{
+    match u8::try_from(rail) {
+        Ok(rail) => good.contains(rail),
+        Err(_) => false,
     }
 }
 
-/// Whether what a rail needs is good, where the rail is turned on.
-fn turns_on_in_order(board: &Board, row: &Row, target: usize, transaction: &Transaction<'_>) -> bool
-    ensures { IsTrue result
-        ↔ HasNeeds board.now (row_view row.now) target (transaction_view transaction.now) }
+/// The first of some rails that isn't known to be good.
+fn first_not_good(good: GoodSet, rails: &[usize]) -> Option<usize>
+    ensures { FindsItem (λ rail. IsTrue (rails_in good rail)) rails.now result }
 {
-    match &transaction.content {
-        Content::Value(Written::Byte(value)) => {
-            if transaction.code() == OPERATION && enables(*value) {
-                keeps_order(board, row, target)
-            } else {
-                true
-            }
-        }
-        _ => true,
-    }
+    let place = rails.iter().position(|rail| !is_good(good, *rail))?;
+    Some(rails[place])
 }
 
-/// The first of five rules that isn't met.
-fn first_failing(first: bool, second: bool, third: bool, fourth: bool, fifth: bool) -> Option<Rule>
-    ensures { result ≡ (if first then (if second then (if third then (if fourth then (if fifth
-        then None else Some K5) else Some K4) else Some K3) else Some K2) else Some K1) }
+/// The first need of a rail that isn't known to be good, where the rail is touched.
+fn lacking(pages: PageSet, target: usize, good: GoodSet, rail: &Rail) -> Option<usize>
+    ensures { FindsLacking pages target good rail.now result }
 {
-    if !first {
-        Some(Rule::K1)
-    } else if !second {
-        Some(Rule::K2)
-    } else if !third {
-        Some(Rule::K3)
-    } else if !fourth {
-        Some(Rule::K4)
-    } else if !fifth {
-        Some(Rule::K5)
+    if touches(pages, target, rail) {
+        first_not_good(good, rail.needs())
     } else {
         None
     }
+}
+
+/// The first rail that is touched and has a need that isn't known to be good, and that need.
+fn first_unready(
+    board: &Board,
+    pages: PageSet,
+    target: usize,
+    good: GoodSet,
+) -> Option<(usize, usize)>
+    ensures { FindsUnready pages target good board.now.rails result }
+{
+    for (index, rail) in board.rails().iter().enumerate() {
+        if let Some(need) = lacking(pages, target, good, rail) {
+            return Some((index, need));
+        }
+    }
+    None
+}
+
+/// Whether a rail is turned on: OPERATION is written with a value that does.
+fn turns_on(transaction: &Transaction<'_>) -> bool
+    ensures { IsTrue result ↔ TurnsOn (transaction_view transaction.now) }
+{
+    match &transaction.content {
+        Content::Value(Written::Byte(value)) => {
+            transaction.code() == OPERATION && enables(*value)
+        }
+        _ => false,
+    }
+}
+
+/// K5: a rail that may be turned on, and a need of it that isn't known to be good.
+fn unready(
+    board: &Board,
+    row: &Row,
+    target: usize,
+    transaction: &Transaction<'_>,
+) -> Option<Violation>
+    ensures { Blames board.now (row_view row.now) target (transaction_view transaction.now) K5
+        result }
+{
+    if !turns_on(transaction) {
+        return None;
+    }
+    let (rail, need) = first_unready(board, pages_at(row, target), target, row.good)?;
+    Some(Violation::NotGood { rail, need })
+}
+
+/// What a message to a target breaks of the rules K1 to K5, by the first that isn't met.
+fn first_broken(
+    board: &Board,
+    row: &Row,
+    target: usize,
+    transaction: &Transaction<'_>,
+) -> Option<Violation>
+    requires { transaction.now.command ≡ None → carries_code transaction.now.form ≡ false }
+    ensures { BlamesFirst board.now (row_view row.now) target (transaction_view transaction.now)
+        duties result }
+{
+    if let Some(found) = disallowed(board, row, target, transaction) {
+        return Some(found);
+    }
+    if let Some(found) = read_of_all(row, target, transaction) {
+        return Some(found);
+    }
+    if let Some(found) = forbidden(row, target, transaction) {
+        return Some(found);
+    }
+    if let Some(found) = over_limit(board, row, target, transaction) {
+        return Some(found);
+    }
+    unready(board, row, target, transaction)
+}
+
+/// What an instruction breaks of the rules K1 to K5 at a row, by the first that isn't met, and what
+/// is to blame. It has duties where it sends a message to a target.
+pub fn violation(board: &Board, instr: &Instr, row: &Row) -> Option<Violation>
+    ensures first { IsFirstFailing board.now (row_view row.now) instr.now duties
+        (option_map rule_of result) }
+    ensures blame { IfSome result (IsToBlame board.now (row_view row.now) instr.now) }
+{
+    let Some(request) = instr.request() else {
+        return None;
+    };
+    first_broken(board, row, request.target, &request.transaction)
 }
 
 /// The first of the rules K1 to K5 that an instruction doesn't meet at a row. It has duties where
@@ -320,16 +293,5 @@ fn first_failing(first: bool, second: bool, third: bool, fourth: bool, fifth: bo
 pub fn duty(board: &Board, instr: &Instr, row: &Row) -> Option<Rule>
     ensures { IsFirstFailing board.now (row_view row.now) instr.now duties result }
 {
-    let Some(request) = instr.request() else {
-        return None;
-    };
-    let target = request.target;
-    let transaction = &request.transaction;
-    first_failing(
-        may_be_sent(board, row, target, transaction),
-        is_read_at_one_page(row, target, transaction),
-        is_permitted(row, target, transaction),
-        commands_within_limits(board, row, target, transaction),
-        turns_on_in_order(board, row, target, transaction),
-    )
+    Some(violation(board, instr, row)?.rule())
 }
