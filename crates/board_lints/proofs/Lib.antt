@@ -1,0 +1,4 @@
+pub mod MessagesSent
+pub mod Circles
+pub mod Rounds
+pub mod ToldLints

@@ -1,0 +1,4 @@
+pub mod Reasons
+pub mod Ready
+pub mod Lints
+pub mod OneCircle
