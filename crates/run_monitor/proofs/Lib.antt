@@ -1,0 +1,9 @@
+pub mod Sources
+pub mod Places
+pub mod Rules
+pub mod Slots
+pub mod StepReports
+pub mod Stored
+pub mod Gained
+pub mod Judged
+pub mod Seen

@@ -1,0 +1,4 @@
+pub mod Known
+pub mod Telling
+pub mod Accepted
+pub mod Monitors
