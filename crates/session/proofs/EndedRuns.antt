@@ -26,9 +26,9 @@ use Rattle.session.specs.declared.scenario.Scenario.{Scenario}
 use Rattle.session.specs.Scenarios.{start_of}
 use Rattle.table_check.specs.checker.Obligations.{IsInductive}
 use Rattle.table_check.specs.Tables.{Table}
-use Rattle.session.specs.Accepted.{AdmittedKeepRules}
+use Rattle.run_monitor.specs.Accepted.{AdmittedKeepRules}
 use Rattle.session.specs.Breaches.{ComesTo, KeepsRulesAt, IsKnownAt, IsFirstBreach}
-use Rattle.session.specs.Known.{known_row}
+use Rattle.run_monitor.specs.Known.{known_row}
 use Rattle.session.specs.Runs.{IsNextOrFault}
 use Rattle.session.proofs.JudgedRuns.{IsJudged, IsTold, kept_here, kept_at}
 use Rattle.session.proofs.Replayed.{IsReplayed, next_is}

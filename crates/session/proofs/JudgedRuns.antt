@@ -29,7 +29,7 @@ use Rattle.table_check.specs.checker.Admitted.{IsAdmitted, StartsAreAdmitted, St
 use Rattle.table_check.specs.checker.Obligations.{IsInductive}
 use Rattle.table_check.specs.Tables.{Table}
 use Rattle.session.specs.Breaches.{ComesTo, KeepsRulesAt}
-use Rattle.session.specs.Known.{Knows, KeepsRules, IsBreach, known_row}
+use Rattle.run_monitor.specs.Known.{Knows, KeepsRules, IsBreach, known_row}
 use Rattle.session.specs.Runs.{IsNextStep}
 use Rattle.session.proofs.Replayed.{IsReplayed, nothing_done, one_more}
 
@@ -197,16 +197,3 @@ judged_step go_on add_up one seen stay s left later index ticks m next old new a
           stay b p t m next (reverse before) a e is program table (j.admitted t table) step.step);
       kept = kept_next s index j.kept (kept_here one s left index ticks m old j told);
     }
-
--- ---- what is told of a machine
-
-pub when_running : {F : Type 0} → (r : Result (Option Rule) F) (R : Type 0)
-    (Q : Option Rule → Type 0) → IfOk r Q → IfOk r (λ found. R → Q found)
-when_running (Ok found) R Q k = λ x. k
-when_running (Err e) R Q k = tt
-
-pub is_running : {F : Type 0} → (r : Result (Option Rule) F) (R : Type 0) → R
-    → IfOk r (λ found. IfSome found (λ rule. R))
-is_running (Ok None) R x = tt
-is_running (Ok (Some rule)) R x = x
-is_running (Err e) R x = tt

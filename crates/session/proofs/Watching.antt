@@ -17,63 +17,26 @@ use Rattle.simulator.specs.StepLaws.{StartsAreReady, StepsAreSeen}
 use Rattle.facts.specs.declared.duties.rule.Rule.{Rule}
 use Rattle.facts.specs.domain.Rows.{row_view}
 use Rattle.table_check.specs.checker.Admitted.{StartsAreAdmitted, StepsStayAdmitted}
-use Rattle.session.specs.declared.breach.Breach.{Breach}
-use Rattle.session.specs.declared.breach.Reached.{Reached}
-use Rattle.session.specs.declared.breach.watch.Watch.{Watch}
+use Rattle.run_monitor.specs.declared.breach.Reached.{Reached}
+use Rattle.run_monitor.specs.declared.monitor.Monitor.{Monitor}
 use Rattle.session.specs.declared.scenario.Scenario.{Scenario}
-use Rattle.session.specs.Accepted.{AdmittedKeepRules}
+use Rattle.run_monitor.specs.Accepted.{AdmittedKeepRules}
 use Rattle.session.specs.Breaches.{IsFirstBreach, IsKnownAt}
-use Rattle.session.specs.Known.{Knows, known_row}
+use Rattle.run_monitor.specs.Known.{Knows, known_row}
 use Rattle.session.specs.Runs.{IsNextStep}
 use Rattle.session.specs.Scenarios.{start_of}
-use Rattle.session.specs.Watching.{good_of, IsToldOf, HasSeen, Sees, GoesWell, ComesToBreach}
-use Rattle.session.specs.Watching.{IsFoundIn}
+use Rattle.run_monitor.specs.Monitors.{good_of, HasSeen, GoesWell, ComesToBreach}
+use Rattle.session.specs.Breaches.{IsFoundIn}
 use Rattle.session.proofs.EndedRuns.{breaks, known_there, spares, ends, stops, never_starts}
 use Rattle.session.proofs.JudgedRuns.{IsJudged, judged_start, judged_step}
 
-none_of : (found : Option Reached) → is_some found ≡ false → found ≡ None
-none_of None is = refl
-none_of (Some x) is = cc is
-
--- a breach that is kept is the one that a machine comes to
-comes_to : (b : Board) (p : List Instr) (m : Machine) (a : Answered) (index place : ℕ)
-    (old new : Watch) (rule : Rule) (found : Option Reached) → m.ended ≡ Running
-    → IsToldOf b p m (good_of old) (Some rule) → place ≡ m.place
-    → IsSomeAnd found
-    (λ x. (x.breach ≡ record { index = index; place = place; rule = rule })
-    × (row_view x.row ≡ known_row m (good_of old)))
-    → MatchOption found (GoesWell b p m a old new) (ComesToBreach b p m index old)
-comes_to b p m a index place old new rule None running told at kept = absurd kept
-comes_to b p m a index place old new rule (Some x) running told at kept = record {
-  running = running;
-  told =
-      subst (λ (r : Rule). IsToldOf b p m (good_of old) (Some r))
-      (sym (ap (λ (y : Breach). y.rule) kept.0)) told;
-  at =
-      (ap (λ (y : Breach). y.index) kept.0, ap (λ (y : Breach). y.place) kept.0 ∙ at);
-  known = kept.1;
-}
-
--- and it is found where none was
-pub broken : (b : Board) (p : List Instr) (m : Machine) (a : Answered) (index place : ℕ)
-    (old new : Watch) (rule : Rule) → is_some old.found ≡ false → m.ended ≡ Running
-    → IsToldOf b p m (good_of old) (Some rule) → place ≡ m.place
-    → IsSomeAnd new.found
-    (λ x. (x.breach ≡ record { index = index; place = place; rule = rule })
-    × (row_view x.row ≡ known_row m (good_of old)))
-    → HasSeen b p m a index old new
-broken b p m a index place old new rule quiet running told at kept =
-    subst (λ (f : Option Reached). MatchOption f (Sees b p m a index old new) (λ x. new ≡ old))
-    (sym (none_of old.found quiet))
-    (comes_to b p m a index place old new rule new.found running told at kept)
-
 -- where a run that is watched has come to, with so many answers left: it is judged, or a breach was
 -- found
-abbrev pub IsWatched : Scenario → List Answered → ℕ → ℕ → Machine → Watch → Type 0
+abbrev pub IsWatched : Scenario → List Answered → ℕ → ℕ → Machine → Monitor → Type 0
 IsWatched s left index ticks m w =
     MatchOption w.found (IsJudged s left index ticks m (good_of w)) (λ x. IsFoundIn s (Some x))
 
-pub watched_start : StartsAreReady → StartsAreAdmitted → (s : Scenario) (m : Machine) (w : Watch)
+pub watched_start : StartsAreReady → StartsAreAdmitted → (s : Scenario) (m : Machine) (w : Monitor)
     → IsBoard s.board → IsProgram s.program → IsStart s.board (start_of s)
     → m ≡ start_at (start_of s) → w.found ≡ None → Knows s.board [] (good_of w)
     → (left : List Answered) → left ≡ s.answers.answers → length left < 2 ^ 64
@@ -85,7 +48,7 @@ watched_start ready admitted s m w is program start same none knows left all few
 
 -- a breach that is found where a run has come to
 found_there : AdmittedKeepRules → (s : Scenario) (left later : List Answered) (index ticks : ℕ)
-    (m : Machine) (old : Watch) (a : Answered) (x : Reached) → IsBoard s.board
+    (m : Machine) (old : Monitor) (a : Answered) (x : Reached) → IsBoard s.board
     → IsProgram s.program → All (λ i. IsOnBoard (length s.board.targets) i) s.program
     → IsJudged s left index ticks m (good_of old) → left ≡ a ∷ later
     → ComesToBreach s.board s.program m index old x → IsFoundIn s (Some x)
@@ -105,7 +68,7 @@ found_there keep s left later index ticks m old a x is program on j first c =
 
 pub watched_step : RunsGoOn → TicksAddUp → RunsAreOne → StepsAreSeen → StepsStayAdmitted
     → AdmittedKeepRules → (s : Scenario) (left later : List Answered) (index ticks : ℕ)
-    (m next : Machine) (old new : Watch) (a : Answered) (e : Entry) → IsBoard s.board
+    (m next : Machine) (old new : Monitor) (a : Answered) (e : Entry) → IsBoard s.board
     → IsProgram s.program → All (λ i. IsOnBoard (length s.board.targets) i) s.program
     → IsWatched s left index ticks m old → left ≡ a ∷ later
     → HasSeen s.board s.program m a index old new → IsNextStep s.board s.program m a ticks e next
@@ -131,14 +94,14 @@ watched_step go_on add_up one seen stay keep s left later index ticks m next old
     by None (Some x) os ns j c =
         found_there keep s left later index ticks m old a x is program on j first c
     by (Some x) n os ns f same =
-        let kept : Some x ≡ n = os ∙ sym (ap (λ (w : Watch). w.found) same) ∙ sym ns in
+        let kept : Some x ≡ n = os ∙ sym (ap (λ (w : Monitor). w.found) same) ∙ sym ns in
         subst (λ (z : Option Reached).
         MatchOption z (IsJudged s later (index + 1) (ticks + e.ticks) next (good_of new))
         (λ x. IsFoundIn s (Some x))) kept f
 
 -- a run that is over
 pub watched_end : (s : Scenario) (left : List Answered) (index ticks : ℕ) (m : Machine)
-    (w : Watch) → IsWatched s left index ticks m w → left ≡ [] → IsFoundIn s w.found
+    (w : Monitor) → IsWatched s left index ticks m w → left ≡ [] → IsFoundIn s w.found
 watched_end s left index ticks m w h none = by w.found h
   where
     by : (o : Option Reached)
@@ -153,7 +116,7 @@ watched_end s left index ticks m w h none = by w.found h
 
 -- a run whose next step has a fault
 pub watched_fault : RunsAreOne → StepsAreOne → AdmittedKeepRules → (s : Scenario)
-    (left later : List Answered) (index ticks : ℕ) (m : Machine) (old new : Watch) (a : Answered)
+    (left later : List Answered) (index ticks : ℕ) (m : Machine) (old new : Monitor) (a : Answered)
     (fault : RunFault) → IsBoard s.board → IsProgram s.program
     → All (λ i. IsOnBoard (length s.board.targets) i) s.program
     → IsWatched s left index ticks m old → left ≡ a ∷ later
@@ -180,7 +143,7 @@ watched_fault one step keep s left later index ticks m old new a fault is progra
     by None (Some x) os ns j c =
         found_there keep s left later index ticks m old a x is program on j first c
     by (Some x) n os ns f same =
-        let kept : Some x ≡ n = os ∙ sym (ap (λ (w : Watch). w.found) same) ∙ sym ns in
+        let kept : Some x ≡ n = os ∙ sym (ap (λ (w : Monitor). w.found) same) ∙ sym ns in
         subst (λ (z : Option Reached). IsFoundIn s z) kept f
 
 -- a run that can't start

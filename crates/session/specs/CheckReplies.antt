@@ -2,8 +2,7 @@
 use Rattle.std.specs.Prelude.{◌≡◌, ◌⊎◌, ℕ, List, ◌++◌, codes}
 use Rattle.std.specs.Fmt.{decimal}
 use Rattle.texts.specs.Words.{lines_by_feed}
-use Rattle.facts.specs.declared.duties.rule.Rule.{Rule}
-use Rattle.facts.specs.declared.duties.rule.Rule.TheVariants.{K1, K2, K3, K4, K5, K6, K7, K8, K9}
+use Rattle.facts.specs.duties.RuleNames.{rule_name}
 use Rattle.table_check.specs.declared.text.fault.TableFault.TheVariants.{BadLine}
 use Rattle.table_check.specs.Tables.{Table}
 use Rattle.table_check.specs.text.Texts.{IsFirstBadLine, IsTextOf}
@@ -17,23 +16,12 @@ use Rattle.session.specs.declared.reply.Status.TheVariants.{Accepted, Refused}
 use Rattle.session.specs.Replies.{Reply, refusal}
 use Rattle.session.specs.Trials.{Trial}
 
-abbrev pub rule_text : Rule → List ℕ
-rule_text K1 = codes "K1"
-rule_text K2 = codes "K2"
-rule_text K3 = codes "K3"
-rule_text K4 = codes "K4"
-rule_text K5 = codes "K5"
-rule_text K6 = codes "K6"
-rule_text K7 = codes "K7"
-rule_text K8 = codes "K8"
-rule_text K9 = codes "K9"
-
 -- `accepted bound N`, or `refused place P rule K`
 abbrev pub verdict_text : Verdict → List ℕ
 verdict_text (verdicts.Accepted bound) = codes "accepted bound " ++ (decimal bound ++ codes "\n")
 verdict_text (verdicts.Refused place rule) =
     codes "refused place "
-    ++ (decimal place ++ (codes " rule " ++ (rule_text rule ++ codes "\n")))
+    ++ (decimal place ++ (codes " rule " ++ (rule_name rule ++ codes "\n")))
 
 abbrev pub verdict_status : Verdict → Status
 verdict_status (verdicts.Accepted bound) = Accepted

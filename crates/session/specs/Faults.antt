@@ -53,7 +53,7 @@ fault_text (faults.Bundle fault) =
 fault_text (faults.Frame fault) =
     line_text (codes "frame") (frame_number_of fault) (frame_name_of fault) []
 fault_text (faults.Board fault) =
-    line_text (codes "board") (board_number_of fault) (board_name_of fault) []
+    line_text (codes "board") (board_number_of fault.kind) (board_name_of fault.kind) []
 fault_text (faults.Program fault) =
     line_text (codes "program") (program_number_of fault) (program_name_of fault)
     (counted_text (line_of fault))

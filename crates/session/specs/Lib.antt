@@ -17,14 +17,6 @@ pub mod Promises
 pub mod Devices
 pub mod Parts
 pub mod Places
-pub mod Known
-pub mod Telling
 pub mod Runs
 pub mod Breaches
-pub mod Accepted
-pub mod Ready
-pub mod Doubts
-pub mod AllDoubts
-pub mod OneCircle
-pub mod Watching
 pub mod Seen

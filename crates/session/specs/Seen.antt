@@ -3,12 +3,12 @@ use Rattle.std.specs.Prelude.{◌≡◌, List, Option, None, Result, Box, MatchR
 use Rattle.std.specs.Global.{Global}
 use Rattle.board.specs.Boards.{Board}
 use Rattle.seq_program.specs.declared.instr.Instr.{Instr}
-use Rattle.session.specs.declared.breach.Reached.{Reached}
+use Rattle.run_monitor.specs.declared.breach.Reached.{Reached}
 use Rattle.session.specs.declared.fault.InputFault.{InputFault}
 use Rattle.session.specs.declared.scenario.Scenario.{Scenario}
 use Rattle.session.specs.declared.seen.Seen.{Seen}
 use Rattle.session.specs.Commands.{Task, Frame, Run, Wave, Check, Find, Verify}
-use Rattle.session.specs.Watching.{IsFoundIn}
+use Rattle.session.specs.Breaches.{IsFoundIn}
 
 abbrev pub Sight : Type 0
 Sight = Option (Box Seen Global)

@@ -1,31 +1,13 @@
 ghost use Rattle.std.specs.Prelude.{◌≡◌, ◌≢◌, IfOk, string_bytes};
 ghost use Rattle.session.specs.Replies.{reply_view};
 ghost use Rattle.session.specs.Trials.{trial_view};
-ghost use Rattle.session.specs.CheckReplies.{rule_text, verdict_text, verdict_reply, IsCheckReply};
+ghost use Rattle.session.specs.CheckReplies.{verdict_text, verdict_reply, IsCheckReply};
 
 use crate::fault::InputFault;
 use crate::reply::{Reply, Status, refused};
 use crate::trial::Trial;
-use facts::Rule;
 use std::alloc::{AllocError, Global};
 use table_check::{TableFault, Verdict, check, read_table};
-
-/// The name of a rule.
-fn rule_text(rule: Rule) -> &'static str
-    ensures { result.now ≡ rule_text rule }
-{
-    match rule {
-        Rule::K1 => "K1",
-        Rule::K2 => "K2",
-        Rule::K3 => "K3",
-        Rule::K4 => "K4",
-        Rule::K5 => "K5",
-        Rule::K6 => "K6",
-        Rule::K7 => "K7",
-        Rule::K8 => "K8",
-        Rule::K9 => "K9",
-    }
-}
 
 /// The line of a verdict.
 fn verdict_text(alloc: Global, verdict: Verdict) -> Result<String, AllocError>
@@ -34,7 +16,7 @@ fn verdict_text(alloc: Global, verdict: Verdict) -> Result<String, AllocError>
     match verdict {
         Verdict::Accepted { bound } => { format!(in alloc; "accepted bound {bound}\n") }
         Verdict::Refused { place, rule } => {
-            let rule = rule_text(rule);
+            let rule = rule.name();
             format!(in alloc; "refused place {place} rule {rule}\n")
         }
     }

@@ -1,16 +1,12 @@
-//! Answers an input: reads its bundle, does what it asks for, and writes the whole reply. Beside
-//! that it finds what is worth a warning: doubts about a board, and the first breach of a run.
+//! Answers an input: reads its bundle, does what it asks for, and writes the whole reply.
 #![tactic(auto)]
 
 mod answering;
-mod breach;
 mod checking;
 mod commands;
-mod doubts;
 mod fault;
 mod frame;
 mod intake;
-mod law;
 mod outcome;
 mod part;
 mod place;
@@ -26,12 +22,9 @@ mod tracing;
 mod trial;
 
 pub use answering::{DeviceFault, Received, deliver, receive, serve, session};
-pub use breach::{Breach, Reached};
 pub use commands::{Task, read_task};
-pub use doubts::{Doubt, Lack, doubts_on};
 pub use fault::InputFault;
 pub use intake::{Input, ReadFault, text_of};
-pub use law::accepted_runs_keep_rules;
 pub use outcome::outcome_line;
 pub use part::{Part, part_at, section_of};
 pub use place::{place_line, place_lines};

@@ -6,7 +6,7 @@ ghost use Rattle.session.specs.Scenarios.{board_in, program_in, scenario_in, IsO
 ghost use Rattle.bundles.specs.Views.{section_view};
 
 use crate::fault::{InputFault, of_bundle};
-use board::{Board, BoardFault, read_board};
+use board::{Board, BoardFault, FaultKind, read_board};
 use bundles::{Answers, Section, answers_in};
 use seq_program::{Program, ProgramFault, read_program};
 use std::alloc::{AllocError, Global};
@@ -42,7 +42,12 @@ pub(crate) fn board_in(alloc: Global, section: &Section<'_>) -> Result<Board, Re
     let text = section_text(alloc, section)?;
     match read_board(alloc, &text) {
         Ok(board) => Ok(board),
-        Err(BoardFault::Memory) => Err(ReadError::Memory),
+        Err(
+            BoardFault {
+                kind: FaultKind::Memory,
+                ..
+            },
+        ) => Err(ReadError::Memory),
         Err(fault) => Err(ReadError::Fault(InputFault::Board(fault))),
     }
 }

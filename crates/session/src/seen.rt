@@ -3,9 +3,9 @@
 ghost use Rattle.std.specs.Prelude.{◌≡◌, IfOk};
 ghost use Rattle.session.specs.Seen.{IsSeenWith};
 
-use crate::breach::Reached;
 use crate::reply::Reply;
 use board::Board;
+use run_monitor::Reached;
 use seq_program::Program;
 use std::alloc::{AllocError, Global};
 

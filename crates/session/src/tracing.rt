@@ -1,21 +1,21 @@
 ghost use Rattle.std.specs.Prelude.{◌≡◌, ◌≢◌, [], None, IfOk, IfErr, string_bytes};
 ghost use Rattle.board.specs.Boards.{Board as AnyBoard};
 ghost use Rattle.simulator.specs.declared.fault.RunFault.TheVariants.{Memory};
-ghost use Rattle.session.specs.Known.{Knows};
+ghost use Rattle.run_monitor.specs.Known.{Knows};
+ghost use Rattle.run_monitor.specs.Monitors.{good_of};
 ghost use Rattle.session.specs.Replies.{reply_view};
 ghost use Rattle.session.specs.Reports.{telling_of, IsReport};
 ghost use Rattle.session.specs.RunReplies.{IsToldRun, IsRunText, IsRunReply};
 ghost use Rattle.session.specs.Scenarios.{IsAtStart, IsOnItsBoard, IsFaultOf};
-ghost use Rattle.session.specs.Watching.{good_of, IsFoundIn};
+ghost use Rattle.session.specs.Breaches.{IsFoundIn};
 
-use crate::breach::{Reached, Watch};
 use crate::fault::InputFault;
-use crate::law::accepted_runs_keep_rules;
 use crate::reply::{Reply, Status, refused};
 use crate::report::{Report, Telling};
 use crate::scenario::Scenario;
 use crate::stage::first_stage;
 use board::board_is_valid;
+use run_monitor::{Monitor, Reached, accepted_runs_keep_rules};
 use seq_program::program_is_valid;
 use simulator::{Ending, RunFault, Stage, runs_are_one, runs_go_on, steps_are_seen};
 use std::alloc::{AllocError, Global};
@@ -29,7 +29,7 @@ fn tell_steps(
     scenario: &Scenario<'_>,
     stage: &mut Stage,
     report: &mut Report,
-    watch: &mut Watch,
+    watch: &mut Monitor,
 ) -> Result<u64, RunFault>
     requires on_board { IsOnItsBoard scenario.now }
     requires at_start { IsAtStart scenario.now stage.old.machine }
@@ -72,7 +72,7 @@ fn tell_run(
     alloc: Global,
     scenario: &Scenario<'_>,
     report: &mut Report,
-    watch: &mut Watch,
+    watch: &mut Monitor,
 ) -> Result<(Ending, u64), RunFault>
     requires on_board { IsOnItsBoard scenario.now }
     requires empty { IsReport (telling_of report.old) [] report.old }
@@ -95,7 +95,7 @@ fn run_text(
     alloc: Global,
     scenario: &Scenario<'_>,
     telling: Telling,
-    watch: &mut Watch,
+    watch: &mut Monitor,
 ) -> Result<String, RunFault>
     requires on_board { IsOnItsBoard scenario.now }
     requires none { watch.old.found ≡ None }
@@ -123,7 +123,7 @@ pub fn run_reply(
     ensures replies { IfOk result (λ r. IsRunReply telling scenario.now (reply_view r.0)) }
     ensures found { IfOk result (λ r. IsFoundIn scenario.now r.1) }
 {
-    let mut watch = Watch::new();
+    let mut watch = Monitor::new();
     let reply = match run_text(alloc, scenario, telling, &mut watch) {
         Ok(text) => Reply {
             status: Status::Accepted,

@@ -2,7 +2,7 @@ use Rattle.std.proofs.Common.{rules, subst, ap}
 use Rattle.simulator.specs.declared.stepping.Stage.{Stage}
 use Rattle.session.specs.Reports.{telling_of}
 use Rattle.session.specs.Scenarios.{IsFaultOf}
-use Rattle.session.specs.Watching.{IsFoundIn}
+use Rattle.session.specs.Breaches.{IsFoundIn}
 use Rattle.session.proofs.Passing.{passed_on}
 use Rattle.session.proofs.Told.{IsOneMore, told_to_more, told_to_end, told_to_fault}
 use Rattle.session.proofs.Watching.{watched_start, watched_step, watched_end, watched_fault}

@@ -1,9 +1,0 @@
-use Rattle.std.proofs.Common.{◌≡◌, map, drop, max}
-use Rattle.session.specs.AllDoubts.{entry_voltage, greatest}
-use Rattle.session.proofs.doubts.loose.greatest_voltage.Given as goal
-
--- the greatest so far, and those that are left
-abbrev pub invariant-loop-entry : goal.invariant-loop-entry
-invariant-loop-entry l =
-    max l.greatest (greatest (map entry_voltage (drop l.entry-index l.device.allow)))
-    ≡ greatest (map entry_voltage l.device.allow)

@@ -1,7 +1,0 @@
-use Rattle.std.proofs.Common.{◌<◌, ℕ}
-use Rattle.std.specs.Prelude.{IsTrue}
-use Rattle.session.specs.Ready.{is_ready}
-use Rattle.session.proofs.doubts.ready.first_stuck.Given as goal
-
-abbrev pub invariant-loop-rail : goal.invariant-loop-rail
-invariant-loop-rail l = (d : ℕ) → d < l.rail → IsTrue (is_ready l.ready d)

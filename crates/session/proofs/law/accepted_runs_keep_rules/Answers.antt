@@ -1,6 +1,0 @@
-use Rattle.session.proofs.Rules.{keep_rules}
-use Rattle.session.proofs.law.accepted_runs_keep_rules.Goals as goal
-
-pub returns : goal.returns
-returns c =
-    keep_rules c.covered_rows_follow.ensures.duties c.tables_are_judged_by_place.ensures.whole
