@@ -18,7 +18,7 @@ use Rattle.bundles.specs.Answers.{Answers, answers_of, answer_lines_of, start_of
 use Rattle.bundles.specs.Bundles.{Line, Section}
 use Rattle.bundles.specs.CountedLines.{is_counted, counted_lines}
 use Rattle.diagnostics.specs.AnswerLaws.{AnswersAreFound}
-use Rattle.diagnostics.specs.Notes.{line_at}
+use Rattle.notes.specs.Lines.{line_at}
 
 same_some : {X : Type 0} (x y : X) → Some x ≡ Some y → x ≡ y
 same_some x y e = cc

@@ -1,4 +1,3 @@
-pub mod Feeds
 pub mod CountedNames
 pub mod FoundAnswers
 pub mod CountedLines

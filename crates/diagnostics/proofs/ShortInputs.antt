@@ -1,7 +1,6 @@
 -- An input of which something is told is kept as a whole.
 use Rattle.std.proofs.Common.{◌≡◌, ◌≤◌, ◌<◌, ℕ, Bool, List, length, sym, ap, subst, ◌∙◌, arith}
-use Rattle.std.specs.Prelude.{Option, String, Result, Ok, Err, MatchResult}
-use Rattle.std.specs.Global.{Global}
+use Rattle.std.specs.Prelude.{Option, Result, Ok, Err, MatchResult}
 use Rattle.std.proofs.lemmas.List.{take_all, length-take}
 use Rattle.texts.specs.Reading.{◌>>=◌}
 use Rattle.bundles.specs.declared.fault.BundleFault.{BundleFault}
@@ -12,6 +11,7 @@ use Rattle.session.specs.Seen.{Sight, IsSeenAfter}
 use Rattle.session.specs.Sessions.{kept_text, text_in, task_of}
 use Rattle.session.specs.declared.fault.InputFault.TheVariants as faults
 use Rattle.session.specs.declared.reply.Status.{Status}
+use Rattle.notes.specs.declared.note.Note.{Note}
 use Rattle.diagnostics.specs.Told.{most_noted, IsErrorOf, IsErrorOfBytes, WarnsOfRead}
 use Rattle.diagnostics.specs.Told.{WarnsOfNothing}
 use Rattle.diagnostics.specs.declared.warning.Warnings.{Warnings}
@@ -35,7 +35,7 @@ none_short kept input over front few long =
 
 -- ---- of a text
 
-pub error_of_text : (input text : List ℕ) (status : Status) (note : Option (String Global))
+pub error_of_text : (input text : List ℕ) (status : Status) (note : Option Note)
     → text_in input ≡ Ok text → IsErrorOf text status note
     → MatchResult (text_in input) (λ t. IsErrorOf t status note)
     (λ fault. IsErrorOfBytes input fault note)
@@ -60,7 +60,7 @@ warned_of_text input text warnings is warned =
 -- ---- of bytes that are none
 
 pub error_of_bytes : (kept input : List ℕ) (fault : BundleFault) (status : Status)
-    (note : Option (String Global)) → kept ≡ input → text_in input ≡ Err fault
+    (note : Option Note) → kept ≡ input → text_in input ≡ Err fault
     → IsErrorOfBytes kept fault note
     → MatchResult (text_in input) (λ t. IsErrorOf t status note)
     (λ f. IsErrorOfBytes input f note)

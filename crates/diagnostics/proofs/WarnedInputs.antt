@@ -7,30 +7,30 @@ use Rattle.board.specs.Boards.{Board}
 use Rattle.seq_program.specs.declared.instr.Instr.{Instr}
 use Rattle.session.specs.Commands.{Task, Frame, Run, Wave, Check, Find, Verify}
 use Rattle.session.specs.Seen.{IsSeenAfter, IsSeenOf}
-use Rattle.session.specs.declared.breach.Reached.{Reached}
+use Rattle.run_monitor.specs.declared.breach.Reached.{Reached}
 use Rattle.session.specs.declared.fault.InputFault.{InputFault}
 use Rattle.session.specs.declared.seen.Seen.{Seen}
 use Rattle.diagnostics.specs.Boards.{board_lines, IsBoardWarning}
 use Rattle.diagnostics.specs.Told.{WarnsOf, WarnsOfRead, WarnsOfNothing}
-use Rattle.diagnostics.specs.Warnings.{HasEachDoubt, IsWarningOf}
+use Rattle.diagnostics.specs.Warnings.{HasEachLint, IsWarningOf}
 use Rattle.diagnostics.specs.declared.warning.Warnings.{Warnings}
 
 -- what `warnings_on` promises of what was seen
 pub record AreWarningsOn (text : List ℕ) (seen : Seen) (warnings : Warnings) : Type 0 where
   pub lines : All (IsBoardWarning (board_lines text)) warnings.of_board.items
-  pub doubts : HasEachDoubt seen.board seen.program (length warnings.of_board.items)
+  pub lints : HasEachLint seen.board seen.program (length warnings.of_board.items)
   pub run : IsWarningOf text (option_map (λ x. x.breach) seen.found) warnings.of_run
 
 abbrev Seeing : Type 0
 Seeing = Box Seen Global
 
--- the doubts about this board and this program
-doubts_of : (b : Board) (p : List Instr) (x : Seeing) (count : ℕ) → x.value.board ≡ b
-    → x.value.program ≡ p → HasEachDoubt x.value.board x.value.program count
-    → HasEachDoubt b p count
-doubts_of b p x count same_board same_program each =
-    subst (λ (q : List Instr). HasEachDoubt b q count) same_program
-    (subst (λ (c : Board). HasEachDoubt c x.value.program count) same_board each)
+-- the lints of this board and this program
+lints_of : (b : Board) (p : List Instr) (x : Seeing) (count : ℕ) → x.value.board ≡ b
+    → x.value.program ≡ p → HasEachLint x.value.board x.value.program count
+    → HasEachLint b p count
+lints_of b p x count same_board same_program each =
+    subst (λ (q : List Instr). HasEachLint b q count) same_program
+    (subst (λ (c : Board). HasEachLint c x.value.program count) same_board each)
 
 -- where nothing runs, no run is warned of
 nothing_runs : (text : List ℕ) (x : Seeing) (warnings : Warnings) → x.value.found ≡ None
@@ -44,27 +44,27 @@ warned_task : (text : List ℕ) (task : Task) (x : Seeing) (warnings : Warnings)
 warned_task text (Frame exchange) x warnings seen are = absurd cc
 warned_task text (Run s) x warnings seen are = record {
   lines = are.lines;
-  board = doubts_of s.board s.program x _ seen.0 seen.1 are.doubts;
+  board = lints_of s.board s.program x _ seen.0 seen.1 are.lints;
   run = (x.value.found, seen.2, are.run);
 }
 warned_task text (Wave s) x warnings seen are = record {
   lines = are.lines;
-  board = doubts_of s.board s.program x _ seen.0 seen.1 are.doubts;
+  board = lints_of s.board s.program x _ seen.0 seen.1 are.lints;
   run = (x.value.found, seen.2, are.run);
 }
 warned_task text (Check trial) x warnings seen are = record {
   lines = are.lines;
-  board = doubts_of trial.board trial.program x _ seen.0 seen.1 are.doubts;
+  board = lints_of trial.board trial.program x _ seen.0 seen.1 are.lints;
   run = nothing_runs text x warnings seen.2 are;
 }
 warned_task text (Find s) x warnings seen are = record {
   lines = are.lines;
-  board = doubts_of s.board s.program x _ seen.0 seen.1 are.doubts;
+  board = lints_of s.board s.program x _ seen.0 seen.1 are.lints;
   run = nothing_runs text x warnings seen.2 are;
 }
 warned_task text (Verify s) x warnings seen are = record {
   lines = are.lines;
-  board = doubts_of s.board s.program x _ seen.0 seen.1 are.doubts;
+  board = lints_of s.board s.program x _ seen.0 seen.1 are.lints;
   run = nothing_runs text x warnings seen.2 are;
 }
 

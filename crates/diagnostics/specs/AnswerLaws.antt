@@ -4,7 +4,7 @@ use Rattle.smbus.specs.Answered.{Answered}
 use Rattle.bundles.specs.AnswerLines.{answer_line_of}
 use Rattle.bundles.specs.Answers.{Answers, answers_in}
 use Rattle.diagnostics.specs.AnswerPlaces.{counted_line}
-use Rattle.diagnostics.specs.Notes.{line_at}
+use Rattle.notes.specs.Lines.{line_at}
 
 -- on the line with this number stands this answer
 pub record TellsAnswer (lines : List (List ℕ)) (number : ℕ) (answer : Answered) : Type 0 where

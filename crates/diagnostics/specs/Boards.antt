@@ -1,22 +1,24 @@
 -- What a note on a board file, or a warning of it, names.
-use Rattle.std.specs.Prelude.{◌≢◌, ℕ, List, [], Option, String, IsSome, IsSomeAnd, codes}
-use Rattle.std.specs.Prelude.{option_map, string_bytes, unwrap_or}
-use Rattle.std.specs.Global.{Global}
+use Rattle.std.specs.Prelude.{◌≢◌, ℕ, List, [], Option, IsSome, IsSomeAnd, codes}
+use Rattle.std.specs.Prelude.{option_map, unwrap_or}
 use Rattle.texts.specs.Words.{lines_by_feed}
 use Rattle.session.specs.SectionTexts.{section_text}
 use Rattle.session.specs.Parts.{section_in}
-use Rattle.diagnostics.specs.Notes.{line_at, IsNote, IsNoteOf}
+use Rattle.notes.specs.declared.level.Level.TheVariants.{Error, Warning}
+use Rattle.notes.specs.declared.note.Note.{Note}
+use Rattle.notes.specs.Lines.{line_at}
+use Rattle.notes.specs.Notes.{IsOn}
 
 -- the number of one of these lines, or 1 where there is none
 abbrev pub IsLineNumber : List (List ℕ) → ℕ → Type 0
 IsLineNumber lines number = number ≢ 1 → IsSome (line_at number lines)
 
 -- a note on a line of the board section with this text
-abbrev pub IsOnSomeLine : List ℕ → Option (String Global) → Type 0
+abbrev pub IsOnSomeLine : List ℕ → Option Note → Type 0
 IsOnSomeLine text note =
     IsSomeAnd note
     (λ n. (number : ℕ) × (IsLineNumber (lines_by_feed text) number
-    × IsNote (codes "%board") number (lines_by_feed text) (string_bytes n)))
+    × IsOn Error (codes "%board") number (lines_by_feed text) n))
 
 -- the text of a bundle's board, and its lines
 abbrev pub board_text : List ℕ → List ℕ
@@ -26,7 +28,7 @@ abbrev pub board_lines : List ℕ → List (List ℕ)
 board_lines text = lines_by_feed (board_text text)
 
 -- a warning on one of the lines of a board
-abbrev pub IsBoardWarning : List (List ℕ) → String Global → Type 0
+abbrev pub IsBoardWarning : List (List ℕ) → Note → Type 0
 IsBoardWarning lines note =
     (number : ℕ) × (IsLineNumber lines number
-    × IsNoteOf (codes "warning") (codes "%board") number lines (string_bytes note))
+    × IsOn Warning (codes "%board") number lines note)

@@ -1,6 +1,3 @@
-pub mod ShownLines
-pub mod Notes
-pub mod Nearest
 pub mod ProgramPlaces
 pub mod AnswerPlaces
 pub mod AnswerLaws

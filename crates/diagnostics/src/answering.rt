@@ -15,6 +15,7 @@ use crate::bundle::bundle_note;
 use crate::input::note_on;
 use crate::warning::{Warnings, warnings_on};
 use bundles::BundleFault;
+use notes::Note;
 use session::{DeviceFault, Received, Seen, Status, deliver, receive, text_of};
 use std::alloc::{AllocError, Global};
 use std::io::{Read, Write};
@@ -26,7 +27,7 @@ const MOST_NOTED: usize = 1 << 20;
 #[derive(Debug, Drop)]
 pub struct Notes {
     /// What to mend, where it is refused or has a fault.
-    pub error: Option<String>,
+    pub error: Option<Note>,
     pub warnings: Warnings,
 }
 
@@ -44,7 +45,7 @@ impl Notes {
 }
 
 /// The note on a text that was answered so, if it has a fault or is refused.
-fn error_on(alloc: Global, text: &str, status: Status) -> Result<Option<String>, AllocError>
+fn error_on(alloc: Global, text: &str, status: Status) -> Result<Option<Note>, AllocError>
     ensures { IfOk result (IsErrorOf text.now status) }
 {
     match status {

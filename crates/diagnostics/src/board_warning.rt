@@ -2,47 +2,49 @@
 
 ghost use Rattle.std.specs.Prelude.{◌≡◌, All, IfOk, length, string_bytes};
 ghost use Rattle.diagnostics.specs.Boards.{board_lines, board_text, IsBoardWarning};
-ghost use Rattle.diagnostics.specs.Warnings.{HasEachDoubt};
+ghost use Rattle.diagnostics.specs.Warnings.{HasEachLint};
 ghost use Rattle.texts.specs.Words.{lines_by_feed};
 
 use crate::boards::{lines_of, number_of, number_within, remark_of, site_of};
-use crate::note::warning_of;
+use crate::note::warning_note;
 use board::Board;
+use board_lints::{Lint, lints_on};
+use notes::Note;
 use seq_program::Program;
-use session::{Doubt, doubts_on, section_of};
+use session::section_of;
 use std::alloc::{AllocError, Global};
 
-/// The warning of a doubt about a board file with these lines, on one of them.
+/// The warning of a lint of a board file with these lines, on one of them.
 fn warning_on(
     alloc: Global,
     text: &str,
     lines: &[&str],
     board: &Board,
-    doubt: &Doubt,
-) -> Result<String, AllocError>
+    lint: &Lint,
+) -> Result<Note, AllocError>
     ensures { IfOk result (IsBoardWarning (lines_by_feed text.now)) }
 {
-    let (site, key) = site_of(doubt);
+    let (site, key) = site_of(lint);
     let number = number_within(text, number_of(lines, site, Some(key)));
-    let remark = remark_of(alloc, board, doubt)?;
-    warning_of(alloc, "%board", text, number, &remark)
+    let remark = remark_of(alloc, board, lint)?;
+    warning_note(alloc, "%board", text, number, remark)
 }
 
-/// The warnings of doubts about a board file, each on a line of it.
+/// The warnings of lints of a board file, each on a line of it.
 fn notes_of(
     alloc: Global,
     text: &str,
     board: &Board,
-    doubts: &[Doubt],
-) -> Result<Vec<String>, AllocError>
+    lints: &[Lint],
+) -> Result<Vec<Note>, AllocError>
     ensures lines { IfOk result
         (λ notes. All (IsBoardWarning (lines_by_feed text.now)) notes.items) }
-    ensures each { IfOk result (λ notes. length notes.items ≡ length doubts.now) }
+    ensures each { IfOk result (λ notes. length notes.items ≡ length lints.now) }
 {
     let lines = lines_of(alloc, text)?;
     let mut notes = Vec::new(alloc);
-    for doubt in doubts {
-        notes.push(warning_on(alloc, text, &lines, board, doubt)?)?;
+    for lint in lints {
+        notes.push(warning_on(alloc, text, &lines, board, lint)?)?;
     }
     Ok(notes)
 }
@@ -66,16 +68,16 @@ pub(crate) fn board_warnings(
     text: &str,
     board: &Board,
     program: &Program,
-) -> Result<Vec<String>, AllocError>
+) -> Result<Vec<Note>, AllocError>
     ensures lines { IfOk result
         (λ notes. All (IsBoardWarning (board_lines text.now)) notes.items) }
-    ensures doubts { IfOk result
-        (λ notes. HasEachDoubt board.now program.now (length notes.items)) }
+    ensures lints { IfOk result
+        (λ notes. HasEachLint board.now program.now (length notes.items)) }
 {
-    let doubts = doubts_on(alloc, board, program)?;
-    if doubts.is_empty() {
+    let lints = lints_on(alloc, board, program)?;
+    if lints.is_empty() {
         return Ok(Vec::new(alloc));
     }
     let text = board_text(alloc, text)?;
-    notes_of(alloc, &text, board, &doubts)
+    notes_of(alloc, &text, board, &lints)
 }

@@ -1,55 +1,69 @@
 //! Notes on board files.
 
 ghost use Rattle.std.specs.Prelude.{◌≡◌, ◌≢◌, None, IfOk};
-ghost use Rattle.board.specs.declared.fault.BoardFault.TheVariants.{Memory};
+ghost use Rattle.board.specs.declared.fault.FaultKind.TheVariants.{Memory};
 ghost use Rattle.texts.specs.Words.{lines_by_feed};
 ghost use Rattle.diagnostics.specs.Boards.{IsLineNumber, IsOnSomeLine};
 
-mod blame;
 mod blamed;
 mod describe;
-mod document;
-mod doubt;
 mod draft;
 mod finding;
 mod foreign;
+mod key_words;
 mod keys;
-mod kind;
-mod locate;
+mod lint;
 mod not_toml;
 mod scan;
-mod search;
 mod twice;
 mod values;
 mod words;
 
-use crate::lines::line_at;
-use crate::note::note_of;
-use board::BoardFault;
-pub(crate) use doubt::{remark_of, site_of};
+use crate::note::{error_note, marked};
+use board::{BoardFault, FaultKind};
 use draft::Draft;
 pub(crate) use draft::lines_of;
-use finding::{Finding, finding_in, unsearched};
+use finding::{Finding, finding_in};
+pub(crate) use lint::{remark_of, site_of};
 use not_toml::not_toml;
+use notes::{Note, line_at};
 pub(crate) use scan::number_of;
 use std::alloc::{AllocError, Global};
+use toml::Table;
+use toml::de::Error;
 
-/// The longest board file in which a fault is looked for, in bytes, since that takes many times its
-/// size in memory. Of a longer one the fault alone is told.
-const MOST_SEARCHED: usize = 1 << 18;
+/// The line of a TOML document that a fault is told on, and what is said of it.
+fn finding_in_tree<'a>(
+    alloc: Global,
+    text: &'a str,
+    tree: &Table,
+    fault: BoardFault,
+) -> Result<Finding<'a>, AllocError> {
+    let draft = Draft::new(alloc, text, tree, fault)?;
+    finding_in(alloc, &draft)
+}
+
+/// The same of a text that is no TOML document.
+fn finding_of_error<'a>(
+    alloc: Global,
+    text: &'a str,
+    error: &Error,
+) -> Result<Finding<'a>, AllocError> {
+    if error.is_memory() {
+        return Err(AllocError);
+    }
+    not_toml(alloc, text, error)
+}
 
 /// The line that a fault is told on, and what is said of it.
-fn finding_on(alloc: Global, text: &str, fault: BoardFault) -> Result<Finding, AllocError> {
-    if text.len() > MOST_SEARCHED && fault != BoardFault::Toml {
-        return unsearched(alloc, fault);
-    }
+fn finding_on<'a>(
+    alloc: Global,
+    text: &'a str,
+    fault: BoardFault,
+) -> Result<Finding<'a>, AllocError> {
     match toml::table_from_str(alloc, text) {
-        Ok(tree) => {
-            let draft = Draft::new(alloc, text, &tree, fault)?;
-            finding_in(alloc, &draft)
-        }
-        Err(error) if error.is_memory() => Err(AllocError),
-        Err(error) => not_toml(alloc, text, &error),
+        Ok(tree) => finding_in_tree(alloc, text, &tree, fault),
+        Err(error) => finding_of_error(alloc, text, &error),
     }
 }
 
@@ -66,23 +80,19 @@ pub(crate) fn number_within(text: &str, number: usize) -> usize
 /// What a person needs to mend a text that is no board: a line with its number, what is wrong
 /// there, and what may help. `None` for `Memory`, which is no fault of the text.
 ///
-/// The fault is to be the one that `read_board` answers for the text. Which line it is on is found
-/// by asking `read_board` about parts of the text, and then by the looks of its lines: where a file
-/// is laid out in an unusual way, a line above may be named, and for a text of over 256 KiB the
-/// first. Fails only for want of memory.
-pub fn board_note(
-    alloc: Global,
-    text: &str,
-    fault: BoardFault,
-) -> Result<Option<String>, AllocError>
-    ensures memory { IfOk result (λ note. fault ≡ Memory → note ≡ None) }
-    ensures line { IfOk result (λ note. fault ≢ Memory → IsOnSomeLine text.now note) }
+/// The fault is to be the one that `read_board` answers for the text, and says at which key of
+/// which table it is. That key's line is found by the looks of the lines: where a file is laid out
+/// in an unusual way, a line above may be named. Fails only for want of memory.
+pub fn board_note(alloc: Global, text: &str, fault: BoardFault) -> Result<Option<Note>, AllocError>
+    ensures memory { IfOk result (λ note. fault.kind ≡ Memory → note ≡ None) }
+    ensures line { IfOk result (λ note. fault.kind ≢ Memory → IsOnSomeLine text.now note) }
 {
-    if let BoardFault::Memory = fault {
+    if let FaultKind::Memory = fault.kind {
         return Ok(None);
     }
     let finding = finding_on(alloc, text, fault)?;
-    let number = number_within(text, finding.number);
-    let note = note_of(alloc, "%board", text, number, &finding.remark)?;
-    Ok(Some(note))
+    let Finding { number, remark, at } = finding;
+    let number = number_within(text, number);
+    let note = error_note(alloc, "%board", text, number, remark)?;
+    Ok(Some(marked(alloc, note, at)?))
 }

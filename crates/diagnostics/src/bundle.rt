@@ -1,16 +1,16 @@
 //! Notes on bundles.
 
-ghost use Rattle.std.specs.Prelude.{string_bytes, IfOk};
+ghost use Rattle.std.specs.Prelude.{IfOk};
 ghost use Rattle.diagnostics.specs.BundlePlaces.{IsOnFault, IsOnBundleLine, IsOnSectionLine};
 ghost use Rattle.diagnostics.specs.BundlePlaces.{IsOnPartLine};
 ghost use Rattle.session.specs.Parts.{part_view};
 
 use crate::header::{missing_section, unexpected_line, unknown_command};
-use crate::lines::line_at;
-use crate::note::note_of;
+use crate::note::error_note;
 use crate::remark::{Remark, help_of};
 use crate::spot::{Spot, spot_remark};
 use bundles::{BundleFault, Header};
+use notes::{Note, line_at};
 use session::{Part, part_at};
 use std::alloc::{AllocError, Global};
 
@@ -19,17 +19,17 @@ fn bundle_line_note(
     alloc: Global,
     text: &str,
     line: usize,
-    remark: &Remark,
-) -> Result<String, AllocError>
-    ensures { IfOk result (λ note. IsOnBundleLine text.now line (string_bytes note)) }
+    remark: Remark,
+) -> Result<Note, AllocError>
+    ensures { IfOk result (IsOnBundleLine text.now line) }
 {
-    note_of(alloc, "bundle", text, line, remark)
+    error_note(alloc, "bundle", text, line, remark)
 }
 
 /// The note on the line of a section that has this number in the bundle.
-fn part_note(alloc: Global, header: Header, part: &Part, line: usize) -> Result<String, AllocError>
+fn part_note(alloc: Global, header: Header, part: &Part, line: usize) -> Result<Note, AllocError>
     ensures { IfOk result
-        (λ note. IsOnPartLine header (part_view part.now) line (string_bytes note)) }
+        (IsOnPartLine header (part_view part.now) line) }
 {
     let number = line.saturating_sub(part.above);
     let spot = Spot {
@@ -37,7 +37,7 @@ fn part_note(alloc: Global, header: Header, part: &Part, line: usize) -> Result<
         number,
     };
     let remark = spot_remark(alloc, header, spot)?;
-    note_of(alloc, header.text(), &part.text, number, &remark)
+    error_note(alloc, header.text(), &part.text, number, remark)
 }
 
 /// The note on the line of the section of an index that has this number in the bundle.
@@ -47,15 +47,15 @@ fn section_note(
     header: Header,
     index: usize,
     line: usize,
-) -> Result<String, AllocError>
+) -> Result<Note, AllocError>
     ensures { IfOk result
-        (λ note. IsOnSectionLine text.now header index line (string_bytes note)) }
+        (IsOnSectionLine text.now header index line) }
 {
     match part_at(alloc, text, index)? {
         Some(part) => part_note(alloc, header, &part, line),
         None => {
             let remark = Remark::plain(alloc, "this line doesn't belong here")?;
-            bundle_line_note(alloc, text, line, &remark)
+            bundle_line_note(alloc, text, line, remark)
         }
     }
 }
@@ -95,8 +95,8 @@ fn no_command(alloc: Global) -> Result<Remark, AllocError> {
 /// The fault is to be the one that the bundle's readers answer for the text. Of another fault the
 /// note still names its line, and quotes it if the text has it. For `NotText` the text is what
 /// stands before the first byte that is none. Fails only for want of memory.
-pub fn bundle_note(alloc: Global, text: &str, fault: BundleFault) -> Result<String, AllocError>
-    ensures { IfOk result (λ note. IsOnFault text.now fault (string_bytes note)) }
+pub fn bundle_note(alloc: Global, text: &str, fault: BundleFault) -> Result<Note, AllocError>
+    ensures { IfOk result (IsOnFault text.now fault) }
 {
     let remark = match fault {
         BundleFault::BadMessage(line) => {
@@ -107,12 +107,12 @@ pub fn bundle_note(alloc: Global, text: &str, fault: BundleFault) -> Result<Stri
         }
         BundleFault::Unexpected(line) => {
             let remark = unexpected_line(alloc, text, line)?;
-            return bundle_line_note(alloc, text, line, &remark);
+            return bundle_line_note(alloc, text, line, remark);
         }
         BundleFault::NoCommand => no_command(alloc)?,
         BundleFault::UnknownCommand => unknown_command(alloc, line_at(text, 1).unwrap_or(""))?,
         BundleFault::MissingSection(header) => missing_section(alloc, text, header)?,
         BundleFault::NotText | BundleFault::TooLarge => no_text(alloc, text, fault)?,
     };
-    bundle_line_note(alloc, text, 1, &remark)
+    bundle_line_note(alloc, text, 1, remark)
 }

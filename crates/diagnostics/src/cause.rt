@@ -1,14 +1,14 @@
 //! What is told of a refusal beside its rule.
 
-use crate::background::Background;
 use crate::remark::Remark;
 
-/// What is to blame for a refusal, with names and numbers, and what may mend just that, and what is
-/// known beside.
+/// What is to blame for a refusal, with names and numbers, and what may mend just that; what is
+/// known at its place, and how that is reached.
 #[derive(Drop)]
 pub(crate) struct Cause {
     pub blame: Option<Remark>,
-    pub background: Background,
+    pub known: Option<String>,
+    pub way: Option<String>,
 }
 
 impl Cause {
@@ -21,16 +21,13 @@ impl Cause {
     pub(crate) fn of(blame: Option<Remark>, known: Option<String>) -> Cause {
         Cause {
             blame,
-            background: Background::of(known),
+            known,
+            way: None,
         }
     }
 
     /// The same, and how the place is reached.
     pub(crate) fn reached_by(self, way: Option<String>) -> Cause {
-        let Cause { blame, background } = self;
-        Cause {
-            blame,
-            background: background.reached_by(way),
-        }
+        Cause { way, ..self }
     }
 }

@@ -1,7 +1,7 @@
 //! Programs that don't end, or are too long.
 
-use crate::quote::Quoted;
 use crate::remark::{Remark, help_of};
+use notes::Quoted;
 use seq_program::{label_in, without_comment};
 use std::alloc::{AllocError, Global};
 use texts::{first_by_feed, words_of};

@@ -1,9 +1,9 @@
 //! What is known at a place, in words.
 
-use crate::quote::Quoted;
 use crate::sentence::{Sentence, Word, told};
 use board::Board;
 use facts::{GoodSet, PageSet, ProtectSet, Row, Rule};
+use notes::Quoted;
 use std::alloc::{AllocError, Global};
 
 /// The values that WRITE_PROTECT may have (PMBus 1.3 Part II, 11.1).

@@ -1,7 +1,7 @@
 //! The names of forms in messages.
 
 use crate::listing::listed;
-use crate::suggestion::lowercase_suggestion;
+use notes::lowercase_suggestion;
 use smbus::{Form, form_named};
 use std::alloc::{AllocError, Global};
 

@@ -2,9 +2,10 @@
 
 use crate::counted::counted_line;
 use crate::misfit::refuse_misfit;
-use crate::note::note_of;
+use crate::note::error_note;
 use crate::sentence::{Advice, Sentence, Word};
 use bundles::Exchange;
+use notes::Note;
 use session::part_at;
 use smbus::{Form, Message, SmbusFault, frame_slots};
 use std::alloc::{AllocError, Global};
@@ -82,7 +83,7 @@ pub(crate) fn frame_note(
     alloc: Global,
     text: &str,
     exchange: &Exchange,
-) -> Result<Option<String>, AllocError> {
+) -> Result<Option<Note>, AllocError> {
     let fault = match frame_slots(alloc, &exchange.message, &exchange.answer) {
         Ok(_) => return Ok(None),
         Err(SmbusFault::Memory) => return Err(AllocError),
@@ -93,5 +94,5 @@ pub(crate) fn frame_note(
     };
     let number = counted_line(&part.text, 0).unwrap_or(1);
     let remark = advice_on(exchange, fault).told(alloc)?;
-    Ok(Some(note_of(alloc, "%message", &part.text, number, &remark)?))
+    Ok(Some(error_note(alloc, "%message", &part.text, number, remark)?))
 }

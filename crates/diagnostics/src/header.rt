@@ -1,11 +1,10 @@
 //! The command of a bundle, and the headers of its sections.
 
-use crate::lines::line_at;
 use crate::listing::listed;
 use crate::remark::Remark;
 use crate::sentence::{Sentence, Word, told};
-use crate::suggestion::lowercase_suggestion;
 use bundles::{Command, Header};
+use notes::{line_at, lowercase_suggestion};
 use std::alloc::{AllocError, Global};
 use texts::first_line;
 

@@ -1,8 +1,8 @@
 //! Notes on whole inputs.
 
-ghost use Rattle.std.specs.Prelude.{[], codes, string_bytes, IfOk};
+ghost use Rattle.std.specs.Prelude.{[], codes, IfOk};
 ghost use Rattle.seq_program.specs.Faults.{line_of};
-ghost use Rattle.diagnostics.specs.Notes.{IsNote};
+ghost use Rattle.notes.specs.Notes.{IsOn};
 ghost use Rattle.session.specs.Commands.{task_view, IsReady};
 ghost use Rattle.session.specs.Scenarios.{IsOnItsBoard};
 ghost use Rattle.session.specs.Trials.{trial_view};
@@ -15,16 +15,17 @@ ghost use Rattle.diagnostics.specs.Inputs.{NamesRunFault};
 use crate::boards::board_note;
 use crate::bundle::bundle_note;
 use crate::frame::frame_note;
-use crate::note::note_of;
+use crate::note::error_note;
 use crate::program::program_note;
 use crate::reason::{cause_of, loop_cause};
 use crate::refusal::{Refusal, detailed_note};
 use crate::remark::Remark;
 use crate::roads::Judged;
 use crate::run::run_note;
-use board::{Board, BoardFault, read_board};
+use board::{Board, BoardFault, FaultKind, read_board};
 use fact_search::{FindFault, find};
 use facts::Rule;
+use notes::{Level, Note};
 use seq_program::{Program, ProgramFault};
 use session::{InputFault, Scenario, Sequence, Task, Trial, read_task, section_of};
 use std::alloc::{AllocError, Global};
@@ -38,18 +39,18 @@ fn board_of(alloc: Global, text: &str) -> Result<Option<Board>, AllocError> {
     };
     match read_board(alloc, &text) {
         Ok(board) => Ok(Some(board)),
-        Err(BoardFault::Memory) => Err(AllocError),
+        Err(fault) if fault.kind == FaultKind::Memory => Err(AllocError),
         Err(_) => Ok(None),
     }
 }
 
 /// The note on a line of which no more is known than its fault.
-fn bare_note(alloc: Global, number: usize, fault: ProgramFault) -> Result<String, AllocError>
-    ensures { IfOk result (λ note. IsNote (codes "%program") number [] (string_bytes note)) }
+fn bare_note(alloc: Global, number: usize, fault: ProgramFault) -> Result<Note, AllocError>
+    ensures { IfOk result (IsOn Level.Error (codes "%program") number []) }
 {
     let message = format!(in alloc; "{fault}")?;
     let remark = Remark::new(message, None);
-    note_of(alloc, "%program", "", number, &remark)
+    error_note(alloc, "%program", "", number, remark)
 }
 
 /// The note on the fault of a program with this text for a board.
@@ -58,7 +59,7 @@ fn of_program(
     board: Board,
     text: &str,
     fault: ProgramFault,
-) -> Result<Option<String>, AllocError>
+) -> Result<Option<Note>, AllocError>
     ensures { IfOk result (λ note. IsOnLine (line_of fault) note) }
 {
     program_note(alloc, &board, text, fault)
@@ -69,7 +70,7 @@ fn program_fault_note(
     alloc: Global,
     text: &str,
     fault: ProgramFault,
-) -> Result<Option<String>, AllocError>
+) -> Result<Option<Note>, AllocError>
     ensures { IfOk result (λ note. IsOnLine (line_of fault) note) }
 {
     let Some(number) = fault.line() else {
@@ -89,7 +90,7 @@ fn board_fault_note(
     alloc: Global,
     text: &str,
     fault: BoardFault,
-) -> Result<Option<String>, AllocError> {
+) -> Result<Option<Note>, AllocError> {
     match section_of(alloc, text, 0)? {
         Some(board) => board_note(alloc, &board, fault),
         None => Ok(None),
@@ -103,7 +104,7 @@ fn broken_note(
     judged: Judged<'_>,
     place: usize,
     rule: Rule,
-) -> Result<Option<String>, AllocError>
+) -> Result<Option<Note>, AllocError>
     ensures { IfOk result (IsOnRefusal text.now place) }
 {
     let Some(program) = section_of(alloc, text, 1)? else {
@@ -119,7 +120,7 @@ fn gave_up_note(
     text: &str,
     program: &Program,
     place: usize,
-) -> Result<Option<String>, AllocError>
+) -> Result<Option<Note>, AllocError>
     ensures { IfOk result (IsOnRefusal text.now place) }
 {
     let Some(written) = section_of(alloc, text, 1)? else {
@@ -135,7 +136,7 @@ fn verdict_note(
     text: &str,
     judged: Judged<'_>,
     verdict: Verdict,
-) -> Result<Option<String>, AllocError>
+) -> Result<Option<Note>, AllocError>
     ensures { IfOk result (IsOnVerdict text.now verdict) }
 {
     match verdict {
@@ -145,7 +146,7 @@ fn verdict_note(
 }
 
 /// The note on a program that is verified.
-fn verify_note(alloc: Global, text: &str, sequence: &Sequence) -> Result<Option<String>, AllocError>
+fn verify_note(alloc: Global, text: &str, sequence: &Sequence) -> Result<Option<Note>, AllocError>
     ensures { IfOk result (NamesVerifyFault text.now sequence.now) }
 {
     match find(alloc, &sequence.board, &sequence.program) {
@@ -169,7 +170,7 @@ fn verify_note(alloc: Global, text: &str, sequence: &Sequence) -> Result<Option<
 }
 
 /// The note on a program whose facts are searched for.
-fn find_note(alloc: Global, text: &str, sequence: &Sequence) -> Result<Option<String>, AllocError>
+fn find_note(alloc: Global, text: &str, sequence: &Sequence) -> Result<Option<Note>, AllocError>
     ensures { IfOk result (NamesFindFault text.now) }
 {
     match find(alloc, &sequence.board, &sequence.program) {
@@ -189,17 +190,17 @@ fn version_help(alloc: Global, number: usize) -> Result<Option<String>, AllocErr
 }
 
 /// The note on a line that is none of a table.
-fn table_note(alloc: Global, table: &str, number: usize) -> Result<String, AllocError>
+fn table_note(alloc: Global, table: &str, number: usize) -> Result<Note, AllocError>
     ensures { IfOk result
-        (λ note. IsNote (codes "%table") number (lines_by_feed table.now) (string_bytes note)) }
+        (IsOn Level.Error (codes "%table") number (lines_by_feed table.now)) }
 {
     let message = String::from_str(alloc, "no table of this board goes on with this line")?;
     let remark = Remark::new(message, version_help(alloc, number)?);
-    note_of(alloc, "%table", table, number, &remark)
+    error_note(alloc, "%table", table, number, remark)
 }
 
 /// The note on a program that is checked with a table.
-fn check_note(alloc: Global, text: &str, trial: &Trial) -> Result<Option<String>, AllocError>
+fn check_note(alloc: Global, text: &str, trial: &Trial) -> Result<Option<Note>, AllocError>
     ensures { IfOk result (NamesCheckFault text.now (trial_view trial.now)) }
 {
     match read_table(alloc, &trial.board, &trial.table) {
@@ -229,7 +230,7 @@ fn of_scenario(
     alloc: Global,
     text: &str,
     scenario: Scenario<'_>,
-) -> Result<Option<String>, AllocError>
+) -> Result<Option<Note>, AllocError>
     requires { IsOnItsBoard scenario }
     ensures { IfOk result (λ note. NamesRunFault text.now scenario.entry note) }
 {
@@ -237,28 +238,28 @@ fn of_scenario(
 }
 
 /// The note on a program with a table.
-fn of_trial(alloc: Global, text: &str, trial: Trial) -> Result<Option<String>, AllocError>
+fn of_trial(alloc: Global, text: &str, trial: Trial) -> Result<Option<Note>, AllocError>
     ensures { IfOk result (NamesCheckFault text.now (trial_view trial)) }
 {
     check_note(alloc, text, &trial)
 }
 
 /// The note on a program whose facts are asked for.
-fn of_search(alloc: Global, text: &str, sequence: Sequence) -> Result<Option<String>, AllocError>
+fn of_search(alloc: Global, text: &str, sequence: Sequence) -> Result<Option<Note>, AllocError>
     ensures { IfOk result (NamesFindFault text.now) }
 {
     find_note(alloc, text, &sequence)
 }
 
 /// The note on a program that is to be verified.
-fn of_verdict(alloc: Global, text: &str, sequence: Sequence) -> Result<Option<String>, AllocError>
+fn of_verdict(alloc: Global, text: &str, sequence: Sequence) -> Result<Option<Note>, AllocError>
     ensures { IfOk result (NamesVerifyFault text.now sequence) }
 {
     verify_note(alloc, text, &sequence)
 }
 
 /// The note on what is asked for, if that is refused.
-fn task_note(alloc: Global, text: &str, task: Task<'_>) -> Result<Option<String>, AllocError>
+fn task_note(alloc: Global, text: &str, task: Task<'_>) -> Result<Option<Note>, AllocError>
     requires { IsReady (task_view task) }
     ensures { IfOk result (λ note. NamesTaskFault text.now (task_view task.entry) note) }
 {
@@ -278,7 +279,7 @@ fn task_note(alloc: Global, text: &str, task: Task<'_>) -> Result<Option<String>
 ///
 /// It is for standard error, beside the reply to the same input, and has no say in that. Fails only
 /// for want of memory.
-pub fn note_on(alloc: Global, text: &str) -> Result<Option<String>, AllocError>
+pub fn note_on(alloc: Global, text: &str) -> Result<Option<Note>, AllocError>
     ensures program { IfOk result (λ note. NamesFault text.now note) }
     ensures bundle { IfOk result (λ note. NamesBundleFault text.now note) }
     ensures task { IfOk result (λ note. NamesTaskFaults text.now note) }

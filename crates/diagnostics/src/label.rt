@@ -2,7 +2,7 @@
 
 use crate::remark::Remark;
 use crate::sentence::{Advice, Sentence, Word};
-use crate::suggestion::lowercase_suggestion;
+use notes::lowercase_suggestion;
 use seq_program::{label_in, without_comment};
 use std::alloc::{AllocError, Global};
 use texts::{first_by_feed, words_of};

@@ -9,3 +9,13 @@ pub(crate) fn listed(alloc: Global, words: &[&str]) -> Result<String, AllocError
     }
     Ok(text)
 }
+
+/// Names in quotes, with commas between them.
+pub(crate) fn quoted(alloc: Global, names: &[&str]) -> Result<String, AllocError> {
+    let mut text = String::new(alloc);
+    for name in names {
+        let comma = if text.is_empty() { "" } else { ", " };
+        write!(text, "{comma}\"{name}\"")?;
+    }
+    Ok(text)
+}

@@ -1,128 +1,96 @@
-//! The text of a note.
+//! Notes on lines of sections.
 
-ghost use Rattle.std.specs.Prelude.{◌≡◌, ◌++◌, codes, option_copied, string_bytes};
-ghost use Rattle.std.specs.Prelude.{IfOk, OnOk, option_map};
+ghost use Rattle.std.specs.Prelude.{IfOk};
 ghost use Rattle.texts.specs.Words.{lines_by_feed};
-ghost use Rattle.diagnostics.specs.Notes.{head, quoted, noted, helped, IsNote, IsNoteOf};
+ghost use Rattle.notes.specs.Notes.{IsOn, StaysOn};
 
-use crate::background::Background;
-use crate::lines::line_at;
 use crate::remark::Remark;
-use crate::shown::shown_line;
+use notes::{Level, Note};
 use std::alloc::{AllocError, Global};
 
-/// Adds the first line of a note.
-fn push_message(
-    note: &mut String,
-    kind: &str,
-    section: &str,
-    number: usize,
-    message: &str,
-) -> Result<(), AllocError>
-    ensures { OnOk result (string_bytes note.new ≡ string_bytes note.old
-        ++ head kind.now section.now number ++ message.now ++ codes "\n") }
-{
-    write!(note, "{section}:{number}: {kind}: {message}\n")
-}
-
-/// Adds the line that has the fault, if there is one.
-fn push_line(note: &mut String, line: &Option<String>) -> Result<(), AllocError>
-    ensures { OnOk result
-        (string_bytes note.new
-        ≡ string_bytes note.old ++ quoted (option_map string_bytes line.now)) }
-{
-    match line {
-        Some(line) => write!(note, "    {line}\n"),
-        None => Ok(()),
-    }
-}
-
-/// Adds a line of what is known beside, if there is one.
-fn push_noted(note: &mut String, known: Option<&str>) -> Result<(), AllocError>
-    ensures { OnOk result
-        (string_bytes note.new ≡ string_bytes note.old ++ noted (option_copied known.entry)) }
-{
-    match known {
-        Some(known) => write!(note, "note: {known}\n"),
-        None => Ok(()),
-    }
-}
-
-/// Adds the line of help, if there is one.
-fn push_help(note: &mut String, help: Option<&str>) -> Result<(), AllocError>
-    ensures { OnOk result
-        (string_bytes note.new ≡ string_bytes note.old ++ helped (option_copied help.entry)) }
-{
-    match help {
-        Some(help) => write!(note, "help: {help}\n"),
-        None => Ok(()),
-    }
-}
-
-/// The note of a kind on the line of a section with this number: what is said of it, the line, what
-/// is known beside, and what may help.
-fn made(
+/// The note of a level on the line of a section with this number.
+fn note_on(
     alloc: Global,
-    kind: &str,
+    level: Level,
     section: &str,
     text: &str,
     number: usize,
-    remark: &Remark,
-    background: &Background,
-) -> Result<String, AllocError>
-    ensures { IfOk result (λ note.
-        IsNoteOf kind.now section.now number (lines_by_feed text.now) (string_bytes note)) }
+    remark: Remark,
+) -> Result<Note, AllocError>
+    ensures { IfOk result (IsOn level section.now number (lines_by_feed text.now)) }
 {
-    let mut note = String::new(alloc);
-    push_message(&mut note, kind, section, number, remark.message())?;
-    let shown = shown_line(alloc, line_at(text, number))?;
-    push_line(&mut note, &shown)?;
-    push_noted(&mut note, background.known())?;
-    push_noted(&mut note, background.way())?;
-    push_help(&mut note, remark.help())?;
-    Ok(note)
+    let note = Note::on(alloc, level, section, text, number)?;
+    let Remark { message, help } = remark;
+    Ok(Note {
+        message,
+        help,
+        ..note
+    })
 }
 
 /// The note on an error.
-pub(crate) fn note_of(
+pub(crate) fn error_note(
     alloc: Global,
     section: &str,
     text: &str,
     number: usize,
-    remark: &Remark,
-) -> Result<String, AllocError>
-    ensures { IfOk result
-        (λ note. IsNote section.now number (lines_by_feed text.now) (string_bytes note)) }
+    remark: Remark,
+) -> Result<Note, AllocError>
+    ensures { IfOk result (IsOn Level.Error section.now number (lines_by_feed text.now)) }
 {
-    background_note(alloc, section, text, number, remark, &Background::none())
-}
-
-/// The note on an error, with what is known beside.
-pub(crate) fn background_note(
-    alloc: Global,
-    section: &str,
-    text: &str,
-    number: usize,
-    remark: &Remark,
-    background: &Background,
-) -> Result<String, AllocError>
-    ensures { IfOk result
-        (λ note. IsNote section.now number (lines_by_feed text.now) (string_bytes note)) }
-{
-    made(alloc, "error", section, text, number, remark, background)
+    note_on(alloc, Level::Error, section, text, number, remark)
 }
 
 /// The note on what is no error, and may become one.
-pub(crate) fn warning_of(
+pub(crate) fn warning_note(
     alloc: Global,
     section: &str,
     text: &str,
     number: usize,
-    remark: &Remark,
-) -> Result<String, AllocError>
-    ensures { IfOk result (λ note. IsNoteOf (codes "warning") section.now number
-        (lines_by_feed text.now) (string_bytes note)) }
+    remark: Remark,
+) -> Result<Note, AllocError>
+    ensures { IfOk result (IsOn Level.Warning section.now number (lines_by_feed text.now)) }
 {
-    let background = Background::none();
-    made(alloc, "warning", section, text, number, remark, &background)
+    note_on(alloc, Level::Warning, section, text, number, remark)
+}
+
+/// The same note with a mark below a word, which stands behind this in its line, if one is known.
+pub(crate) fn marked(
+    alloc: Global,
+    note: Note,
+    at: Option<(&str, &str)>,
+) -> Result<Note, AllocError>
+    ensures { IfOk result (StaysOn note) }
+{
+    match at {
+        Some((before, word)) => note.marking(alloc, before, word),
+        None => Ok(note),
+    }
+}
+
+/// Adds what is known, if it is.
+fn push_fact(facts: &mut Vec<String>, fact: Option<String>) -> Result<(), AllocError> {
+    if let Some(fact) = fact {
+        facts.push(fact)?;
+    }
+    Ok(())
+}
+
+/// The note on an error, with what is known beside.
+pub(crate) fn known_error_note(
+    alloc: Global,
+    section: &str,
+    text: &str,
+    number: usize,
+    remark: Remark,
+    known: Option<String>,
+    way: Option<String>,
+) -> Result<Note, AllocError>
+    ensures { IfOk result (IsOn Level.Error section.now number (lines_by_feed text.now)) }
+{
+    let note = error_note(alloc, section, text, number, remark)?;
+    let mut facts = Vec::new(alloc);
+    push_fact(&mut facts, known)?;
+    push_fact(&mut facts, way)?;
+    Ok(Note { facts, ..note })
 }

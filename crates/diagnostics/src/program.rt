@@ -1,22 +1,22 @@
 //! Notes on programs.
 
-ghost use Rattle.std.specs.Prelude.{◌≡◌, codes, string_bytes, IfOk, None, IsSomeAnd};
+ghost use Rattle.std.specs.Prelude.{◌≡◌, codes, IfOk, None, IsSomeAnd};
 ghost use Rattle.std.specs.Prelude.{MatchOption};
 ghost use Rattle.texts.specs.Words.{lines_by_feed};
 ghost use Rattle.seq_program.specs.Faults.{line_of};
-ghost use Rattle.diagnostics.specs.Notes.{IsNote};
+ghost use Rattle.notes.specs.Notes.{IsOn};
 
 use crate::bad_number::bad_number;
 use crate::bad_operand::bad_operand;
 use crate::ending::{no_end, too_long};
 use crate::label::{same_label, unknown_label};
-use crate::lines::line_at;
-use crate::note::note_of;
+use crate::note::error_note;
 use crate::remark::Remark;
 use crate::unknown_command::unknown_command;
 use crate::unknown_target::unknown_target;
 use crate::unknown_word::unknown_word;
 use board::Board;
+use notes::{Level, Note, line_at};
 use seq_program::{ProgramFault, without_comment};
 use std::alloc::{AllocError, Global};
 use texts::words_of;
@@ -55,15 +55,15 @@ pub fn program_note(
     board: &Board,
     text: &str,
     fault: ProgramFault,
-) -> Result<Option<String>, AllocError>
+) -> Result<Option<Note>, AllocError>
     ensures { IfOk result (λ note. MatchOption (line_of fault)
         (note ≡ None)
         (λ number. IsSomeAnd note
-        (λ n. IsNote (codes "%program") number (lines_by_feed text.now) (string_bytes n)))) }
+        (IsOn Level.Error (codes "%program") number (lines_by_feed text.now)))) }
 {
     let Some(number) = fault.line() else {
         return Ok(None);
     };
     let remark = remark_on(alloc, board, text, number, fault)?;
-    Ok(Some(note_of(alloc, "%program", text, number, &remark)?))
+    Ok(Some(error_note(alloc, "%program", text, number, remark)?))
 }

@@ -1,13 +1,14 @@
 //! Notes on programs that are refused.
 
-ghost use Rattle.std.specs.Prelude.{codes, IfOk};
+ghost use Rattle.std.specs.Prelude.{IfOk};
 ghost use Rattle.texts.specs.Words.{lines_by_feed};
 ghost use Rattle.diagnostics.specs.ProgramPlaces.{IsOnPlace};
 
 use crate::cause::Cause;
-use crate::note::background_note;
+use crate::note::known_error_note;
 use crate::remark::{Remark, help_of};
 use facts::Rule;
+use notes::{Level, Note};
 use session::place_line;
 use std::alloc::{AllocError, Global};
 
@@ -95,18 +96,31 @@ pub(crate) fn blaming(
     refusal: Refusal,
     blame: Option<Remark>,
 ) -> Result<Remark, AllocError> {
-    let Some(blame) = blame else {
+    let Some(
+        Remark {
+            message: detail,
+            help,
+        },
+    ) = blame
+    else {
         let message = String::from_str(alloc, sentence)?;
         let help = help_of(alloc, help_on(refusal))?;
         return Ok(Remark::new(message, help));
     };
-    let detail = blame.message();
     let message = format!(in alloc; "{sentence}: {detail}")?;
-    let help = match blame.into_help() {
+    let help = match help {
         Some(help) => Some(help),
         None => help_of(alloc, help_on(refusal))?,
     };
     Ok(Remark::new(message, help))
+}
+
+/// The page of the rule that is broken.
+pub(crate) fn page_of(refusal: Refusal) -> Option<&'static str> {
+    match refusal {
+        Refusal::Breaks(rule) => Some(rule.name()),
+        Refusal::GaveUp => None,
+    }
 }
 
 /// The note on a refusal, with what is to blame for it.
@@ -116,16 +130,17 @@ pub(crate) fn detailed_note(
     place: usize,
     refusal: Refusal,
     cause: Cause,
-) -> Result<Option<String>, AllocError>
-    ensures { IfOk result (IsOnPlace (codes "error") (lines_by_feed text.now) place) }
+) -> Result<Option<Note>, AllocError>
+    ensures { IfOk result (IsOnPlace Level.Error (lines_by_feed text.now) place) }
 {
     let Some(number) = place_line(alloc, text, place)? else {
         return Ok(None);
     };
-    let Cause { blame, background } = cause;
+    let Cause { blame, known, way } = cause;
     let remark = blaming(alloc, message_of(refusal), refusal, blame)?;
-    let note = background_note(alloc, "%program", text, number, &remark, &background)?;
-    Ok(Some(note))
+    let note = known_error_note(alloc, "%program", text, number, remark, known, way)?;
+    let page = page_of(refusal);
+    Ok(Some(Note { page, ..note }))
 }
 
 /// What a person needs to mend a program that is refused at a place: the place's line with its
@@ -136,8 +151,8 @@ pub fn refusal_note(
     text: &str,
     place: usize,
     refusal: Refusal,
-) -> Result<Option<String>, AllocError>
-    ensures { IfOk result (IsOnPlace (codes "error") (lines_by_feed text.now) place) }
+) -> Result<Option<Note>, AllocError>
+    ensures { IfOk result (IsOnPlace Level.Error (lines_by_feed text.now) place) }
 {
     detailed_note(alloc, text, place, refusal, Cause::none())
 }

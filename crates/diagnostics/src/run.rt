@@ -5,6 +5,7 @@ ghost use Rattle.session.specs.Scenarios.{IsOnItsBoard};
 ghost use Rattle.diagnostics.specs.Inputs.{NamesRunFault};
 
 use crate::run_answer::answer_note;
+use notes::Note;
 use session::{Scenario, run_through, section_of};
 use simulator::RunFault;
 use std::alloc::{AllocError, Global};
@@ -14,7 +15,7 @@ pub(crate) fn run_note(
     alloc: Global,
     text: &str,
     scenario: &Scenario<'_>,
-) -> Result<Option<String>, AllocError>
+) -> Result<Option<Note>, AllocError>
     requires { IsOnItsBoard scenario.now }
     ensures { IfOk result (λ note. NamesRunFault text.now scenario.now note) }
 {
@@ -26,10 +27,6 @@ pub(crate) fn run_note(
     let Some(answers) = section_of(alloc, text, 2)? else {
         return Ok(None);
     };
-    let program = section_of(alloc, text, 1)?;
-    let program = match &program {
-        Some(program) => program.as_str(),
-        None => "",
-    };
-    answer_note(alloc, scenario, program, &answers, fault)
+    let program = section_of(alloc, text, 1)?.unwrap_or(String::new(alloc));
+    answer_note(alloc, scenario, &program, &answers, fault)
 }

@@ -1,19 +1,19 @@
 //! Notes on answers.
 
-ghost use Rattle.std.specs.Prelude.{◌≡◌, codes, string_bytes, IfOk, None, IsSomeAnd};
+ghost use Rattle.std.specs.Prelude.{◌≡◌, codes, IfOk, None, IsSomeAnd};
 ghost use Rattle.std.specs.Prelude.{MatchOption};
 ghost use Rattle.texts.specs.Words.{lines_by_feed};
 ghost use Rattle.session.specs.Scenarios.{IsOnItsBoard};
 ghost use Rattle.diagnostics.specs.AnswerPlaces.{run_line};
-ghost use Rattle.diagnostics.specs.Notes.{IsNote};
+ghost use Rattle.notes.specs.Notes.{IsOn};
 
 use crate::bad_start::bad_start;
 use crate::counted::run_line;
-use crate::lines::line_at;
 use crate::misfit::misfit;
-use crate::note::note_of;
+use crate::note::error_note;
 use crate::remark::Remark;
 use crate::replay::{Stop, stop_at};
+use notes::{Level, Note, line_at};
 use seq_program::{message_of, without_comment};
 use session::{Scenario, place_line};
 use simulator::RunFault;
@@ -164,16 +164,16 @@ pub fn answer_note(
     program: &str,
     answers: &str,
     fault: RunFault,
-) -> Result<Option<String>, AllocError>
+) -> Result<Option<Note>, AllocError>
     requires { IsOnItsBoard scenario.now }
     ensures { IfOk result (λ note. MatchOption (run_line fault (lines_by_feed answers.now))
         (note ≡ None)
         (λ number. IsSomeAnd note
-        (λ n. IsNote (codes "%answers") number (lines_by_feed answers.now) (string_bytes n)))) }
+        (IsOn Level.Error (codes "%answers") number (lines_by_feed answers.now)))) }
 {
     let Some(number) = run_line(answers, fault) else {
         return Ok(None);
     };
     let remark = remark_on(alloc, scenario, program, fault)?;
-    Ok(Some(note_of(alloc, "%answers", answers, number, &remark)?))
+    Ok(Some(error_note(alloc, "%answers", answers, number, remark)?))
 }

@@ -1,9 +1,9 @@
 //! What is said, before it is written: a sentence with gaps, and the words that go into them.
 
 use crate::facts_here::{push_pages, push_protects};
-use crate::quote::Quoted;
 use crate::remark::Remark;
 use facts::{PageSet, ProtectSet};
+use notes::Quoted;
 use pmbus_table::{by_code, name_of};
 use std::alloc::{AllocError, Global};
 

@@ -2,10 +2,10 @@
 
 use crate::counted::counted_line;
 use crate::field::{ANSWER_FIELDS, MESSAGE_FIELDS, first_flaw};
-use crate::lines::line_at;
 use crate::remark::Remark;
 use crate::sentence::{Advice, Sentence, Word};
 use bundles::Header;
+use notes::line_at;
 use smbus::{carries_code, form_named};
 use std::alloc::{AllocError, Global};
 use texts::words_of;

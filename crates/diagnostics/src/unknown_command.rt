@@ -3,7 +3,7 @@
 use crate::operand::{Operand, operands_of};
 use crate::remark::Remark;
 use crate::sentence::{Advice, Sentence, Word, told};
-use crate::suggestion::suggestion;
+use notes::suggestion;
 use pmbus_table::{Command, by_code, by_name, name_of};
 use smbus::Form;
 use std::alloc::{AllocError, Global};

@@ -1,12 +1,13 @@
 //! A word that names no target of the board.
 
-ghost use Rattle.std.specs.Prelude.{◌≡◌, map, string_bytes, IfOk, IfSome};
-ghost use Rattle.diagnostics.specs.Nearest.{IsProposal};
+ghost use Rattle.std.specs.Prelude.{◌≡◌, map, option_map, string_bytes, IfOk};
+ghost use Rattle.std.specs.Str.{str_to_ascii_lowercase};
+ghost use Rattle.notes.specs.Nearest.{IsSuggestion};
 
-use crate::quote::{Quoted, listed};
+use crate::listing::quoted;
 use crate::remark::Remark;
-use crate::suggestion::lowercase_suggestion;
 use board::Board;
+use notes::{Quoted, lowercase_suggestion};
 use std::alloc::{AllocError, Global};
 
 /// The names of a board's targets, in its order.
@@ -22,8 +23,8 @@ fn target_names<'b>(alloc: Global, board: &'b Board) -> Result<Vec<&'b str>, All
 
 /// Proposes one of the board's targets.
 fn target_help(alloc: Global, board: &Board, word: &str) -> Result<Option<String>, AllocError>
-    ensures { IfOk result (λ help. IfSome help
-        (λ h. IsProposal board.now.target_names (string_bytes h))) }
+    ensures { IfOk result (λ help. IsSuggestion (str_to_ascii_lowercase word.now)
+        board.now.target_names (option_map string_bytes help)) }
 {
     let names = target_names(alloc, board)?;
     lowercase_suggestion(alloc, word, &names)
@@ -33,7 +34,7 @@ fn target_help(alloc: Global, board: &Board, word: &str) -> Result<Option<String
 fn target_remark(alloc: Global, board: &Board, word: &str) -> Result<Remark, AllocError> {
     let help = target_help(alloc, board, word)?;
     let names = target_names(alloc, board)?;
-    let names = listed(alloc, &names)?;
+    let names = quoted(alloc, &names)?;
     let word = Quoted(word);
     let message = format!(in alloc; "unknown target {word}: the board has {names}")?;
     Ok(Remark::new(message, help))

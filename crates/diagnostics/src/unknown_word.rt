@@ -4,7 +4,7 @@ use crate::habit::habit_in;
 use crate::operand::instruction_words;
 use crate::remark::{Remark, help_of};
 use crate::sentence::{Sentence, Word, told};
-use crate::suggestion::lowercase_suggestion;
+use notes::lowercase_suggestion;
 use std::alloc::{AllocError, Global};
 use texts::is_name;
 

@@ -1,20 +1,22 @@
 //! Warnings of boards and of runs.
 
-ghost use Rattle.std.specs.Prelude.{length, option_map, string_bytes, All, IfOk};
+ghost use Rattle.std.specs.Prelude.{length, option_map, All, IfOk};
 ghost use Rattle.diagnostics.specs.Boards.{board_lines, IsBoardWarning};
 ghost use Rattle.diagnostics.specs.ProgramPlaces.{IsWarningAt};
-ghost use Rattle.diagnostics.specs.Warnings.{HasEachDoubt, IsWarningOf};
+ghost use Rattle.diagnostics.specs.Warnings.{HasEachLint, IsWarningOf};
 
 use crate::board_warning::board_warnings;
 use crate::cause::Cause;
 use crate::detail::instr_cause;
-use crate::note::warning_of;
-use crate::refusal::{Refusal, blaming};
+use crate::note::warning_note;
+use crate::refusal::{Refusal, blaming, page_of};
 use crate::remark::Remark;
 use board::Board;
 use facts::{Row, Rule};
+use notes::Note;
+use run_monitor::{Breach, Reached};
 use seq_program::Program;
-use session::{Breach, Reached, Seen, place_line, section_of};
+use session::{Seen, place_line, section_of};
 use std::alloc::{AllocError, Global};
 
 /// What breaks a rule, in a sentence.
@@ -41,7 +43,7 @@ fn cause_of(
     row: &Row,
 ) -> Result<Cause, AllocError> {
     match program.at(breach.place) {
-        Some(instr) => instr_cause(alloc, board, instr, row, breach.rule),
+        Some(instr) => instr_cause(alloc, board, instr, row),
         None => Ok(Cause::none()),
     }
 }
@@ -69,21 +71,19 @@ fn breach_warning(
     program: &Program,
     breach: Breach,
     row: &Row,
-) -> Result<String, AllocError>
-    ensures { IfOk result (λ note. IsWarningAt text.now breach.place (string_bytes note)) }
+) -> Result<Note, AllocError>
+    ensures { IfOk result (IsWarningAt text.now breach.place) }
 {
-    let section = section_of(alloc, text, 1)?;
-    let section = match &section {
-        Some(section) => section.as_str(),
-        None => "",
-    };
-    let number = place_line(alloc, section, breach.place)?.unwrap_or(1);
+    let section = section_of(alloc, text, 1)?.unwrap_or(String::new(alloc));
+    let number = place_line(alloc, &section, breach.place)?.unwrap_or(1);
     let remark = remark_on(alloc, board, program, breach, row)?;
-    warning_of(alloc, "%program", section, number, &remark)
+    let note = warning_note(alloc, "%program", &section, number, remark)?;
+    let page = page_of(Refusal::Breaks(breach.rule));
+    Ok(Note { page, ..note })
 }
 
 /// The warning of a run.
-fn run_warning(alloc: Global, text: &str, seen: &Seen) -> Result<Option<String>, AllocError>
+fn run_warning(alloc: Global, text: &str, seen: &Seen) -> Result<Option<Note>, AllocError>
     ensures { IfOk result
         (IsWarningOf text.now (option_map (λ x. x.breach) seen.now.found)) }
 {
@@ -101,9 +101,9 @@ fn run_warning(alloc: Global, text: &str, seen: &Seen) -> Result<Option<String>,
 #[derive(Debug, Drop)]
 pub struct Warnings {
     /// What of a board may be meant otherwise.
-    pub of_board: Vec<String>,
+    pub of_board: Vec<Note>,
     /// The first step of a run that breaks a rule.
-    pub of_run: Option<String>,
+    pub of_run: Option<Note>,
 }
 
 impl Warnings {
@@ -136,8 +136,8 @@ impl Warnings {
 pub fn warnings_on(alloc: Global, text: &str, seen: &Seen) -> Result<Warnings, AllocError>
     ensures lines { IfOk result
         (λ warnings. All (IsBoardWarning (board_lines text.now)) warnings.of_board.items) }
-    ensures doubts { IfOk result (λ warnings.
-        HasEachDoubt seen.now.board seen.now.program (length warnings.of_board.items)) }
+    ensures lints { IfOk result (λ warnings.
+        HasEachLint seen.now.board seen.now.program (length warnings.of_board.items)) }
     ensures run { IfOk result (λ warnings. IsWarningOf text.now
         (option_map (λ x. x.breach) seen.now.found) warnings.of_run) }
 {

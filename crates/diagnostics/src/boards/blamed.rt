@@ -1,17 +1,18 @@
 //! The table of a board file that has its fault.
 
 use crate::boards::describe::name_of;
-use crate::boards::draft::{Draft, Site};
-use crate::boards::kind::Kind;
-use crate::sentence::Word;
+use crate::boards::draft::{Draft, items_at};
+use crate::boards::key_words::holds;
+use crate::sentence::{Sentence, Word};
+use board::{Key, Place};
 use std::alloc::{AllocError, Global};
-use toml::Table;
+use toml::{Table, Value};
 
 /// A table that has the fault of its file, and what it is called.
 #[derive(Drop)]
 pub(crate) struct Blamed<'a> {
     pub draft: &'a Draft<'a>,
-    pub site: Site,
+    pub place: Place,
     pub table: &'a Table,
     name: String,
 }
@@ -20,14 +21,14 @@ impl<'a> Blamed<'a> {
     pub(crate) fn new(
         alloc: Global,
         draft: &'a Draft<'a>,
-        site: Site,
+        place: Place,
         table: &'a Table,
     ) -> Result<Blamed<'a>, AllocError> {
         Ok(Blamed {
             draft,
-            site,
+            place,
             table,
-            name: name_of(alloc, draft, site)?,
+            name: name_of(alloc, draft, place)?,
         })
     }
 
@@ -36,12 +37,24 @@ impl<'a> Blamed<'a> {
         Word::Text(&self.name)
     }
 
-    pub(crate) fn kind(&self) -> Kind {
-        self.site.kind()
+    /// What stands at a key of the table.
+    pub(crate) fn value(&self, key: Key) -> Option<&'a Value> {
+        self.table.get(key.name())
     }
 
     /// The text at a key of the table, empty where there is none.
-    pub(crate) fn text(&self, key: &str) -> &'a str {
-        self.draft.text(self.site, key).unwrap_or("")
+    pub(crate) fn text(&self, key: Key) -> &'a str {
+        self.draft.text(self.place, key.name()).unwrap_or("")
+    }
+
+    /// An item of the list at a key of the table.
+    pub(crate) fn item(&self, key: Key, index: usize) -> Option<&'a Value> {
+        items_at(self.table, key.name()).get(index)
+    }
+
+    /// What stands at a key of such tables, as help.
+    pub(crate) fn key_help(&self, key: Key) -> Option<Sentence<'static>> {
+        let holds = Word::Text(holds(self.place, key)?);
+        Some(Sentence::two("\"{}\" is {}", Word::Text(key.name()), holds))
     }
 }

@@ -1,8 +1,8 @@
 //! Tables and values of a board file in messages.
 
-use crate::boards::document::put;
-use crate::boards::draft::{Draft, Site};
-use crate::quote::{Quoted, beginning_of};
+use crate::boards::draft::Draft;
+use board::Place;
+use notes::{Quoted, beginning_of};
 use std::alloc::{AllocError, Global};
 use toml::ser::Error;
 use toml::{Table, Value};
@@ -27,11 +27,11 @@ fn named(
 }
 
 /// What a target or a rail is called.
-fn simple_name(alloc: Global, draft: &Draft<'_>, site: Site) -> Result<String, AllocError> {
-    let name = draft.text(site, "name");
-    match site {
-        Site::Target(index) => named(alloc, "target", name, index),
-        Site::Rail(index) => named(alloc, "rail", name, index),
+fn simple_name(alloc: Global, draft: &Draft<'_>, place: Place) -> Result<String, AllocError> {
+    let name = draft.text(place, "name");
+    match place {
+        Place::Target(index) => named(alloc, "target", name, index),
+        Place::Rail(index) => named(alloc, "rail", name, index),
         _ => String::from_str(alloc, "the board"),
     }
 }
@@ -43,23 +43,28 @@ fn entry_name(
     target: usize,
     entry: usize,
 ) -> Result<String, AllocError> {
-    let target = simple_name(alloc, draft, Site::Target(target))?;
+    let target = simple_name(alloc, draft, Place::Target(target))?;
     let number = entry.saturating_add(1);
     format!(in alloc; "entry {number} of {target}")
 }
 
 /// What a table is called.
-pub(crate) fn name_of(alloc: Global, draft: &Draft<'_>, site: Site) -> Result<String, AllocError> {
-    match site {
-        Site::Entry { target, entry } => entry_name(alloc, draft, target, entry),
-        _ => simple_name(alloc, draft, site),
+pub(crate) fn name_of(
+    alloc: Global,
+    draft: &Draft<'_>,
+    place: Place,
+) -> Result<String, AllocError> {
+    match place {
+        Place::Entry { target, entry } => entry_name(alloc, draft, target, entry),
+        _ => simple_name(alloc, draft, place),
     }
 }
 
 /// A value as TOML has it, on one line.
 fn printed(alloc: Global, value: &Value) -> Result<Option<String>, AllocError> {
     let mut table = Table::new(alloc);
-    put(alloc, &mut table, "v", value.clone()?)?;
+    let key = String::from_str(alloc, "v")?;
+    table.insert(key, value.clone()?)?;
     let text = match toml::table_to_string(alloc, &table) {
         Ok(text) => text,
         Err(Error::DateInvalid) => return Ok(None),

@@ -1,30 +1,8 @@
 //! A board file that has a fault, and its tables.
 
-use crate::boards::document::items_at;
-use crate::boards::kind::Kind;
-use board::BoardFault;
+use board::{BoardFault, Place};
 use std::alloc::{AllocError, Global};
 use toml::{Table, Value};
-
-/// A table of a board file. Targets, rails and the entries of a target are counted from 0.
-#[derive(Clone, Copy, PartialEq, Eq)]
-pub(crate) enum Site {
-    Board,
-    Target(usize),
-    Entry { target: usize, entry: usize },
-    Rail(usize),
-}
-
-impl Site {
-    pub(crate) fn kind(self) -> Kind {
-        match self {
-            Site::Board => Kind::Board,
-            Site::Target(_) => Kind::Target,
-            Site::Entry { .. } => Kind::Entry,
-            Site::Rail(_) => Kind::Rail,
-        }
-    }
-}
 
 /// A board file with its fault.
 #[derive(Drop)]
@@ -43,6 +21,14 @@ pub(crate) fn lines_of(alloc: Global, text: &str) -> Result<Vec<&str>, AllocErro
         lines.push(line)?;
     }
     Ok(lines)
+}
+
+/// The items of the list at a key, none where there is no list.
+pub(crate) fn items_at<'a>(table: &'a Table, key: &str) -> &'a [Value] {
+    match table.get(key) {
+        Some(Value::Array(items)) => items.as_slice(),
+        _ => &[],
+    }
 }
 
 fn table_in(items: &[Value], index: usize) -> Option<&Table> {
@@ -66,25 +52,25 @@ impl<'a> Draft<'a> {
     }
 
     /// The table that stands there.
-    pub(crate) fn table(&self, site: Site) -> Option<&'a Table> {
-        match site {
-            Site::Board => Some(self.tree),
-            Site::Target(index) => table_in(self.targets, index),
-            Site::Entry { target, entry } => {
+    pub(crate) fn table(&self, place: Place) -> Option<&'a Table> {
+        match place {
+            Place::Board => Some(self.tree),
+            Place::Target(index) => table_in(self.targets, index),
+            Place::Entry { target, entry } => {
                 let target = table_in(self.targets, target)?;
                 table_in(items_at(target, "allow"), entry)
             }
-            Site::Rail(index) => table_in(self.rails, index),
+            Place::Rail(index) => table_in(self.rails, index),
         }
     }
 
     /// What stands at a key of that table.
-    pub(crate) fn value(&self, site: Site, key: &str) -> Option<&'a Value> {
-        self.table(site)?.get(key)
+    pub(crate) fn value(&self, place: Place, key: &str) -> Option<&'a Value> {
+        self.table(place)?.get(key)
     }
 
     /// The text at a key of that table.
-    pub(crate) fn text(&self, site: Site, key: &str) -> Option<&'a str> {
-        self.value(site, key)?.as_str()
+    pub(crate) fn text(&self, place: Place, key: &str) -> Option<&'a str> {
+        self.value(place, key)?.as_str()
     }
 }

@@ -1,144 +1,147 @@
 //! What is found out about the fault of a board file.
 
-use crate::boards::blame::blamed_key;
 use crate::boards::blamed::Blamed;
-use crate::boards::draft::{Draft, Site};
-use crate::boards::foreign::foreign_remark;
-use crate::boards::keys::{bad_key, bad_value, key_help, missing_key};
-use crate::boards::locate::site_of;
+use crate::boards::draft::Draft;
+use crate::boards::foreign::{foreign_remark, too_many as too_many_foreign};
+use crate::boards::keys::{bad_item, bad_sort, bad_value, missing_key, other_key};
 use crate::boards::scan::number_of;
 use crate::boards::twice::{same_address, same_name};
-use crate::boards::values::{bad_address, bad_range, bad_start};
+use crate::boards::values::{bad_address, bad_range, bad_start, no_start};
 use crate::boards::words::{
     bad_page, self_need, unknown_command, unknown_form, unknown_need, unknown_target,
 };
 use crate::remark::Remark;
-use board::BoardFault;
+use board::{At, FaultKind, Key, Place, Site};
 use std::alloc::{AllocError, Global};
-use toml::Value;
+use toml::{Table, Value};
 
-/// A line of a board file, and what is said of it.
+/// A line of a board file, and what is said of it; and what stands in the line before the word that
+/// it is about, and that word, where these are known.
 #[derive(Drop)]
-pub(crate) struct Finding {
+pub(crate) struct Finding<'a> {
     pub number: usize,
     pub remark: Remark,
+    pub at: Option<(&'a str, &'a str)>,
 }
 
 /// What is said of a fault of which no more is known.
-fn bare(alloc: Global, fault: BoardFault) -> Result<Remark, AllocError> {
-    Remark::plain(alloc, &format!(in alloc; "{fault}")?)
-}
-
-/// A fault that isn't looked for.
-pub(crate) fn unsearched(alloc: Global, fault: BoardFault) -> Result<Finding, AllocError> {
-    Ok(Finding {
-        number: 1,
-        remark: bare(alloc, fault)?,
-    })
+fn bare(alloc: Global, kind: FaultKind) -> Result<Remark, AllocError> {
+    Remark::plain(alloc, &format!(in alloc; "{kind}")?)
 }
 
 /// What is said of a board with too many tables.
-fn too_many(alloc: Global, site: Site) -> Result<Remark, AllocError> {
+fn too_many(alloc: Global, place: Place) -> Result<Remark, AllocError> {
     Remark::plain(
         alloc,
-        match site {
-            Site::Rail(_) => "a board has at most 64 rails, and this is one more",
+        match place {
+            Place::Rail(_) => "a board has at most 64 rails, and this is one more",
             _ => "a board has at most 16 targets, and this is one more",
         },
     )
 }
 
-/// What is said of a table, where no key is to blame.
+/// What is said of a table as a whole.
 fn table_remark(alloc: Global, blamed: &Blamed<'_>) -> Result<Remark, AllocError> {
-    match blamed.draft.fault {
-        BoardFault::MissingKey => missing_key(alloc, blamed),
-        BoardFault::SameName => same_name(alloc, blamed),
-        BoardFault::TooMany => too_many(alloc, blamed.site),
-        fault => bare(alloc, fault),
+    match blamed.draft.fault.kind {
+        FaultKind::SameName => same_name(alloc, blamed),
+        FaultKind::TooMany => too_many(alloc, blamed.place),
+        kind => bare(alloc, kind),
     }
 }
 
-/// What is said of the target or the page of a rail.
-fn rail_remark(
+/// What is said of the value at a key.
+fn value_remark(
     alloc: Global,
     blamed: &Blamed<'_>,
-    key: &str,
+    key: Key,
     value: &Value,
 ) -> Result<Remark, AllocError> {
-    match key {
-        "target" => unknown_target(alloc, blamed),
-        _ => bad_page(alloc, blamed, value),
+    match (blamed.draft.fault.kind, key) {
+        (FaultKind::BadKey, _) => bad_sort(alloc, blamed, key, value),
+        (FaultKind::TooMany, Key::Foreign) => too_many_foreign(alloc, blamed),
+        (FaultKind::SameName, _) => same_name(alloc, blamed),
+        (FaultKind::BadAddress, _) => bad_address(alloc, blamed, value),
+        (FaultKind::SameAddress, _) => same_address(alloc, blamed, value),
+        (FaultKind::BadStart, _) => no_start(alloc, blamed, key),
+        (FaultKind::BadRange, _) => bad_range(alloc, blamed, key, value),
+        (FaultKind::UnknownCommand, Key::Form) => unknown_form(alloc, blamed),
+        (FaultKind::UnknownCommand, _) => unknown_command(alloc, blamed),
+        (FaultKind::BadRail, Key::Target) => unknown_target(alloc, blamed),
+        (FaultKind::BadRail, _) => bad_page(alloc, blamed, value),
+        _ => bad_value(alloc, blamed, key, value, blamed.key_help(key)),
     }
 }
 
-/// What is said of the form or the command of an entry.
-fn entry_remark(alloc: Global, blamed: &Blamed<'_>, key: &str) -> Result<Remark, AllocError> {
-    match key {
-        "form" => unknown_form(alloc, blamed),
-        _ => unknown_command(alloc, blamed),
+/// What is said of a key, or of what stands there.
+fn key_remark(alloc: Global, blamed: &Blamed<'_>, key: Key) -> Result<Remark, AllocError> {
+    match blamed.value(key) {
+        _ if blamed.draft.fault.kind == FaultKind::MissingKey => missing_key(alloc, blamed, key),
+        Some(value) => value_remark(alloc, blamed, key, value),
+        None => bare(alloc, blamed.draft.fault.kind),
     }
 }
 
-/// What is said of a range.
-fn range_remark(
+/// What is said of an item of the list at a key.
+fn item_remark(
     alloc: Global,
     blamed: &Blamed<'_>,
-    key: &str,
-    value: &Value,
+    key: Key,
+    item: &Value,
 ) -> Result<Remark, AllocError> {
-    match key {
-        "values" | "length" => bad_range(alloc, blamed, key, value),
-        _ => bad_value(alloc, blamed, key, value, key_help(blamed.kind(), key)),
+    match (blamed.draft.fault.kind, key) {
+        (FaultKind::BadStart, _) => bad_start(alloc, blamed, key, item),
+        (FaultKind::UnknownNeed, _) => unknown_need(alloc, blamed, item),
+        (FaultKind::SelfNeed, _) => self_need(alloc, blamed),
+        (FaultKind::BadAddress | FaultKind::SameAddress, _) => {
+            foreign_remark(alloc, blamed, item)
+        }
+        _ => bad_item(alloc, blamed, key, item),
     }
 }
 
-/// What is said of what stands at a key of a table.
-fn key_remark(
-    alloc: Global,
-    blamed: &Blamed<'_>,
-    key: &str,
-    value: &Value,
-) -> Result<Remark, AllocError> {
-    match blamed.draft.fault {
-        BoardFault::BadKey => bad_key(alloc, blamed, key),
-        _ if key == "foreign" => foreign_remark(alloc, blamed),
-        BoardFault::SameName => same_name(alloc, blamed),
-        BoardFault::BadAddress => bad_address(alloc, blamed, value),
-        BoardFault::SameAddress => same_address(alloc, blamed, value),
-        BoardFault::BadStart => bad_start(alloc, blamed, key),
-        BoardFault::UnknownCommand => entry_remark(alloc, blamed, key),
-        BoardFault::UnknownNeed => unknown_need(alloc, blamed),
-        BoardFault::SelfNeed => self_need(alloc, blamed),
-        BoardFault::BadRail => rail_remark(alloc, blamed, key, value),
-        _ => range_remark(alloc, blamed, key, value),
+/// What is said of what has the fault.
+fn remark_at(alloc: Global, blamed: &Blamed<'_>, at: At) -> Result<Remark, AllocError> {
+    match at {
+        At::Table => table_remark(alloc, blamed),
+        At::Key(key) => key_remark(alloc, blamed, key),
+        At::Item(key, index) => match blamed.item(key, index) {
+            Some(item) => item_remark(alloc, blamed, key, item),
+            None => bare(alloc, blamed.draft.fault.kind),
+        },
+        At::Unknown(index) => other_key(alloc, blamed, index),
     }
 }
 
-/// What is said of a table, or of the key that is to blame.
-fn blamed_remark(
-    alloc: Global,
-    blamed: &Blamed<'_>,
-    key: Option<&str>,
-) -> Result<Remark, AllocError> {
-    let Some(key) = key else {
-        return table_remark(alloc, blamed);
-    };
-    match blamed.table.get(key) {
-        Some(value) => key_remark(alloc, blamed, key, value),
-        None => bare(alloc, blamed.draft.fault),
+/// The name of the key that has the fault, if the table has it.
+fn key_at(table: &Table, at: At) -> Option<&str> {
+    match at {
+        At::Table => None,
+        At::Key(key) | At::Item(key, _) => {
+            let name = key.name();
+            table.get(name)?;
+            Some(name)
+        }
+        At::Unknown(index) => match table.keys().nth(index) {
+            Some(key) => Some(key),
+            None => None,
+        },
     }
 }
 
 /// What is said of the fault of a file that is a TOML document, and of which line.
-pub(crate) fn finding_in(alloc: Global, draft: &Draft<'_>) -> Result<Finding, AllocError> {
-    let site = site_of(alloc, draft)?;
-    let Some(table) = draft.table(site) else {
-        return unsearched(alloc, draft.fault);
+pub(crate) fn finding_in(alloc: Global, draft: &Draft<'_>) -> Result<Finding<'static>, AllocError> {
+    let Site { table: place, at } = draft.fault.site;
+    let Some(table) = draft.table(place) else {
+        return Ok(Finding {
+            number: 1,
+            remark: bare(alloc, draft.fault.kind)?,
+            at: None,
+        });
     };
-    let key = blamed_key(alloc, draft, site, table)?;
-    let blamed = Blamed::new(alloc, draft, site, table)?;
+    let blamed = Blamed::new(alloc, draft, place, table)?;
     Ok(Finding {
-        number: number_of(&draft.lines, site, key),
-        remark: blamed_remark(alloc, &blamed, key)?,
+        number: number_of(&draft.lines, place, key_at(table, at)),
+        remark: remark_at(alloc, &blamed, at)?,
+        at: None,
     })
 }

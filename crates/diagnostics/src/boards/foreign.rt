@@ -1,64 +1,55 @@
 //! Addresses of other controllers that can't be.
 
 use crate::boards::blamed::Blamed;
-use crate::boards::document::{all_without, items_at};
-use crate::boards::keys::key_help;
-use crate::boards::search::{Frame, first_guilty};
+use crate::boards::draft::items_at;
 use crate::remark::Remark;
 use crate::sentence::{Advice, Sentence, Word};
-use board::BoardFault;
+use board::{FaultKind, Key};
 use std::alloc::{AllocError, Global};
 use toml::Value;
 
-/// The first address that can't stand in the list behind those before it.
-fn guilty_address(alloc: Global, frame: Frame<'_>, list: &[Value]) -> Result<u16, AllocError> {
-    let index = first_guilty(alloc, frame, list)?;
-    let address = index.and_then(|index| list.get(index)?.as_integer());
-    Ok(u16::try_from(address.unwrap_or(0)).unwrap_or(0))
-}
-
-/// Whether a list of this address alone has the same fault: so it is one of a target.
-fn is_of_target(alloc: Global, frame: Frame<'_>, address: u16) -> Result<bool, AllocError> {
-    let mut list = Vec::new(alloc);
-    list.push(Value::Integer(i64::from(address)))?;
-    Ok(frame.fault_with(alloc, &list)?.is_some())
+/// Whether a target of the file has an address.
+fn is_of_target(targets: &[Value], address: &Value) -> bool {
+    targets
+        .iter()
+        .any(|target| target.get("address") == Some(address))
 }
 
 /// What is said of an address that stands twice, or is one of a target.
-fn same_address(alloc: Global, frame: Frame<'_>, address: u16) -> Result<Sentence, AllocError> {
-    let hex = Word::Hex(address, 2);
-    Ok(if is_of_target(alloc, frame, address)? {
+fn same_address(blamed: &Blamed<'_>, address: &Value, hex: Word<'static>) -> Sentence<'static> {
+    if is_of_target(blamed.draft.targets, address) {
         Sentence::one(
             "\"foreign\" of the board has the address 0x{} of a target",
             hex,
         )
     } else {
         Sentence::one("\"foreign\" of the board has 0x{} twice", hex)
-    })
+    }
 }
 
-/// What is said of an address of other controllers that can't be, or of too many.
-pub(crate) fn foreign_remark(alloc: Global, blamed: &Blamed<'_>) -> Result<Remark, AllocError> {
-    let targets = all_without(alloc, blamed.draft.targets, "allow")?;
-    let frame = Frame::Foreign(&targets);
-    let list = items_at(blamed.table, "foreign");
-    let message = match blamed.draft.fault {
-        BoardFault::TooMany => Sentence::one(
-            "\"foreign\" of the board has {} addresses",
-            Word::Count(list.len()),
-        ),
-        BoardFault::SameAddress => {
-            let address = guilty_address(alloc, frame, list)?;
-            same_address(alloc, frame, address)?
-        }
-        _ => {
-            let address = guilty_address(alloc, frame, list)?;
-            Sentence::one(
-                "\"foreign\" of the board can't have 0x{}",
-                Word::Hex(address, 2),
-            )
-        }
+/// What is said of an address of other controllers that can't be.
+pub(crate) fn foreign_remark(
+    alloc: Global,
+    blamed: &Blamed<'_>,
+    address: &Value,
+) -> Result<Remark, AllocError> {
+    let number = u16::try_from(address.as_integer().unwrap_or(0)).unwrap_or(0);
+    let hex = Word::Hex(number, 2);
+    let message = match blamed.draft.fault.kind {
+        FaultKind::SameAddress => same_address(blamed, address, hex),
+        _ => Sentence::one("\"foreign\" of the board can't have 0x{}", hex),
     };
-    let help = key_help(blamed.kind(), "foreign");
+    let help = blamed.key_help(Key::Foreign);
+    Advice { message, help }.told(alloc)
+}
+
+/// What is said of too many addresses.
+pub(crate) fn too_many(alloc: Global, blamed: &Blamed<'_>) -> Result<Remark, AllocError> {
+    let list = items_at(blamed.table, "foreign");
+    let message = Sentence::one(
+        "\"foreign\" of the board has {} addresses",
+        Word::Count(list.len()),
+    );
+    let help = blamed.key_help(Key::Foreign);
     Advice { message, help }.told(alloc)
 }

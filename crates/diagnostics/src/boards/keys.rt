@@ -2,38 +2,19 @@
 
 use crate::boards::blamed::Blamed;
 use crate::boards::describe::shown;
-use crate::boards::kind::Kind;
-use crate::quote::listed;
+use crate::boards::key_words::{has_key, key_names};
+use crate::listing::quoted;
 use crate::remark::Remark;
 use crate::sentence::{Advice, Sentence, Word};
-use crate::suggestion::lowercase_suggestion;
+use board::{Key, Place};
+use notes::lowercase_suggestion;
 use std::alloc::{AllocError, Global};
-use toml::{Table, Value};
-
-/// What stands at a key.
-pub(crate) fn key_help(kind: Kind, key: &str) -> Option<Sentence<'_>> {
-    let holds = Word::Text(kind.holds(key)?);
-    Some(Sentence::two("\"{}\" is {}", Word::Text(key), holds))
-}
-
-/// The first key that a table needs and hasn't.
-fn missing_name(
-    alloc: Global,
-    kind: Kind,
-    table: &Table,
-) -> Result<Option<&'static str>, AllocError> {
-    for name in kind.key_names(alloc)? {
-        if table.get(name).is_none() {
-            return Ok(Some(name));
-        }
-    }
-    Ok(None)
-}
+use toml::Value;
 
 /// What is said of a board without targets.
 fn no_target(alloc: Global) -> Result<Remark, AllocError> {
-    let names = Kind::Target.key_names(alloc)?;
-    let names = listed(alloc, &names)?;
+    let names = key_names(alloc, Place::Target(0))?;
+    let names = quoted(alloc, &names)?;
     let advice = Advice {
         message: Sentence::plain("the board has no target"),
         help: Some(Sentence::one(
@@ -45,26 +26,30 @@ fn no_target(alloc: Global) -> Result<Remark, AllocError> {
 }
 
 /// What is said of a table without a key that it needs.
-pub(crate) fn missing_key(alloc: Global, blamed: &Blamed<'_>) -> Result<Remark, AllocError> {
-    let kind = blamed.kind();
-    if kind == Kind::Board {
+pub(crate) fn missing_key(
+    alloc: Global,
+    blamed: &Blamed<'_>,
+    key: Key,
+) -> Result<Remark, AllocError> {
+    if blamed.place == Place::Board {
         return no_target(alloc);
     }
-    let Some(key) = missing_name(alloc, kind, blamed.table)? else {
-        return Remark::plain(alloc, "a key is missing");
-    };
     let advice = Advice {
-        message: Sentence::two("{} has no key \"{}\"", blamed.word(), Word::Text(key)),
-        help: key_help(kind, key),
+        message: Sentence::two(
+            "{} has no key \"{}\"",
+            blamed.word(),
+            Word::Text(key.name()),
+        ),
+        help: blamed.key_help(key),
     };
     advice.told(alloc)
 }
 
 /// What is said of a key that no table of its kind has.
 fn unknown_key(alloc: Global, blamed: &Blamed<'_>, key: &str) -> Result<Remark, AllocError> {
-    let names = blamed.kind().key_names(alloc)?;
+    let names = key_names(alloc, blamed.place)?;
     let help = lowercase_suggestion(alloc, key, &names)?;
-    let names = listed(alloc, &names)?;
+    let names = quoted(alloc, &names)?;
     let message = Sentence::three(
         "unknown key {} of {}; its keys are {}",
         Word::Name(key),
@@ -80,15 +65,30 @@ fn key_of_other_form<'a>(blamed: &'a Blamed<'_>, key: &'a str) -> Sentence<'a> {
         "{} can't have \"{}\": {} has none",
         blamed.word(),
         Word::Text(key),
-        Word::Name(blamed.text("form")),
+        Word::Name(blamed.text(Key::Form)),
     )
+}
+
+/// What is said of a key that a table can't have: none of its kind has it, or none of its form.
+pub(crate) fn other_key(
+    alloc: Global,
+    blamed: &Blamed<'_>,
+    index: usize,
+) -> Result<Remark, AllocError> {
+    match blamed.table.keys().nth(index) {
+        Some(key) if has_key(blamed.place, key) => {
+            key_of_other_form(blamed, key).helped_by(alloc, None)
+        }
+        Some(key) => unknown_key(alloc, blamed, key),
+        None => Remark::plain(alloc, "a bad key"),
+    }
 }
 
 /// What is said of a key with this value, which can't stand there.
 pub(crate) fn bad_value(
     alloc: Global,
     blamed: &Blamed<'_>,
-    key: &str,
+    key: Key,
     value: &Value,
     help: Option<Sentence>,
 ) -> Result<Remark, AllocError> {
@@ -96,7 +96,7 @@ pub(crate) fn bad_value(
     let advice = Advice {
         message: Sentence::three(
             "\"{}\" of {} can't be {}",
-            Word::Text(key),
+            Word::Text(key.name()),
             blamed.word(),
             Word::Text(&value),
         ),
@@ -106,10 +106,10 @@ pub(crate) fn bad_value(
 }
 
 /// What is said of a key at which something of another sort stands.
-fn bad_sort(
+pub(crate) fn bad_sort(
     alloc: Global,
     blamed: &Blamed<'_>,
-    key: &str,
+    key: Key,
     value: &Value,
 ) -> Result<Remark, AllocError> {
     let sort = value.type_str();
@@ -117,27 +117,34 @@ fn bad_sort(
     let advice = Advice {
         message: Sentence::four(
             "\"{}\" of {} can't be the {} {}",
-            Word::Text(key),
+            Word::Text(key.name()),
             blamed.word(),
             Word::Text(sort),
             Word::Text(&value),
         ),
-        help: key_help(blamed.kind(), key),
+        help: blamed.key_help(key),
     };
     advice.told(alloc)
 }
 
-/// What is said of a key that can't be, or not with what stands there.
-pub(crate) fn bad_key(alloc: Global, blamed: &Blamed<'_>, key: &str) -> Result<Remark, AllocError> {
-    let kind = blamed.kind();
-    let Some(value) = blamed.table.get(key) else {
-        return Remark::plain(alloc, "a bad key");
+/// What is said of a list with an item of another sort.
+pub(crate) fn bad_item(
+    alloc: Global,
+    blamed: &Blamed<'_>,
+    key: Key,
+    item: &Value,
+) -> Result<Remark, AllocError> {
+    let sort = item.type_str();
+    let item = shown(alloc, item)?;
+    let advice = Advice {
+        message: Sentence::four(
+            "\"{}\" of {} can't have the {} {} in it",
+            Word::Text(key.name()),
+            blamed.word(),
+            Word::Text(sort),
+            Word::Text(&item),
+        ),
+        help: blamed.key_help(key),
     };
-    if kind.holds(key).is_none() {
-        return unknown_key(alloc, blamed, key);
-    }
-    if kind.is_bad(alloc, blamed.table, key)? {
-        return bad_sort(alloc, blamed, key, value);
-    }
-    key_of_other_form(blamed, key).helped_by(alloc, None)
+    advice.told(alloc)
 }

@@ -1,29 +1,30 @@
 //! Texts that are no TOML document.
 
 use crate::boards::finding::Finding;
-use crate::lines::line_at;
 use crate::remark::{Remark, help_of};
+use notes::line_at;
 use std::alloc::{AllocError, Global};
+use texts::cut_at_space;
 use toml::de::Error;
 
-/// The line and the column behind a text, both counted from 1. A column counts characters.
-#[derive(Clone, Copy)]
-struct Position {
-    line: usize,
-    column: usize,
+/// The number of the line behind a text, counted from 1.
+fn line_after(text: &str) -> usize {
+    let feeds = text.bytes().filter(|byte| *byte == b'\n').count();
+    feeds.saturating_add(1)
 }
 
-fn position_after(text: &str) -> Position {
-    let mut position = Position { line: 1, column: 1 };
-    for character in text.chars() {
-        if character == '\n' {
-            position.line = position.line.saturating_add(1);
-            position.column = 1;
-        } else {
-            position.column = position.column.saturating_add(1);
-        }
+/// What stands in a line of a text before a place, and the word there.
+fn word_at(text: &str, start: usize) -> Option<(&str, &str)> {
+    let above = text.get(..start)?;
+    let before = match above.rsplit_once('\n') {
+        Some((_, before)) => before,
+        None => above,
+    };
+    let line = line_at(text.get(start..)?, 1)?;
+    match cut_at_space(line) {
+        Some((word, _)) => Some((before, word)),
+        None => Some((before, line)),
     }
-    position
 }
 
 /// What may help on a line that TOML refuses.
@@ -36,29 +37,35 @@ fn line_help(line: &str) -> Option<&'static str> {
 }
 
 /// What is said of a text that ends too early: its last line is told.
-fn cut_short(alloc: Global, number: usize, message: &str) -> Result<Finding, AllocError> {
+fn cut_short(alloc: Global, number: usize, message: &str) -> Result<Finding<'static>, AllocError> {
     let message = format!(in alloc; "no TOML document: {message}, behind the last line")?;
     Ok(Finding {
         number: number.saturating_sub(1),
         remark: Remark::new(message, None),
+        at: None,
     })
 }
 
 /// What is said of a text that TOML refuses, at the place that it tells.
-pub(crate) fn not_toml(alloc: Global, text: &str, error: &Error) -> Result<Finding, AllocError> {
+pub(crate) fn not_toml<'a>(
+    alloc: Global,
+    text: &'a str,
+    error: &Error,
+) -> Result<Finding<'a>, AllocError> {
     let start = match error.span() {
         Some(span) => span.start,
         None => 0,
     };
-    let Position { line, column } = position_after(text.get(..start).unwrap_or(""));
+    let line = line_after(text.get(..start).unwrap_or(""));
     let message = error.message();
     let Some(refused) = line_at(text, line) else {
         return cut_short(alloc, line, message);
     };
-    let message = format!(in alloc; "no TOML document: {message}, in column {column}")?;
+    let message = format!(in alloc; "no TOML document: {message}")?;
     let help = help_of(alloc, line_help(refused))?;
     Ok(Finding {
         number: line,
         remark: Remark::new(message, help),
+        at: word_at(text, start),
     })
 }

@@ -1,7 +1,7 @@
 //! The lines of a board file at which its tables and keys stand. They are found by their looks, not
 //! by TOML's rules: where a file is written in another way, a line above is named.
 
-use crate::boards::draft::Site;
+use board::Place;
 
 /// Which quotation mark a text began with, while it lasts.
 #[derive(Clone, Copy)]
@@ -159,12 +159,12 @@ fn item_line(lines: &[&str], name: &str, index: usize) -> Option<usize> {
 }
 
 /// The place of a table, or of what it stands in.
-fn site_line(lines: &[&str], site: Site) -> Option<usize> {
-    match site {
-        Site::Board => Some(0),
-        Site::Target(index) => item_line(lines, "target", index),
-        Site::Rail(index) => item_line(lines, "rail", index),
-        Site::Entry { target, entry } => {
+fn table_line(lines: &[&str], table: Place) -> Option<usize> {
+    match table {
+        Place::Board => Some(0),
+        Place::Target(index) => item_line(lines, "target", index),
+        Place::Rail(index) => item_line(lines, "rail", index),
+        Place::Entry { target, entry } => {
             let above = item_line(lines, "target", target)?;
             let within = entry_line(from_place(lines, above), entry).unwrap_or(0);
             Some(above.saturating_add(within))
@@ -174,18 +174,18 @@ fn site_line(lines: &[&str], site: Site) -> Option<usize> {
 
 /// The number of the line of a table, or of a key in it, counted from 1. Where that isn't found, it
 /// is a line above.
-pub(crate) fn number_of(lines: &[&str], site: Site, key: Option<&str>) -> usize {
-    let Some(place) = site_line(lines, site) else {
+pub(crate) fn number_of(lines: &[&str], table: Place, key: Option<&str>) -> usize {
+    let Some(above) = table_line(lines, table) else {
         return 1;
     };
     let Some(key) = key else {
-        return place.saturating_add(1);
+        return above.saturating_add(1);
     };
-    match key_line(from_place(lines, place), key) {
-        Some(within) => place.saturating_add(within).saturating_add(1),
+    match key_line(from_place(lines, above), key) {
+        Some(within) => above.saturating_add(within).saturating_add(1),
         None => match header_line(lines, key, 0) {
-            Some(header) if site == Site::Board => header.saturating_add(1),
-            _ => place.saturating_add(1),
+            Some(header) if table == Place::Board => header.saturating_add(1),
+            _ => above.saturating_add(1),
         },
     }
 }

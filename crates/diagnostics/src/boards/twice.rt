@@ -2,20 +2,21 @@
 
 use crate::boards::blamed::Blamed;
 use crate::boards::describe::name_of;
-use crate::boards::draft::{Draft, Site};
+use crate::boards::draft::Draft;
 use crate::boards::scan::number_of;
 use crate::remark::Remark;
 use crate::sentence::{Sentence, Word};
+use board::{Key, Place};
 use std::alloc::{AllocError, Global};
 use toml::Value;
 
 /// The table of an index in the same list.
-fn sibling(site: Site, index: usize) -> Site {
-    match site {
-        Site::Board => Site::Board,
-        Site::Target(_) => Site::Target(index),
-        Site::Rail(_) => Site::Rail(index),
-        Site::Entry { target, .. } => Site::Entry {
+fn sibling(place: Place, index: usize) -> Place {
+    match place {
+        Place::Board => Place::Board,
+        Place::Target(_) => Place::Target(index),
+        Place::Rail(_) => Place::Rail(index),
+        Place::Entry { target, .. } => Place::Entry {
             target,
             entry: index,
         },
@@ -23,10 +24,10 @@ fn sibling(site: Site, index: usize) -> Site {
 }
 
 /// How many tables stand above a table in its list.
-fn count_above(site: Site) -> usize {
-    match site {
-        Site::Board => 0,
-        Site::Target(index) | Site::Rail(index) | Site::Entry { entry: index, .. } => index,
+fn count_above(place: Place) -> usize {
+    match place {
+        Place::Board => 0,
+        Place::Target(index) | Place::Rail(index) | Place::Entry { entry: index, .. } => index,
     }
 }
 
@@ -39,7 +40,7 @@ fn are_equal(one: Option<&Value>, other: Option<&Value>) -> bool {
 }
 
 /// Whether two tables have the same at these keys.
-fn are_alike(draft: &Draft<'_>, one: Site, other: Site, keys: &[&str]) -> bool {
+fn are_alike(draft: &Draft<'_>, one: Place, other: Place, keys: &[&str]) -> bool {
     for key in keys {
         if !are_equal(draft.value(one, key), draft.value(other, key)) {
             return false;
@@ -49,10 +50,10 @@ fn are_alike(draft: &Draft<'_>, one: Site, other: Site, keys: &[&str]) -> bool {
 }
 
 /// The first table above one in its list that has the same at these keys.
-pub(crate) fn first_alike(draft: &Draft<'_>, site: Site, keys: &[&str]) -> Option<Site> {
-    for index in 0..count_above(site) {
-        let above = sibling(site, index);
-        if are_alike(draft, above, site, keys) {
+pub(crate) fn first_alike(draft: &Draft<'_>, place: Place, keys: &[&str]) -> Option<Place> {
+    for index in 0..count_above(place) {
+        let above = sibling(place, index);
+        if are_alike(draft, above, place, keys) {
             return Some(above);
         }
     }
@@ -63,7 +64,7 @@ pub(crate) fn first_alike(draft: &Draft<'_>, site: Site, keys: &[&str]) -> Optio
 fn place_help(
     alloc: Global,
     draft: &Draft<'_>,
-    other: Site,
+    other: Place,
     key: Option<&str>,
 ) -> Result<String, AllocError> {
     let name = name_of(alloc, draft, other)?;
@@ -78,7 +79,7 @@ fn alike_help(
     keys: &[&str],
     key: Option<&str>,
 ) -> Result<Option<String>, AllocError> {
-    match first_alike(blamed.draft, blamed.site, keys) {
+    match first_alike(blamed.draft, blamed.place, keys) {
         Some(other) => Ok(Some(place_help(alloc, blamed.draft, other, key)?)),
         None => Ok(None),
     }
@@ -86,7 +87,7 @@ fn alike_help(
 
 /// Where a target or a rail above has the same name. It is told by its number.
 fn name_help(alloc: Global, blamed: &Blamed<'_>, sort: &str) -> Result<Option<String>, AllocError> {
-    let Some(other) = first_alike(blamed.draft, blamed.site, &["name"]) else {
+    let Some(other) = first_alike(blamed.draft, blamed.place, &["name"]) else {
         return Ok(None);
     };
     let number = count_above(other).saturating_add(1);
@@ -100,9 +101,9 @@ fn same_word(alloc: Global, blamed: &Blamed<'_>, sort: &'static str) -> Result<R
     Sentence::four(
         "two {}s have the name {}: this is {} {}",
         Word::Text(sort),
-        Word::Name(blamed.text("name")),
+        Word::Name(blamed.text(Key::Name)),
         Word::Text(sort),
-        Word::Count(count_above(blamed.site).saturating_add(1)),
+        Word::Count(count_above(blamed.place).saturating_add(1)),
     )
     .helped_by(alloc, help)
 }
@@ -110,13 +111,13 @@ fn same_word(alloc: Global, blamed: &Blamed<'_>, sort: &'static str) -> Result<R
 /// What is said of an entry whose form and command stand above.
 fn same_entry(alloc: Global, blamed: &Blamed<'_>) -> Result<Remark, AllocError> {
     let help = alike_help(alloc, blamed, &["form", "command"], None)?;
-    let form = Word::Name(blamed.text("form"));
+    let form = Word::Name(blamed.text(Key::Form));
     let message = match blamed.table.get("command") {
         Some(_) => Sentence::three(
             "{} has {} {}, which stands above",
             blamed.word(),
             form,
-            Word::Name(blamed.text("command")),
+            Word::Name(blamed.text(Key::Command)),
         ),
         None => Sentence::two("{} has {}, which stands above", blamed.word(), form),
     };
@@ -125,9 +126,9 @@ fn same_entry(alloc: Global, blamed: &Blamed<'_>) -> Result<Remark, AllocError> 
 
 /// What is said of a name, or of an entry, that stands above.
 pub(crate) fn same_name(alloc: Global, blamed: &Blamed<'_>) -> Result<Remark, AllocError> {
-    match blamed.site {
-        Site::Target(_) => same_word(alloc, blamed, "target"),
-        Site::Rail(_) => same_word(alloc, blamed, "rail"),
+    match blamed.place {
+        Place::Target(_) => same_word(alloc, blamed, "target"),
+        Place::Rail(_) => same_word(alloc, blamed, "rail"),
         _ => same_entry(alloc, blamed),
     }
 }
@@ -152,13 +153,13 @@ pub(crate) fn same_address(
 pub(crate) fn same_page(
     alloc: Global,
     blamed: &Blamed<'_>,
-    other: Site,
+    other: Place,
 ) -> Result<Remark, AllocError> {
     let help = place_help(alloc, blamed.draft, other, Some("page"))?;
     Sentence::two(
         "{} is on a page of target {} that has a rail",
         blamed.word(),
-        Word::Name(blamed.text("target")),
+        Word::Name(blamed.text(Key::Target)),
     )
     .helped_by(alloc, Some(help))
 }

@@ -1,34 +1,22 @@
 //! Numbers and lists that can't stand at their keys.
 
-use crate::boards::blame::bad_start_value;
 use crate::boards::blamed::Blamed;
 use crate::boards::describe::shown;
-use crate::boards::document::with;
-use crate::boards::keys::{bad_value, key_help};
-use crate::boards::kind::Kind;
+use crate::boards::keys::bad_value;
 use crate::remark::Remark;
 use crate::sentence::{Advice, Sentence, Word};
-use board::BoardFault;
+use board::{Key, full_values, is_target_address};
+use smbus::form_named;
 use std::alloc::{AllocError, Global};
-use toml::{Table, Value};
+use toml::Value;
 
 /// The address whose seven bits stand above a direction bit in the byte that was written.
-fn shifted_address(
-    alloc: Global,
-    target: &Table,
-    value: &Value,
-) -> Result<Option<u16>, AllocError> {
-    let Some(Ok(byte)) = value.as_integer().map(u8::try_from) else {
-        return Ok(None);
-    };
-    if byte < 128 {
-        return Ok(None);
-    }
-    let address = byte / 2;
-    let other = with(alloc, target, "address", Value::Integer(i64::from(address)))?;
-    match Kind::Target.fault_of(alloc, &other)? {
-        Some(BoardFault::BadAddress) => Ok(None),
-        _ => Ok(Some(u16::from(address))),
+fn shifted_address(value: &Value) -> Option<u8> {
+    let byte = u8::try_from(value.as_integer()?).ok()?;
+    if byte >= 128 && is_target_address(byte / 2) {
+        Some(byte / 2)
+    } else {
+        None
     }
 }
 
@@ -38,74 +26,85 @@ pub(crate) fn bad_address(
     blamed: &Blamed<'_>,
     value: &Value,
 ) -> Result<Remark, AllocError> {
-    let help = match shifted_address(alloc, blamed.table, value)? {
+    let help = match shifted_address(value) {
         Some(address) => Some(Sentence::one(
             "without the direction bit, the last of eight, it is 0x{}",
-            Word::Hex(address, 2),
+            Word::Hex(u16::from(address), 2),
         )),
-        None => key_help(Kind::Target, "address"),
+        None => blamed.key_help(Key::Address),
     };
-    bad_value(alloc, blamed, "address", value, help)
+    bad_value(alloc, blamed, Key::Address, value, help)
 }
 
-/// The first start value that can't be, if there is one.
-fn shown_start(alloc: Global, target: &Table, key: &str) -> Result<Option<String>, AllocError> {
-    match bad_start_value(alloc, target, key)? {
-        Some(value) => Ok(Some(shown(alloc, value)?)),
-        None => Ok(None),
-    }
+/// What is said of a list of start values without one.
+pub(crate) fn no_start(alloc: Global, blamed: &Blamed<'_>, key: Key) -> Result<Remark, AllocError> {
+    let advice = Advice {
+        message: Sentence::two(
+            "\"{}\" of {} has no value",
+            Word::Text(key.name()),
+            blamed.word(),
+        ),
+        help: blamed.key_help(key),
+    };
+    advice.told(alloc)
 }
 
-/// What is said of start values that can't be.
+/// What is said of a start value that can't be.
 pub(crate) fn bad_start(
     alloc: Global,
     blamed: &Blamed<'_>,
-    key: &str,
+    key: Key,
+    value: &Value,
 ) -> Result<Remark, AllocError> {
-    let value = shown_start(alloc, blamed.table, key)?;
-    let (key_word, name) = (Word::Text(key), blamed.word());
-    let message = match &value {
-        Some(value) => Sentence::three(
+    let value = shown(alloc, value)?;
+    let advice = Advice {
+        message: Sentence::three(
             "\"{}\" of {} can't have {} among its values",
-            key_word,
-            name,
-            Word::Text(value),
+            Word::Text(key.name()),
+            blamed.word(),
+            Word::Text(&value),
         ),
-        None => Sentence::two("\"{}\" of {} has no value", key_word, name),
+        help: blamed.key_help(key),
     };
-    let help = key_help(Kind::Target, key);
-    Advice { message, help }.told(alloc)
+    advice.told(alloc)
 }
 
-/// Whether an entry's form carries words.
-fn carries_words(alloc: Global, entry: &Table) -> Result<bool, AllocError> {
-    let mut greatest = Vec::new(alloc);
-    greatest.push(Value::Integer(0))?;
-    greatest.push(Value::Integer(65_535))?;
-    let other = with(alloc, entry, "values", Value::Array(greatest))?;
-    Ok(Kind::Entry.fault_of(alloc, &other)?.is_none())
+/// The greatest value that the form of an entry carries.
+fn most_carried(word: &str) -> u16 {
+    match form_named(word) {
+        Some(form) => full_values(form).high,
+        None => u16::MAX,
+    }
 }
 
-/// What is said of a range of an entry that can't be.
+/// What a range of an entry has to be.
+fn range_help<'a>(blamed: &'a Blamed<'_>, key: Key) -> Sentence<'a> {
+    let form = blamed.text(Key::Form);
+    if key == Key::Length {
+        Sentence::one(
+            "{} takes [LOW, HIGH], two numbers from 1 to 255, the first not above the second",
+            Word::Name(form),
+        )
+    } else {
+        Sentence::two(
+            "{} takes [LOW, HIGH], two numbers from 0 to {}, the first not above the second",
+            Word::Name(form),
+            Word::Number(u64::from(most_carried(form))),
+        )
+    }
+}
+
+/// What is said of a range that can't be.
 pub(crate) fn bad_range(
     alloc: Global,
     blamed: &Blamed<'_>,
-    key: &str,
+    key: Key,
     value: &Value,
 ) -> Result<Remark, AllocError> {
-    let form = Word::Name(blamed.text("form"));
-    let help = if key == "length" {
-        Sentence::one(
-            "{} takes [LOW, HIGH], two numbers from 1 to 255, the first not above the second",
-            form,
-        )
-    } else {
-        let carries_words = carries_words(alloc, blamed.table)?;
-        Sentence::two(
-            "{} takes [LOW, HIGH], two numbers from 0 to {}, the first not above the second",
-            form,
-            Word::Number(if carries_words { 65_535 } else { 255 }),
-        )
-    };
-    bad_value(alloc, blamed, key, value, Some(help))
+    match key {
+        Key::Values | Key::Length => {
+            bad_value(alloc, blamed, key, value, Some(range_help(blamed, key)))
+        }
+        _ => bad_value(alloc, blamed, key, value, blamed.key_help(key)),
+    }
 }

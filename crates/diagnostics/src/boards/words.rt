@@ -1,17 +1,16 @@
 //! Words that name nothing: forms, commands, targets and rails.
 
-use crate::boards::blame::bad_need;
 use crate::boards::blamed::Blamed;
 use crate::boards::describe::shown;
-use crate::boards::draft::Site;
 use crate::boards::twice::{first_alike, same_page};
 use crate::form::NAMES;
+use crate::listing::quoted;
 use crate::operand::Operand;
-use crate::quote::listed;
 use crate::remark::Remark;
 use crate::sentence::{Advice, Sentence, Word, told};
-use crate::suggestion::lowercase_suggestion;
 use crate::unknown_command::{command_help, forms_help};
+use board::Key;
+use notes::lowercase_suggestion;
 use pmbus_table::{Command, by_name};
 use smbus::form_named;
 use std::alloc::{AllocError, Global};
@@ -36,14 +35,14 @@ fn names_help(
 
 /// Lists names of a sort.
 fn names_listed(alloc: Global, sort: &str, names: &[&str]) -> Result<Option<String>, AllocError> {
-    let names = listed(alloc, names)?;
+    let names = quoted(alloc, names)?;
     let sentence = Sentence::two("the {} are {}", Word::Text(sort), Word::Text(&names));
     told(alloc, Some(sentence))
 }
 
 /// What is said of an entry whose form isn't known.
 pub(crate) fn unknown_form(alloc: Global, blamed: &Blamed<'_>) -> Result<Remark, AllocError> {
-    let word = blamed.text("form");
+    let word = blamed.text(Key::Form);
     let names = NAMES.as_slice();
     // (the last is that of alert responses, which no entry has)
     let forms = names.get(..12).unwrap_or(names);
@@ -56,7 +55,7 @@ fn other_form<'a>(blamed: &'a Blamed<'_>, command: Command) -> Advice<'a> {
     Advice {
         message: Sentence::three(
             "{} doesn't take \"{}\" in {}",
-            Word::Name(blamed.text("form")),
+            Word::Name(blamed.text(Key::Form)),
             Word::Command(command.code()),
             blamed.word(),
         ),
@@ -66,11 +65,11 @@ fn other_form<'a>(blamed: &'a Blamed<'_>, command: Command) -> Advice<'a> {
 
 /// What is said of an entry whose command isn't known, or doesn't take its form.
 pub(crate) fn unknown_command(alloc: Global, blamed: &Blamed<'_>) -> Result<Remark, AllocError> {
-    let word = blamed.text("command");
+    let word = blamed.text(Key::Command);
     if let Some(command) = by_name(word) {
         return other_form(blamed, command).told(alloc);
     }
-    let help = match form_named(blamed.text("form")) {
+    let help = match form_named(blamed.text(Key::Form)) {
         Some(form) => command_help(alloc, word, Operand::Command(form), MANUFACTURER_RULE)?,
         None => None,
     };
@@ -91,19 +90,13 @@ fn names_of<'a>(alloc: Global, tables: &'a [Value]) -> Result<Vec<&'a str>, Allo
     Ok(names)
 }
 
-/// The need of a rail that isn't there.
-fn missing_need<'a>(alloc: Global, blamed: &Blamed<'a>) -> Result<&'a str, AllocError> {
-    match blamed.site {
-        Site::Rail(index) => {
-            Ok(bad_need(alloc, blamed.draft, index, blamed.table)?.unwrap_or(""))
-        }
-        _ => Ok(""),
-    }
-}
-
 /// What is said of a rail that needs a rail that isn't there.
-pub(crate) fn unknown_need(alloc: Global, blamed: &Blamed<'_>) -> Result<Remark, AllocError> {
-    let word = missing_need(alloc, blamed)?;
+pub(crate) fn unknown_need(
+    alloc: Global,
+    blamed: &Blamed<'_>,
+    need: &Value,
+) -> Result<Remark, AllocError> {
+    let word = need.as_str().unwrap_or("");
     let rails = names_of(alloc, blamed.draft.rails)?;
     let help = names_help(alloc, word, "rails", &rails)?;
     Sentence::two(
@@ -126,7 +119,7 @@ pub(crate) fn self_need(alloc: Global, blamed: &Blamed<'_>) -> Result<Remark, Al
 
 /// What is said of a rail whose target isn't there.
 pub(crate) fn unknown_target(alloc: Global, blamed: &Blamed<'_>) -> Result<Remark, AllocError> {
-    let word = blamed.text("target");
+    let word = blamed.text(Key::Target);
     let targets = names_of(alloc, blamed.draft.targets)?;
     let help = names_help(alloc, word, "targets", &targets)?;
     Sentence::two(
@@ -149,7 +142,7 @@ fn pages_of(targets: &[Value], name: &str) -> Option<u64> {
 
 /// How many pages the target of a rail has.
 fn pages_help<'a>(blamed: &'a Blamed<'_>) -> Option<Sentence<'a>> {
-    let word = blamed.text("target");
+    let word = blamed.text(Key::Target);
     let pages = pages_of(blamed.draft.targets, word)?;
     Some(Sentence::two(
         "the \"pages\" of target \"{}\" is {}, and its first page is 0",
@@ -166,7 +159,7 @@ fn foreign_page(alloc: Global, blamed: &Blamed<'_>, value: &Value) -> Result<Rem
             "{} is on page {}, which target {} hasn't",
             blamed.word(),
             Word::Text(&page),
-            Word::Name(blamed.text("target")),
+            Word::Name(blamed.text(Key::Target)),
         ),
         help: pages_help(blamed),
     };
@@ -179,7 +172,7 @@ pub(crate) fn bad_page(
     blamed: &Blamed<'_>,
     value: &Value,
 ) -> Result<Remark, AllocError> {
-    match first_alike(blamed.draft, blamed.site, &["target", "page"]) {
+    match first_alike(blamed.draft, blamed.place, &["target", "page"]) {
         Some(other) => same_page(alloc, blamed, other),
         None => foreign_page(alloc, blamed, value),
     }

@@ -5,14 +5,14 @@ use Rattle.texts.specs.Words.{lines_by_feed}
 use Rattle.diagnostics.specs.Boards.{IsBoardWarning}
 use Rattle.diagnostics.proofs.board_warning.notes_of.Goals as goal
 
-pub loop-doubt-preserved : goal.loop-doubt-preserved
-loop-doubt-preserved c =
+pub loop-lint-preserved : goal.loop-lint-preserved
+loop-lint-preserved c =
     let lines = lines_by_feed c.args.text.now in
     record {
       lines = subst (All (IsBoardWarning lines)) (sym c.in_ok-push.ensures.items)
-          (All-push (IsBoardWarning lines) c.loop-doubt.notes.items c.in_ok-warning_on.field-0
-          c.loop-doubt.invariant.lines c.in_ok-warning_on.ensures);
+          (All-push (IsBoardWarning lines) c.loop-lint.notes.items c.in_ok-warning_on.field-0
+          c.loop-lint.invariant.lines c.in_ok-warning_on.ensures);
       each = ap (λ notes. length notes) c.in_ok-push.ensures.items
-          ∙ length_push c.loop-doubt.notes.items c.in_ok-warning_on.field-0
-          ∙ ap (λ n. n + 1) c.loop-doubt.invariant.each;
+          ∙ length_push c.loop-lint.notes.items c.in_ok-warning_on.field-0
+          ∙ ap (λ n. n + 1) c.loop-lint.invariant.each;
     }

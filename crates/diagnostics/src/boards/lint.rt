@@ -1,12 +1,11 @@
-//! What is said of a doubt.
+//! What is said of a lint.
 
-use crate::boards::draft::Site;
 use crate::facts_here::{rail_word, target_word};
-use crate::quote::Quoted;
 use crate::remark::Remark;
 use crate::sentence::{Advice, Sentence, Word};
-use board::Board;
-use session::{Doubt, Lack};
+use board::{Board, Place};
+use board_lints::{Lack, Lint};
+use notes::Quoted;
 use std::alloc::{AllocError, Global};
 
 const UNPROTECT: &str =
@@ -39,16 +38,16 @@ const NONE_WINS: &str = "`contentions` says how often others may win in a run, a
 const SAFE: &str =
     "set the highest voltage that is safe, in microvolts, or widen the entry's `values` up to it";
 
-/// The table of a board file that a doubt is about, and its key.
-pub(crate) fn site_of(doubt: &Doubt) -> (Site, &'static str) {
-    match doubt {
-        Doubt::AllPages { target, .. } => (Site::Target(*target), "start_pages"),
-        Doubt::Protected { target, .. } => (Site::Target(*target), "start_protects"),
-        Doubt::Circle(rails) => (Site::Rail(rails.first().copied().unwrap_or(0)), "needs"),
-        Doubt::IdleRail { rail, .. } => (Site::Rail(*rail), "name"),
-        Doubt::LooseLimit { rail, .. } => (Site::Rail(*rail), "limit_uv"),
-        Doubt::NoForeign { .. } => (Site::Board, "contentions"),
-        Doubt::NeverWins { .. } | Doubt::NoContentions => (Site::Board, "foreign"),
+/// The table of a board file that a lint is about, and its key.
+pub(crate) fn site_of(lint: &Lint) -> (Place, &'static str) {
+    match lint {
+        Lint::AllPages { target, .. } => (Place::Target(*target), "start_pages"),
+        Lint::Protected { target, .. } => (Place::Target(*target), "start_protects"),
+        Lint::Circle(rails) => (Place::Rail(rails.first().copied().unwrap_or(0)), "needs"),
+        Lint::IdleRail { rail, .. } => (Place::Rail(*rail), "name"),
+        Lint::LooseLimit { rail, .. } => (Place::Rail(*rail), "limit_uv"),
+        Lint::NoForeign { .. } => (Place::Board, "contentions"),
+        Lint::NeverWins { .. } | Lint::NoContentions => (Place::Board, "foreign"),
     }
 }
 
@@ -167,20 +166,20 @@ fn of_no_contentions() -> Advice<'static> {
     advice(message, NONE_WINS)
 }
 
-/// What is said of a doubt about a board.
-pub(crate) fn remark_of(alloc: Global, board: &Board, doubt: &Doubt) -> Result<Remark, AllocError> {
-    match doubt {
-        Doubt::AllPages { target, read } => of_pages(board, *target, *read).told(alloc),
-        Doubt::Protected {
+/// What is said of a lint of a board.
+pub(crate) fn remark_of(alloc: Global, board: &Board, lint: &Lint) -> Result<Remark, AllocError> {
+    match lint {
+        Lint::AllPages { target, read } => of_pages(board, *target, *read).told(alloc),
+        Lint::Protected {
             target,
             protect,
             written,
         } => of_protect(board, *target, *protect, *written).told(alloc),
-        Doubt::Circle(circle) => of_circle(alloc, board, circle),
-        Doubt::IdleRail { rail, lacks } => of_idle(board, *rail, *lacks).told(alloc),
-        Doubt::LooseLimit { rail, greatest } => of_limit(board, *rail, *greatest).told(alloc),
-        Doubt::NeverWins { address } => of_address(*address).told(alloc),
-        Doubt::NoForeign { contentions } => of_contentions(*contentions).told(alloc),
-        Doubt::NoContentions => of_no_contentions().told(alloc),
+        Lint::Circle(circle) => of_circle(alloc, board, circle),
+        Lint::IdleRail { rail, lacks } => of_idle(board, *rail, *lacks).told(alloc),
+        Lint::LooseLimit { rail, greatest } => of_limit(board, *rail, *greatest).told(alloc),
+        Lint::NeverWins { address } => of_address(*address).told(alloc),
+        Lint::NoForeign { contentions } => of_contentions(*contentions).told(alloc),
+        Lint::NoContentions => of_no_contentions().told(alloc),
     }
 }
