@@ -1,7 +1,6 @@
--- A note on a section as one on the file that stands for it.
-use Rattle.std.specs.Prelude.{ℕ, List, [], ◌∷◌, ◌++◌, length, drop, nat_eq, if◌then◌else◌}
-use Rattle.std.specs.Prelude.{string_bytes}
-use Rattle.std.specs.List.{starts_with}
+-- The file that stands for a section of a note.
+use Rattle.std.specs.Prelude.{ℕ, List, [], ◌∷◌, string_bytes, if◌then◌else◌}
+use Rattle.std.specs.Str.{bytes_eq}
 use Rattle.bundles.specs.Bundles.{header_text}
 use Rattle.command_line.specs.declared.named.SectionFile.{SectionFile}
 
@@ -12,9 +11,8 @@ Named = List ℕ × List ℕ
 abbrev pub section_of : SectionFile → Named
 section_of file = (header_text file.header, string_bytes file.name)
 
--- the first header with which the note begins gives way to its file's name
-abbrev pub renamed : List Named → List ℕ → List ℕ
-renamed [] note = note
-renamed (file ∷ files) note =
-    if starts_with nat_eq note file.0 then file.1 ++ drop (length file.0) note
-    else renamed files note
+-- the name of the first file with this header, or the section's own
+abbrev pub name_of : List Named → List ℕ → List ℕ
+name_of [] section = section
+name_of (file ∷ files) section =
+    if bytes_eq file.0 section then file.1 else name_of files section

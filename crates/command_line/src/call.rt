@@ -34,6 +34,8 @@ pub(crate) enum Call<'a> {
     Help,
     HelpOn(Command),
     Version,
+    /// A rule, or a fault by its name.
+    Explain(&'a str),
     Judge(Request<'a>),
 }
 
@@ -92,6 +94,15 @@ fn help_call(words: &[String]) -> Result<Call<'_>, Misuse<'_>> {
     }
 }
 
+/// What is to be explained.
+fn explain_call(words: &[String]) -> Result<Call<'_>, Misuse<'_>> {
+    match words {
+        [word] if asks_for_help(word) => Ok(Call::Help),
+        [word] => Ok(Call::Explain(word)),
+        _ => Err(Misuse::OneTopic),
+    }
+}
+
 /// What the words behind the command's name ask for.
 pub(crate) fn call_of(words: &[String]) -> Result<Call<'_>, Misuse<'_>> {
     let Some((word, later)) = words.split_first() else {
@@ -101,6 +112,7 @@ pub(crate) fn call_of(words: &[String]) -> Result<Call<'_>, Misuse<'_>> {
         "-" if later.is_empty() => Ok(Call::Bundle),
         "help" | "--help" | "-h" => help_call(later),
         "--version" | "-V" => Ok(Call::Version),
+        "explain" => explain_call(later),
         word => match command_named(word) {
             Some(command) => command_call(command, later),
             None => Err(Misuse::UnknownCommand(word)),

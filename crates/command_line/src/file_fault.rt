@@ -7,6 +7,7 @@ ghost use Rattle.command_line.specs.FileFaults.{file_fault};
 ghost use Rattle.bundles.specs.Bundles.{starts_section};
 
 use diagnostics::text_front;
+use notes::{Level, Note};
 use std::alloc::{AllocError, Global};
 use texts::first_line;
 
@@ -140,12 +141,13 @@ fn words_of(alloc: Global, fault: FileFault) -> Result<(String, &'static str), A
 }
 
 /// The note on a file that isn't taken.
-pub(crate) fn fault_note(
-    alloc: Global,
-    name: &str,
-    fault: FileFault,
-) -> Result<String, AllocError> {
-    let line = line_of(fault);
+pub(crate) fn fault_note(alloc: Global, name: &str, fault: FileFault) -> Result<Note, AllocError> {
     let (message, help) = words_of(alloc, fault)?;
-    format!(in alloc; "{name}:{line}: error: {message}\nhelp: {help}\n")
+    let help = String::from_str(alloc, help)?;
+    let note = Note::on(alloc, Level::Error, name, "", line_of(fault))?;
+    Ok(Note {
+        message,
+        help: Some(help),
+        ..note
+    })
 }

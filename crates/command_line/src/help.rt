@@ -19,6 +19,7 @@ meet the board.
     pmseq run BOARD PROGRAM ANSWERS     runs a program on a simulated bus, and prints a trace
     pmseq wave BOARD PROGRAM ANSWERS    the same, and prints the levels of the bus as a waveform
     pmseq frame MESSAGE                 sends one message, and prints its frame
+    pmseq explain K5                    explains a rule, or a fault by its name
     pmseq COMMAND --help                explains a command
     pmseq --version                     tells which build this is
     pmseq -                             does what a bundle on standard input asks for

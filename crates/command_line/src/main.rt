@@ -3,17 +3,21 @@
 #![tactic(auto)]
 
 mod call;
+mod explaining;
+mod fault_lines;
 mod file_fault;
 mod help;
 mod judging;
 mod misuse;
 mod named;
 mod reading;
+mod rule_pages;
 mod stop;
 mod telling;
 mod version;
 
 use crate::call::{Call, Request, call_of};
+use crate::explaining::{page_on, unknown_topic};
 use crate::file_fault::{fault_in, fault_note};
 use crate::help::{HELP, SHORT_HELP, page_of};
 use crate::judging::judge;
@@ -21,7 +25,7 @@ use crate::misuse::misuse_text;
 use crate::named::{SectionFile, told_name};
 use crate::reading::read_file;
 use crate::stop::{MISUSED, Stop, unread};
-use crate::telling::{tell, tell_text};
+use crate::telling::{tell, tell_note, tell_text};
 use crate::version::version_text;
 use diagnostics::answer;
 use session::{DeviceFault, Status};
@@ -52,7 +56,7 @@ fn take_file(rt: &HostRuntime, name: &str, told: &str) -> Result<Vec<u8>, Stop> 
     };
     match fault_in(&bytes) {
         Some(fault) => {
-            tell_text(&mut rt.stderr(), &fault_note(rt.alloc(), told, fault)?);
+            tell_note(&mut rt.stderr(), &[], &fault_note(rt.alloc(), told, fault)?);
             Err(Stop::Told(MISUSED))
         }
         None => Ok(bytes),
@@ -89,6 +93,18 @@ fn judge_files(rt: &HostRuntime, request: Request<'_>) -> Result<u8, Stop> {
     Ok(answered.status.code())
 }
 
+/// Prints the page on a rule or on a fault.
+fn explain(rt: &HostRuntime, word: &str) -> Result<u8, Stop> {
+    match page_on(rt.alloc(), word)? {
+        Some(page) => print_page(rt, &page),
+        None => {
+            let text = unknown_topic(rt.alloc(), word)?;
+            let _told = eprintln!(rt; "pmseq: {text}");
+            Ok(MISUSED)
+        }
+    }
+}
+
 /// Does what a call asks for.
 fn carry_out(rt: &HostRuntime, call: Call<'_>) -> Result<u8, Stop> {
     match call {
@@ -100,6 +116,7 @@ fn carry_out(rt: &HostRuntime, call: Call<'_>) -> Result<u8, Stop> {
         Call::Help => print_page(rt, HELP),
         Call::HelpOn(command) => print_page(rt, page_of(command)),
         Call::Version => print_page(rt, &version_text(rt)?),
+        Call::Explain(word) => explain(rt, word),
         Call::Judge(request) => judge_files(rt, request),
     }
 }

@@ -3,8 +3,8 @@
 use crate::call::{COMMANDS, word_of};
 use crate::help::names_of;
 use bundles::Command;
+use notes::nearest;
 use std::alloc::{AllocError, Global};
-use strsim::osa_distance;
 
 /// Why a call's words ask for nothing.
 #[derive(Clone, Copy)]
@@ -15,29 +15,25 @@ pub(crate) enum Misuse<'a> {
     WrongCount { command: Command, count: usize },
     /// Two files are standard input.
     TwoInputs,
+    /// Not one rule or one fault is to be explained.
+    OneTopic,
 }
 
-/// The command that is spelled most like a word, if at most a third of the word has to be edited.
-fn nearest(alloc: Global, word: &str) -> Result<Option<Command>, AllocError> {
-    let mut found = None;
-    let mut least = word.len() / 3 + 1;
+/// The words that call something.
+fn calls(alloc: Global) -> Result<Vec<&'static str>, AllocError> {
+    let mut words = Vec::new(alloc);
     for command in &COMMANDS {
-        let edits = osa_distance(alloc, word, word_of(*command))?;
-        if edits < least {
-            least = edits;
-            found = Some(*command);
-        }
+        words.push(word_of(*command))?;
     }
-    Ok(found)
+    words.push("explain")?;
+    Ok(words)
 }
 
 /// What is said of a word that is no command.
 fn unknown_command(alloc: Global, word: &str) -> Result<String, AllocError> {
-    match nearest(alloc, word)? {
-        Some(command) => {
-            let command = word_of(command);
-            format!(in alloc; "no command is called {word:?}; did you mean `{command}`?")
-        }
+    let calls = calls(alloc)?;
+    match nearest(alloc, word, &calls)? {
+        Some(call) => { format!(in alloc; "no command is called {word:?}; did you mean `{call}`?") }
         None => {
             format!(in alloc; "no command is called {word:?}; `pmseq --help` lists the commands")
         }
@@ -63,6 +59,12 @@ pub(crate) fn misuse_text(alloc: Global, misuse: Misuse<'_>) -> Result<String, A
         Misuse::WrongCount { command, count } => {
             let (word, wanted, names) = (word_of(command), wanted(command), names_of(command));
             format!(in alloc; "{word} takes {wanted}, {names}, not {count}")
+        }
+        Misuse::OneTopic => {
+            String::from_str(
+                alloc,
+                "explain takes one word, a rule such as K5 or a fault's name",
+            )
         }
         Misuse::TwoInputs => {
             String::from_str(alloc, "one file alone may be `-`, standard input")

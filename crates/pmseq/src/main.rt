@@ -1,17 +1,20 @@
 //! Reads a bundle from standard input and answers it on standard output. Where it is refused or has
-//! a fault, a note on standard error says what to mend; warnings say where a board may be meant
-//! otherwise, and where a run does what a checked program never does.
+//! a fault, a note on standard error says what to mend; warnings say where a board is
+//! suspicious, and where a run does what a checked program never does.
 #![tactic(auto)]
 
 use diagnostics::{Notes, answer};
+use notes::{InFile, Note};
 use session::Status;
 use std::io::{Stderr, Write};
 use std::process::ExitCode;
 
 /// Writes some notes. What becomes of them changes nothing.
-fn write_notes(errors: &mut Stderr, notes: &[String]) {
+fn write_notes(errors: &mut Stderr, notes: &[Note]) {
     for note in notes {
-        let _written = errors.write_all(note.as_bytes());
+        let name = &note.section;
+        let note = InFile { name, note };
+        let _written = write!(errors, "{note}");
     }
 }
 
