@@ -1,6 +1,9 @@
 use crate::boards::{TWO, alert_board, two_board};
 use crate::expected::{same, says};
-use board::{Board, BoardFault, Range, full_length, full_values, is_page_value, read_board};
+use board::{
+    At, Board, BoardFault, FaultKind, Key, Place, Range, Site, full_length, full_values,
+    is_page_value, is_target_address, read_board,
+};
 use pmbus_table::{Command, by_name};
 use smbus::{Form, Message};
 use std::alloc::Global;
@@ -282,18 +285,112 @@ fn full_ranges(rt: HostRuntime) {
 
 #[test]
 fn numbers_and_names_of_faults(rt: HostRuntime) {
-    same(&rt, BoardFault::Memory.number(), 1);
-    same(&rt, BoardFault::UnknownCommand.number(), 10);
-    same(&rt, BoardFault::BadKey.number(), 16);
-    same(&rt, BoardFault::SelfNeed.name(), "SelfNeed");
-    says(
-        &rt,
-        format!(in rt.alloc(); "{}", BoardFault::Toml),
-        "no TOML document",
-    );
-    same(
-        &rt,
-        read_board(rt.alloc(), "[[target").err(),
-        Some(BoardFault::Toml),
-    );
+    same(&rt, FaultKind::Memory.number(), 1);
+    same(&rt, FaultKind::UnknownCommand.number(), 10);
+    same(&rt, FaultKind::BadKey.number(), 16);
+    same(&rt, FaultKind::SelfNeed.name(), "SelfNeed");
+    let fault = fault_at(FaultKind::Toml, Place::Board, At::Table);
+    same(&rt, (fault.number(), fault.name()), (2, "Toml"));
+    says(&rt, format!(in rt.alloc(); "{fault}"), "no TOML document");
+    same(&rt, read_board(rt.alloc(), "[[target").err(), Some(fault));
+    same(&rt, Key::LimitUv.name(), "limit_uv");
+    same(&rt, is_target_address(0x61), false);
+}
+
+fn fault_at(kind: FaultKind, table: Place, at: At) -> BoardFault {
+    BoardFault {
+        kind,
+        site: Site { table, at },
+    }
+}
+
+/// A text of TWO, one that stands in its place, and the fault that the board has then, with the
+/// table and the key or the item.
+type Misplaced = (&'static str, &'static str, FaultKind, Place, At);
+
+static MISPLACED: [Misplaced; 9] = [
+    (
+        "address = 0x40",
+        "address = 0x80",
+        FaultKind::BadAddress,
+        Place::Target(0),
+        At::Key(Key::Address),
+    ),
+    (
+        "address = 0x41",
+        "address = 0x40",
+        FaultKind::SameAddress,
+        Place::Target(1),
+        At::Key(Key::Address),
+    ),
+    (
+        "name = \"b\"",
+        "name = \"a\"",
+        FaultKind::SameName,
+        Place::Target(1),
+        At::Key(Key::Name),
+    ),
+    (
+        "pages = 1\n",
+        "",
+        FaultKind::MissingKey,
+        Place::Target(0),
+        At::Key(Key::Pages),
+    ),
+    (
+        "start_pages = [0]",
+        "start_pages = [0, 5]",
+        FaultKind::BadStart,
+        Place::Target(0),
+        At::Item(Key::StartPages, 1),
+    ),
+    (
+        "\"OPERATION\"",
+        "\"OPERATOIN\"",
+        FaultKind::UnknownCommand,
+        Place::Entry {
+            target: 0,
+            entry: 2,
+        },
+        At::Key(Key::Command),
+    ),
+    (
+        "limit_uv = 3300000",
+        "limit_uv = 0",
+        FaultKind::BadRange,
+        Place::Rail(1),
+        At::Key(Key::LimitUv),
+    ),
+    (
+        "[\"va\"]",
+        "[\"va\", \"vx\"]",
+        FaultKind::UnknownNeed,
+        Place::Rail(1),
+        At::Item(Key::Needs, 1),
+    ),
+    (
+        "[\"va\"]",
+        "[\"va\", 5]",
+        FaultKind::BadKey,
+        Place::Rail(1),
+        At::Item(Key::Needs, 1),
+    ),
+];
+
+/// The fault of TWO with a text in place of another.
+fn fault_where(alloc: Global, old: &str, new: &str) -> Option<BoardFault> {
+    let text = TWO.replace(alloc, old, new).ok()?;
+    read_board(alloc, &text).err()
+}
+
+fn all_are_sited(rt: &impl Abort, alloc: Global, rows: &[Misplaced]) {
+    for (old, new, kind, table, at) in rows {
+        let want = fault_at(*kind, *table, *at);
+        same(rt, fault_where(alloc, old, new), Some(want));
+    }
+}
+
+#[test]
+fn faults_have_sites(rt: HostRuntime) {
+    all_are_sited(&rt, rt.alloc(), &MISPLACED);
 }

@@ -1,12 +1,12 @@
-//! Notes and warnings. What they say of each mistake is tried with the bundles of
-//! `examples/mistakes`; here stands what no bundle shows.
+//! Notes and warnings. What they say of each mistake is tried with the cases of
+//! `examples/cases`; here stands what no bundle shows.
 
 mod answering;
 mod refusals;
 mod warnings;
 
 use crate::boards::{TWO, two_board};
-use crate::expected::{Noted, begins, notes, says};
+use crate::expected::{Noted, begins, noted, notes, says, text_of};
 use board::{BoardFault, read_board};
 use bundles::{BundleFault, Header};
 use diagnostics::{board_note, bundle_note, program_note};
@@ -22,7 +22,7 @@ fn note_on_program(alloc: Global, text: &str) -> Noted {
     };
     match read_program(alloc, &board, text) {
         Ok(_) => Ok(None),
-        Err(fault) => program_note(alloc, &board, text, fault),
+        Err(fault) => noted(alloc, program_note(alloc, &board, text, fault)?),
     }
 }
 
@@ -111,7 +111,7 @@ fn each_instruction(rt: HostRuntime) {
 /// The note on a fault that the text hasn't.
 fn other_note(alloc: Global, fault: ProgramFault) -> Noted {
     match two_board(alloc) {
-        Ok(board) => program_note(alloc, &board, "end", fault),
+        Ok(board) => noted(alloc, program_note(alloc, &board, "end", fault)?),
         Err(_) => Err(AllocError),
     }
 }
@@ -122,7 +122,12 @@ fn other_faults(rt: HostRuntime) {
     let note = other_note(rt.alloc(), ProgramFault::BadOperand(7));
     notes(&rt, note, Some("%program:7: error: a bad operand\n"));
     notes(&rt, other_note(rt.alloc(), ProgramFault::Memory), None);
-    notes(&rt, board_note(rt.alloc(), TWO, BoardFault::Memory), None);
+    notes(&rt, memory_note(rt.alloc()), None);
+}
+
+/// What is told of a board where memory ran out.
+fn memory_note(alloc: Global) -> Noted {
+    noted(alloc, board_note(alloc, TWO, AllocError.into())?)
 }
 
 /// The note on a board's fault, where this comes so often behind the board that is there.
@@ -131,7 +136,7 @@ fn note_on_board(alloc: Global, board: &str, table: &str, count: usize) -> Noted
     let text = format!(in alloc; "{board}{tables}")?;
     match read_board(alloc, &text) {
         Ok(_) => Ok(None),
-        Err(fault) => board_note(alloc, &text, fault),
+        Err(fault) => noted(alloc, board_note(alloc, &text, fault)?),
     }
 }
 
@@ -178,9 +183,14 @@ static BUNDLES: [(&str, BundleFault, &str); 3] = [
     ),
 ];
 
+/// The note on a bundle, as it is printed.
+fn bundle_text(alloc: Global, text: &str, fault: BundleFault) -> Result<String, AllocError> {
+    text_of(alloc, &bundle_note(alloc, text, fault)?)
+}
+
 fn all_bundles_are_noted(rt: &impl Abort, alloc: Global, rows: &[(&str, BundleFault, &str)]) {
     for (text, fault, want) in rows {
-        says(rt, bundle_note(alloc, text, *fault), want);
+        says(rt, bundle_text(alloc, text, *fault), want);
     }
 }
 

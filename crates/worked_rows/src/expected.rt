@@ -1,7 +1,8 @@
 //! What tests share to try values: an assertion that stands in a function of its own is proved
 //! once, and calls of it are proved quickly.
 
-use std::alloc::AllocError;
+use notes::{InFile, Note};
+use std::alloc::{AllocError, Global};
 use std::fmt::Debug;
 use std::process::Abort;
 
@@ -24,8 +25,23 @@ pub(crate) fn says(rt: &impl Abort, seen: Result<String, AllocError>, want: &str
     same(rt, seen.as_deref().ok(), Some(want));
 }
 
-/// A note, if there is one and it could be made.
+/// The text of a note, if there is one and it could be made.
 pub(crate) type Noted = Result<Option<String>, AllocError>;
+
+/// A note as it is printed on its section.
+pub(crate) fn text_of(alloc: Global, note: &Note) -> Result<String, AllocError> {
+    let name = &note.section;
+    let note = InFile { name, note };
+    format!(in alloc; "{note}")
+}
+
+/// The text of a note, if there is one.
+pub(crate) fn noted(alloc: Global, note: Option<Note>) -> Noted {
+    match note {
+        Some(note) => Ok(Some(text_of(alloc, &note)?)),
+        None => Ok(None),
+    }
+}
 
 /// Tries that a note could be made, and what it says, or that there is none.
 pub(crate) fn notes(rt: &impl Abort, seen: Noted, want: Option<&str>) {

@@ -10,7 +10,7 @@ ghost use Rattle.seq_program.specs.Valid.{IsOnBoard};
 use crate::boards::{alert_board, two_board};
 use crate::expected::same;
 use crate::runs::{ASKED, ASKING, answers_of, trace_of};
-use board::{Board, BoardFault};
+use board::{Board, BoardFault, FaultKind};
 use fact_search::{FindFault, find};
 use seq_program::{Program, ProgramFault, read_program};
 use simulator::{RunFault, Trace};
@@ -23,7 +23,7 @@ use wires::{Event, Runs, Sample};
 
 fn board_again(alloc: Global) -> Result<Board, BoardFault> {
     match two_board(alloc) {
-        Err(BoardFault::Memory) => two_board(alloc),
+        Err(fault) if fault.kind == FaultKind::Memory => two_board(alloc),
         read => read,
     }
 }
@@ -184,7 +184,7 @@ fn counts_of(trace: &Trace) -> (usize, u64) {
 
 fn alert_board_again(alloc: Global) -> Result<Board, BoardFault> {
     match alert_board(alloc) {
-        Err(BoardFault::Memory) => alert_board(alloc),
+        Err(fault) if fault.kind == FaultKind::Memory => alert_board(alloc),
         read => read,
     }
 }

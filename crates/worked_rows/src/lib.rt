@@ -4,6 +4,8 @@
 #[cfg(test)]
 mod bit_bus_rows;
 #[cfg(test)]
+mod board_lints_rows;
+#[cfg(test)]
 mod board_rows;
 #[cfg(test)]
 mod boards;
@@ -24,9 +26,13 @@ mod growths_rows;
 #[cfg(test)]
 mod lost_rows;
 #[cfg(test)]
+mod notes_rows;
+#[cfg(test)]
 mod outcome_rows;
 #[cfg(test)]
 mod pmbus_table_rows;
+#[cfg(test)]
+mod run_monitor_rows;
 #[cfg(test)]
 mod runs;
 #[cfg(test)]

@@ -1,5 +1,5 @@
-//! The search by its calls. What it finds for whole programs is tried with the bundles of
-//! `examples/rows`.
+//! The search by its calls. What it finds for whole programs is tried with the cases of
+//! `examples/cases`.
 
 use crate::boards::two_board;
 use crate::expected::same;

@@ -1,5 +1,5 @@
-//! Runs by their calls. What is printed of whole runs is tried with the bundles of
-//! `examples/rows`.
+//! Runs by their calls. What is printed of whole runs is tried with the cases of
+//! `examples/cases`.
 
 ghost use Rattle.std.specs.Prelude.{length, All};
 ghost use Rattle.seq_program.specs.Valid.{IsOnBoard};

@@ -3,7 +3,7 @@ use crate::expected::same;
 use crate::runs::answer_of;
 use board::{Board, BoardFault};
 use smbus::{Answer, Form, Message};
-use std::alloc::Global;
+use std::alloc::{AllocError, Global};
 use std::process::Abort;
 use std::test::*;
 use targets::{BusState, Outcome, after, after_into, fits, starts, value_goes_out};
@@ -48,7 +48,7 @@ pub(crate) fn left_by(
     answer: &Answer,
 ) -> Result<(BusState, Outcome), BoardFault> {
     if state.lost == 65535 {
-        return Err(BoardFault::Memory);
+        return Err(AllocError.into());
     }
     Ok(after(alloc, board, state, Some(message), answer)?)
 }

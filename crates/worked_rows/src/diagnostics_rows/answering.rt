@@ -66,7 +66,7 @@ fn run_tells(rt: &impl Abort, alloc: Global, command: &str, limit: &str, want: T
 }
 
 #[test]
-fn doubts_and_breaches_are_told(rt: HostRuntime) {
+fn lints_and_breaches_are_told(rt: HostRuntime) {
     let breach = (Status::Accepted, false, 0, true);
     run_tells(&rt, rt.alloc(), "%run", "3300000", breach);
     let both = (Status::Accepted, false, 1, true);

@@ -1,7 +1,7 @@
 //! Notes on programs that are refused, and on whole inputs.
 
 use crate::boards::TWO;
-use crate::expected::{Noted, begins, notes};
+use crate::expected::{Noted, begins, noted, notes};
 use diagnostics::{Refusal, note_on, refusal_note};
 use facts::Rule;
 use std::alloc::Global;
@@ -44,9 +44,14 @@ static REFUSALS: [(Refusal, usize, &str); 4] = [
     ),
 ];
 
+/// The note on a refusal at a place of PROGRAM.
+fn note_at(alloc: Global, place: usize, refusal: Refusal) -> Noted {
+    noted(alloc, refusal_note(alloc, PROGRAM, place, refusal)?)
+}
+
 fn all_are_refused(rt: &impl Abort, alloc: Global, rows: &[(Refusal, usize, &str)]) {
     for (refusal, place, want) in rows {
-        begins(rt, refusal_note(alloc, PROGRAM, *place, *refusal), want);
+        begins(rt, note_at(alloc, *place, *refusal), want);
     }
 }
 
@@ -54,11 +59,7 @@ fn all_are_refused(rt: &impl Abort, alloc: Global, rows: &[(Refusal, usize, &str
 #[test]
 fn refusals(rt: HostRuntime) {
     all_are_refused(&rt, rt.alloc(), &REFUSALS);
-    notes(
-        &rt,
-        refusal_note(rt.alloc(), PROGRAM, 3, Refusal::GaveUp),
-        None,
-    );
+    notes(&rt, note_at(rt.alloc(), 3, Refusal::GaveUp), None);
 }
 
 /// A program, and the beginning of the note where it is to be verified.
@@ -81,12 +82,15 @@ static INPUTS: [(&str, &str); 4] = [
     ),
 ];
 
+/// The note on an input.
+fn input_note(alloc: Global, text: &str) -> Noted {
+    noted(alloc, note_on(alloc, text)?)
+}
+
 /// The note on a program that is to be verified.
 fn verified_note(alloc: Global, program: &str) -> Noted {
-    note_on(
-        alloc,
-        &format!(in alloc; "%verify\n%board\n{TWO}%program\n{program}")?,
-    )
+    let text = format!(in alloc; "%verify\n%board\n{TWO}%program\n{program}")?;
+    input_note(alloc, &text)
 }
 
 fn all_begin(rt: &impl Abort, alloc: Global, inputs: &[(&str, &str)]) {
@@ -99,6 +103,6 @@ fn all_begin(rt: &impl Abort, alloc: Global, inputs: &[(&str, &str)]) {
 fn inputs(rt: HostRuntime) {
     all_begin(&rt, rt.alloc(), &INPUTS);
     notes(&rt, verified_note(rt.alloc(), "end\n"), None);
-    let bare = note_on(rt.alloc(), "%verify\n");
+    let bare = input_note(rt.alloc(), "%verify\n");
     begins(&rt, bare, "bundle:1: error: the section %board");
 }

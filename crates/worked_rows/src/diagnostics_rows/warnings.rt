@@ -1,7 +1,7 @@
 //! Warnings of runs and of boards.
 
 use crate::boards::TWO;
-use crate::expected::{Noted, begins, notes, same};
+use crate::expected::{Noted, begins, noted, notes, same, text_of};
 use crate::session_rows::received;
 use diagnostics::{Warnings, warnings_on};
 use session::Received;
@@ -63,7 +63,7 @@ fn warnings_of(alloc: Global, text: &str) -> Result<Warnings, AllocError> {
 fn warning_of(alloc: Global, program: &str, answers: &str) -> Noted {
     let run = format!(in alloc; "%program\n{program}%answers\nstart 00,00 00,00\n{answers}")?;
     let text = format!(in alloc; "%run\n%board\n{TWO}{run}")?;
-    Ok(warnings_of(alloc, &text)?.of_run)
+    noted(alloc, warnings_of(alloc, &text)?.of_run)
 }
 
 fn all_are_warned_of(rt: &impl Abort, alloc: Global, rows: &[(&str, &str, &str)]) {
@@ -87,7 +87,10 @@ fn runs_are_warned_of(rt: HostRuntime) {
 /// How many warnings of a board there are, and whether one of them contains a text.
 fn board_warnings(alloc: Global, text: &str, part: &str) -> Result<(usize, bool), AllocError> {
     let warnings = warnings_of(alloc, text)?.of_board;
-    let is_told = warnings.iter().any(|warning| warning.contains(part));
+    let mut is_told = false;
+    for warning in &warnings {
+        is_told |= text_of(alloc, warning)?.contains(part);
+    }
     Ok((warnings.len(), is_told))
 }
 

@@ -1,29 +1,16 @@
-use super::known::{row_of, rule_board};
+use super::known::{Before, begins_with, rule_board};
 use crate::expected::same;
 use board::Board;
 use facts::Rule::{self, K1, K2, K3, K4, K5};
-use facts::{Source, duty};
-use seq_program::read_program;
+use facts::duty;
 use std::alloc::Global;
 use std::process::Abort;
 use std::test::*;
 
-/// What a may store in PAGE and in WRITE_PROTECT, the rails that reported good, and the values of
-/// r0.
-type Before = (&'static [u8], &'static [u8], &'static [u8], (u16, u16));
-
 /// The duty that isn't met, if the line and what is known are good.
 fn duty_on(alloc: Global, board: &Board, line: &str, before: Before) -> Option<Option<Rule>> {
-    let (pages, protects, good, span) = before;
-    let text = format!(in alloc; "{line} else x\nx:\nend").ok()?;
-    let program = read_program(alloc, board, &text).ok()?;
-    let row = row_of(
-        alloc,
-        (pages, protects, good, span, Source::None),
-        ((0, 0), 0, 0),
-    )?;
-    let instr = program.at(0)?;
-    Some(duty(board, instr, &row))
+    let (program, row) = begins_with(alloc, board, line, before)?;
+    Some(duty(board, program.at(0)?, &row))
 }
 
 // The board is read for each row, so that what goes over the rows holds none.

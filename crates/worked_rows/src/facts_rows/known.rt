@@ -2,6 +2,7 @@
 
 use board::{Board, BoardFault, read_board};
 use facts::{GoodSet, PageSet, ProtectSet, Row, Source, Span};
+use seq_program::{Program, read_program};
 use std::alloc::Global;
 
 /// Target a has a rail on its pages 0 and 1 and none on page 2. Its first rail needs b's, and its
@@ -71,6 +72,10 @@ pub(crate) fn slow_board(alloc: Global) -> Result<Board, BoardFault> {
 }
 
 /// What target a may store in PAGE and in WRITE_PROTECT, the rails that reported good, and the
+/// values of r0.
+pub(crate) type Before = (&'static [u8], &'static [u8], &'static [u8], (u16, u16));
+
+/// What target a may store in PAGE and in WRITE_PROTECT, the rails that reported good, and the
 /// values of r0 and what they equal.
 pub(crate) type Known = (
     &'static [u8],
@@ -117,4 +122,22 @@ pub(crate) fn row_of(alloc: Global, known: Known, counted: Counted) -> Option<Ro
         coeffs: [coeff, 5, 0, 0],
         lost_coeff: 0,
     })
+}
+
+/// A program that begins with the line, and the row before it.
+pub(crate) fn begins_with(
+    alloc: Global,
+    board: &Board,
+    line: &str,
+    before: Before,
+) -> Option<(Program, Row)> {
+    let (pages, protects, good, span) = before;
+    let text = format!(in alloc; "{line} else x\nx:\nend").ok()?;
+    let program = read_program(alloc, board, &text).ok()?;
+    let row = row_of(
+        alloc,
+        (pages, protects, good, span, Source::None),
+        ((0, 0), 0, 0),
+    )?;
+    Some((program, row))
 }

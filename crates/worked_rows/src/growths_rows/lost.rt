@@ -7,7 +7,7 @@ use super::{counts_of, program_again, trace_again};
 use crate::boards::shared_board;
 use crate::expected::same;
 use crate::runs::{NOTHING, answer_of};
-use board::{Board, BoardFault};
+use board::{Board, BoardFault, FaultKind};
 use bundles::{BundleFault, answer_line_of};
 use seq_program::Program;
 use smbus::Answer;
@@ -17,7 +17,7 @@ use texts::ReadError;
 
 fn shared_board_again(alloc: Global) -> Result<Board, BoardFault> {
     match shared_board(alloc) {
-        Err(BoardFault::Memory) => shared_board(alloc),
+        Err(fault) if fault.kind == FaultKind::Memory => shared_board(alloc),
         read => read,
     }
 }

@@ -1,5 +1,5 @@
 //! What is found of an input beside the reply to it: what was read, where its sections and places
-//! stand, doubts about its board, and the first breach of its run.
+//! stand, and the first breach of its run.
 
 ghost use Rattle.std.specs.Prelude.{length, All};
 ghost use Rattle.seq_program.specs.Valid.{IsOnBoard};
@@ -9,13 +9,13 @@ use crate::boards::{TWO, two_board};
 use crate::bundles_rows::answers_of;
 use crate::expected::{holds, same};
 use crate::session_rows::received;
-use board::{Board, read_board};
+use board::Board;
 use bundles::Answers;
 use facts::Rule;
+use run_monitor::Breach;
 use seq_program::{Program, read_program};
 use session::{
-    Breach, Doubt, Received, Scenario, Seen, doubts_on, part_at, place_line, place_lines,
-    run_through, section_of,
+    Received, Scenario, Seen, part_at, place_line, place_lines, run_through, section_of,
 };
 use std::alloc::{AllocError, Global};
 use std::process::Abort;
@@ -48,38 +48,6 @@ fn places(rt: HostRuntime) {
     holds(&rt, place_lines(rt.alloc(), PLACES), &[2, 5]);
     same(&rt, place_line(rt.alloc(), PLACES, 1), Ok(Some(5)));
     same(&rt, place_line(rt.alloc(), PLACES, 2), Ok(None));
-}
-
-/// The doubts about a board, and a program that does nothing.
-fn doubts_of(alloc: Global, board: &Board) -> Result<Vec<Doubt>, AllocError> {
-    match read_program(alloc, board, "end") {
-        Ok(program) => doubts_on(alloc, board, &program),
-        Err(_) => Err(AllocError),
-    }
-}
-
-/// The doubts about TWO with a text in place of another.
-fn doubts_where(alloc: Global, old: &str, new: &str) -> Result<Vec<Doubt>, AllocError> {
-    match read_board(alloc, &TWO.replace(alloc, old, new)?) {
-        Ok(board) => doubts_of(alloc, &board),
-        Err(_) => Err(AllocError),
-    }
-}
-
-/// No voltage is over this limit.
-const LOOSE: Doubt = Doubt::LooseLimit {
-    rail: 1,
-    greatest: 65_535,
-};
-
-#[test]
-fn doubts(rt: HostRuntime) {
-    holds(&rt, doubts_where(rt.alloc(), "", ""), &[]);
-    holds(
-        &rt,
-        doubts_where(rt.alloc(), "3300000", "4294967295"),
-        &[LOOSE],
-    );
 }
 
 fn of_scenario(alloc: Global, scenario: &Scenario<'_>) -> bool
