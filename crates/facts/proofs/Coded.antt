@@ -15,6 +15,7 @@ pub mod OneAnswer
 pub mod Mapping
 pub mod Withdrawn
 pub mod RowCovering
+pub mod Uncovering
 pub mod Possible
 pub mod SentEdges
 pub mod Premises

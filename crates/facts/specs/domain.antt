@@ -3,5 +3,7 @@ pub mod SetLaws
 pub mod Rows
 pub mod Known
 pub mod Covering
+pub mod Uncovered
+pub mod Firsts
 pub mod Joining
 pub mod Mapped

@@ -1,2 +1,4 @@
 pub mod Shapes
+pub mod Misfits
 pub mod Starts
+pub mod Unheld

@@ -11,5 +11,7 @@ pub(crate) mod parts;
 pub(crate) mod protect_set;
 pub(crate) mod row;
 pub(crate) mod row_cover;
+pub(crate) mod row_part;
 pub(crate) mod source;
 pub(crate) mod span;
+pub(crate) mod uncovering;

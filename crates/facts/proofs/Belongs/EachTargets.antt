@@ -6,6 +6,7 @@ use Rattle.std.proofs.lemmas.Option.{slice_get-get_or}
 use Rattle.std.proofs.lemmas.Bool.{cases_lt}
 use Rattle.std.proofs.lemmas.Bool.Decides.{nat_tests}
 use Rattle.board.specs.Boards.{Target, Board}
+use Rattle.targets.specs.States.{IsTargetAt}
 use Rattle.facts.specs.well_formed.Shapes.{EachTarget, EachBefore}
 
 pub before_none : (b : Board) (Holds : ℕ → Target → Type 0) → EachBefore 0 b Holds
@@ -62,11 +63,6 @@ before_all b Holds n before all = λ d r at.
     let h = inside b.targets d r at in
     before d r (omega (arith, h, all)) at
 
-pub one_fails : (b : Board) (Holds : ℕ → Target → Type 0) (n : ℕ) (r : Target)
-    → Some r ≡ slice_get b.targets n → (Holds n r → ⊥) → EachTarget b Holds → ⊥
-unfolding EachTarget
-one_fails b Holds n r here fails each = fails (each n r (sym here))
-
 pub false_true : false ≡ true → ⊥
 false_true e = grind (arith, nat_tests)
 
@@ -79,3 +75,14 @@ pub here : (b : Board) (ts : List Target) (i : ℕ) (t : Target) → ts ≡ b.ta
 here b ts i t same lt is =
     subst (λ xs. Some t ≡ slice_get xs i) same
     (ap (λ x. Some x) is ∙ sym (slice_get-get_or ts i t lt))
+
+-- what a loop knows, target by target
+pub before_at : (b : Board) (Holds : ℕ → Target → Type 0) (n : ℕ) → EachBefore n b Holds → (i : ℕ)
+    → i < n → (t : Target) → IsTargetAt b i t → Holds i t
+unfolding EachBefore
+before_at b Holds n before i lt t at' = before i t lt at'
+
+pub each_at : (b : Board) (Holds : ℕ → Target → Type 0) → EachTarget b Holds → (i : ℕ)
+    (t : Target) → IsTargetAt b i t → Holds i t
+unfolding EachTarget
+each_at b Holds each i t at' = each i t at'

@@ -11,7 +11,8 @@ use Rattle.facts.specs.domain.Rows.{SourceCovers}
 use Rattle.facts.specs.domain.Rows.{AllCover, SpansCover, RowCovers}
 use Rattle.facts.specs.domain.Covering.{CoversByPart}
 
-sets_at : (f : ℕ → Set) (xs ys : List ℕ) → AllCover (λ s u. SetCovers (f s) (f u)) xs ys → (i : ℕ)
+pub sets_at : (f : ℕ → Set) (xs ys : List ℕ) → AllCover (λ s u. SetCovers (f s) (f u)) xs ys
+    → (i : ℕ)
     → SetCovers (set_at (map f xs) i) (set_at (map f ys) i)
 sets_at f [] [] c i = λ v t. t
 sets_at f [] (y ∷ ys) c i = absurd c
@@ -19,7 +20,7 @@ sets_at f (x ∷ xs) [] c i = absurd c
 sets_at f (x ∷ xs) (y ∷ ys) c zero = c.0
 sets_at f (x ∷ xs) (y ∷ ys) c (suc i) = sets_at f xs ys c.1 i
 
-sets_all : (f : ℕ → Set) (xs ys : List ℕ) → length xs ≡ length ys
+pub sets_all : (f : ℕ → Set) (xs ys : List ℕ) → length xs ≡ length ys
     → ((i : ℕ) → i < length xs → SetCovers (set_at (map f xs) i) (set_at (map f ys) i))
     → AllCover (λ s u. SetCovers (f s) (f u)) xs ys
 sets_all f [] [] e h = tt
@@ -40,7 +41,7 @@ spans_to [] (y ∷ ys) c = absurd c
 spans_to (x ∷ xs) [] c = absurd c
 spans_to (x ∷ xs) (y ∷ ys) c = (c.0, spans_to xs ys c.1)
 
-sources_at : (xs ys : List Source) → AllCover SourceCovers xs ys → (r : ℕ)
+pub sources_at : (xs ys : List Source) → AllCover SourceCovers xs ys → (r : ℕ)
     → SourceCovers (source_at xs r) (source_at ys r)
 sources_at [] [] c r = inl refl
 sources_at [] (y ∷ ys) c r = absurd c
@@ -48,7 +49,7 @@ sources_at (x ∷ xs) [] c r = absurd c
 sources_at (x ∷ xs) (y ∷ ys) c zero = c.0
 sources_at (x ∷ xs) (y ∷ ys) c (suc r) = sources_at xs ys c.1 r
 
-sources_all : (xs ys : List Source) → length xs ≡ length ys
+pub sources_all : (xs ys : List Source) → length xs ≡ length ys
     → ((r : ℕ) → SourceCovers (source_at xs r) (source_at ys r)) → AllCover SourceCovers xs ys
 sources_all [] [] e h = tt
 sources_all [] (y ∷ ys) e h = absurd (omega arith)
@@ -67,25 +68,27 @@ rows_cover b s u c = record {
   lost = c.6;
 }
 
+pub parts_of_rows : (b : Board) (s u : CodeRow) → length s.sources ≡ length u.sources
+    → length s.pages.items ≡ length b.targets → length u.pages.items ≡ length b.targets
+    → length s.protects.items ≡ length b.targets → length u.protects.items ≡ length b.targets
+    → RowCovers b (row_view s) (row_view u) → CoversByPart s u
+parts_of_rows b s u e p q r t c = (
+  sets_all pages_in s.pages.items u.pages.items (p ∙ sym q)
+      (λ i lt. c.pages i (omega (arith, lt, p))),
+  sets_all protects_in s.protects.items u.protects.items (r ∙ sym t)
+      (λ i lt. c.protects i (omega (arith, lt, r))),
+  c.good,
+  spans_to s.regs u.regs c.regs,
+  sources_all s.sources u.sources e c.sources,
+  spans_to s.counters u.counters c.counters,
+  c.lost,
+)
+
 pub row_covers : (b : Board) (s u : CodeRow) (x : Bool) → length s.sources ≡ length u.sources
     → length s.pages.items ≡ length b.targets → length u.pages.items ≡ length b.targets
     → length s.protects.items ≡ length b.targets → length u.protects.items ≡ length b.targets
     → IsTrue x ↔ CoversByPart s u → IsTrue x ↔ RowCovers b (row_view s) (row_view u)
-row_covers b s u x e p q r t iff = (to, from)
-  where
-    to : IsTrue x → RowCovers b (row_view s) (row_view u)
-    to holds = rows_cover b s u (iff.0 holds)
-
-    from : RowCovers b (row_view s) (row_view u) → IsTrue x
-    from c =
-        iff.1 (
-          sets_all pages_in s.pages.items u.pages.items (p ∙ sym q)
-              (λ i lt. c.pages i (omega (arith, lt, p))),
-          sets_all protects_in s.protects.items u.protects.items (r ∙ sym t)
-              (λ i lt. c.protects i (omega (arith, lt, r))),
-          c.good,
-          spans_to s.regs u.regs c.regs,
-          sources_all s.sources u.sources e c.sources,
-          spans_to s.counters u.counters c.counters,
-          c.lost,
-        )
+row_covers b s u x e p q r t iff = (
+  (λ holds. rows_cover b s u (iff.0 holds)),
+  (λ c. iff.1 (parts_of_rows b s u e p q r t c)),
+)

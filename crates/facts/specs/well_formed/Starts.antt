@@ -1,12 +1,9 @@
 -- K8: the row of place 0 holds every start.
-use Rattle.std.specs.Prelude.{◌≡◌, ℕ, ◌≤◌, IsTrue, All, length, replicate}
+use Rattle.std.specs.Prelude.{◌≡◌, ℕ, IsTrue, All, replicate}
 use Rattle.board.specs.Boards.{Target, Board}
 use Rattle.targets.specs.States.{IsTargetAt}
-use Rattle.facts.specs.declared.domain.row.Row.{Row as CodeRow}
 use Rattle.facts.specs.declared.domain.source.Source.TheVariants as source
-use Rattle.facts.specs.domain.Sets.{rails_in}
-use Rattle.facts.specs.well_formed.Shapes.{EachTarget}
-use Rattle.facts.specs.domain.Rows.{Row, row_view, set_at, source_at, InSpans, InSpan}
+use Rattle.facts.specs.domain.Rows.{Row, set_at, source_at, InSpans, InSpan}
 
 -- each value that a target may start with, no good rail, 0 in each register and counter, no
 -- sources, and no lost arbitration, which are left at no cost
@@ -22,18 +19,8 @@ pub record HoldsStarts (b : Board) (row : Row) : Type 0 where
   pub lost : InSpan row.lost 0
   pub lost_coeff : row.lost_coeff ≡ 0
 
--- the same, part by part, of the code's rows; no public contract cites what follows
+-- what of it is asked of a target
 abbrev pub StartsAt : Row → ℕ → Target → Type 0
 StartsAt row i t =
     All (λ v. IsTrue (set_at row.pages i v)) t.start_pages
     × All (λ v. IsTrue (set_at row.protects i v)) t.start_protects
-
-abbrev pub StartsByPart : Board → CodeRow → Type 0
-StartsByPart b row =
-    EachTarget b (StartsAt (row_view row))
-    × ((d : ℕ) → 0 ≤ d → IsTrue (rails_in row.good d) → ⊥)
-    × InSpans row.regs (replicate (length row.regs) 0)
-    × ((r : ℕ) → source_at row.sources r ≡ source.None)
-    × InSpans row.counters (replicate (length row.counters) 0)
-    × InSpan row.lost 0
-    × (row.lost_coeff ≡ 0)

@@ -36,21 +36,6 @@ pub trait Part {
             (λ r. (u : Self) → Covers u self.now → Covers u other.now → Covers u r) };
 }
 
-/// Whether each part covers the one at its place in another list, of the same length.
-pub(crate) fn all_cover<P: Part>(parts: &[P], others: &[P]) -> bool
-    ensures { IsTrue result ↔ AllCover P.Covers parts.now others.now }
-{
-    if parts.len() != others.len() {
-        return false;
-    }
-    for i in 0..parts.len() {
-        if !parts[i].covers(&others[i]) {
-            return false;
-        }
-    }
-    true
-}
-
 /// Each part becomes the join with the one at its place in another list.
 pub(crate) fn join_into<P: Part + Copy>(
     alloc: Global,

@@ -1,46 +1,27 @@
-ghost use Rattle.std.specs.Prelude.{◌↔◌, IsTrue};
+ghost use Rattle.std.specs.Prelude.{◌≡◌, ◌↔◌, IsTrue, length};
 ghost use Rattle.board.specs.Boards.{Board};
 ghost use Rattle.facts.specs.domain.Covering.{CoversByPart, IsSized, IsAlike, AdmitsAt, Situation};
-ghost use Rattle.facts.specs.domain.Covering.{PagesCover, ProtectsCover};
-ghost use Rattle.facts.specs.domain.Sets.{rails_in};
-ghost use Rattle.facts.specs.domain.Rows.{row_view, AllCover, RowCovers, SetCovers};
+ghost use Rattle.facts.specs.domain.Rows.{row_view, RowCovers};
 
-use crate::domain::good_set::GoodSet;
-use crate::domain::page_set::PageSet;
-use crate::domain::part::{Part, all_cover, join_all, join_into};
-use crate::domain::protect_set::ProtectSet;
+use crate::domain::part::{Part, join_all, join_into};
 use crate::domain::row::Row;
 use std::alloc::{AllocError, Global};
 
-fn pages_cover(sets: &[PageSet], others: &[PageSet]) -> bool
-    ensures { IsTrue result ↔ AllCover PagesCover sets.now others.now }
+/// Whether two rows have as many sets, of targets.
+fn are_alike(row: &Row, other: &Row) -> bool
+    ensures { IsTrue result ↔ ((length row.now.pages.items ≡ length other.now.pages.items)
+        × (length row.now.protects.items ≡ length other.now.protects.items)) }
 {
-    all_cover(sets, others)
-}
-
-fn protects_cover(sets: &[ProtectSet], others: &[ProtectSet]) -> bool
-    ensures { IsTrue result ↔ AllCover ProtectsCover sets.now others.now }
-{
-    all_cover(sets, others)
-}
-
-fn good_covers(good: GoodSet, other: GoodSet) -> bool
-    ensures { IsTrue result ↔ SetCovers (rails_in other) (rails_in good) }
-{
-    good.covers(&other)
+    row.pages.len() == other.pages.len() && row.protects.len() == other.protects.len()
 }
 
 impl Row {
     fn parts_cover(&self, other: &Row) -> bool
         ensures { IsTrue result ↔ CoversByPart self.now other.now }
     {
-        pages_cover(&self.pages, &other.pages)
-            && protects_cover(&self.protects, &other.protects)
-            && good_covers(self.good, other.good)
-            && all_cover(&self.regs, &other.regs)
-            && all_cover(&self.sources, &other.sources)
-            && all_cover(&self.counters, &other.counters)
-            && self.lost.covers(&other.lost)
+        self.is_sized();
+        other.is_sized();
+        are_alike(self, other) && self.uncovered(other).is_none()
     }
 }
 

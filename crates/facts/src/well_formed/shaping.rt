@@ -5,7 +5,7 @@ ghost use Rattle.board.specs.Valid.{is_page_value};
 ghost use Rattle.pmbus_table.specs.Protect.{is_protection};
 ghost use Rattle.facts.specs.domain.Sets.{rails_in, HasValue};
 ghost use Rattle.facts.specs.domain.Rows.{row_view, set_at, IsSource, IsSetOf, IsRow, most_ticks};
-ghost use Rattle.facts.specs.well_formed.Shapes.{IsSizedRow, EachTarget, HasSets, IsShapedByPart};
+ghost use Rattle.facts.specs.well_formed.Shapes.{IsSizedRow};
 
 use crate::domain::good_set::GoodSet;
 use crate::domain::page_set::PageSet;
@@ -13,9 +13,7 @@ use crate::domain::part::Part;
 use crate::domain::parts::{pages_at, protects_at};
 use crate::domain::row::Row;
 use crate::domain::source::Source;
-use crate::domain::span::Span;
 use board::{Board, Target};
-use seq_program::MOST_TURNS;
 use simulator::MOST_TICKS;
 
 /// Whether a target may store a value in PAGE.
@@ -99,7 +97,7 @@ fn has_some_protect(row: &Row, target: usize) -> bool
 
 /// Whether what a target may store in PAGE is a set of its pages' values.
 #[tactic(auto, unfolding(crate::specs::domain::Sets::HasValue))]
-fn has_page_set(row: &Row, index: usize, target: &Target) -> bool
+pub(crate) fn has_page_set(row: &Row, index: usize, target: &Target) -> bool
     ensures { IsTrue result ↔ IsSetOf (λ v. IsTrue (is_page_value target.now.pages v))
         (set_at (row_view row.now).pages index) }
 {
@@ -107,77 +105,18 @@ fn has_page_set(row: &Row, index: usize, target: &Target) -> bool
 }
 
 /// Whether what a target may store in WRITE_PROTECT is a set of protections.
-fn has_protect_set(row: &Row, index: usize) -> bool
+pub(crate) fn has_protect_set(row: &Row, index: usize) -> bool
     ensures { IsTrue result ↔ IsSetOf (λ v. IsTrue (is_protection v))
         (set_at (row_view row.now).protects index) }
 {
     has_some_protect(row, index)
 }
 
-/// Whether both sets of a target are sets of its values.
-fn has_sets(row: &Row, index: usize, target: &Target) -> bool
-    ensures { IsTrue result ↔ HasSets (row_view row.now) index target.now }
-{
-    has_page_set(row, index, target) && has_protect_set(row, index)
-}
-
-/// Whether each source is one of the board.
-fn are_sources(board: &Board, sources: &[Source]) -> bool
-    ensures { IsTrue result ↔ All (IsSource board.now) sources.now }
-{
-    sources.iter().all(|source| source.is_of(board))
-}
-
-/// Whether each span has a number.
-fn are_spans(spans: &[Span]) -> bool
-    ensures { IsTrue result ↔ All (λ s. (s.lo ≤ s.hi) × (s.hi < 65536)) spans.now }
-{
-    spans.iter().all(|span| span.lo <= span.hi)
-}
-
-/// Whether no span ends over the greatest number of a counter.
-fn are_counters(spans: &[Span]) -> bool
-    ensures { IsTrue result ↔ All (λ s. s.hi ≤ MOST_TURNS) spans.now }
-{
-    spans.iter().all(|span| span.hi <= MOST_TURNS)
-}
-
 /// Whether each coefficient is at most the most ticks.
-fn are_coeffs(coeffs: &[u64]) -> bool
+pub(crate) fn are_coeffs(coeffs: &[u64]) -> bool
     ensures { IsTrue result ↔ All (λ k. k ≤ most_ticks) coeffs.now }
 {
     coeffs.iter().all(|coeff| *coeff <= MOST_TICKS)
-}
-
-/// Whether all sets of a row are sets of their targets' values.
-fn has_all_sets(board: &Board, row: &Row) -> bool
-    ensures { IsTrue result ↔ EachTarget board.now (HasSets (row_view row.now)) }
-{
-    for (index, target) in board.targets().iter().enumerate() {
-        if !has_sets(row, index, target) {
-            return false;
-        }
-    }
-    true
-}
-
-/// Whether each part of a row is one of the board.
-fn is_shaped_by_part(board: &Board, row: &Row) -> bool
-    ensures { IsTrue result ↔ IsShapedByPart board.now row.now }
-{
-    row.pages.len() == board.targets().len()
-        && row.protects.len() == board.targets().len()
-        && has_all_sets(board, row)
-        && row.good.is_of(board)
-        && are_spans(&row.regs)
-        && are_sources(board, &row.sources)
-        && are_spans(&row.counters)
-        && are_counters(&row.counters)
-        && row.lost.lo <= row.lost.hi
-        && row.lost.hi <= board.contentions()
-        && row.base <= MOST_TICKS
-        && are_coeffs(&row.coeffs)
-        && row.lost_coeff <= MOST_TICKS
 }
 
 impl Row {
@@ -193,7 +132,6 @@ impl Row {
     pub fn is_of(&self, board: &Board) -> bool
         ensures { IsTrue result ↔ IsRow board.now (row_view self.now) }
     {
-        self.is_sized();
-        is_shaped_by_part(board, self)
+        self.misfit(board).is_none()
     }
 }

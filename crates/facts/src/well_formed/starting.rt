@@ -1,15 +1,21 @@
-//! Whether a row holds every start.
+//! Whether a row holds every start, and its first part that doesn't.
 
-ghost use Rattle.std.specs.Prelude.{◌≡◌, ◌↔◌, ℕ, IsTrue, All, length, replicate};
-ghost use Rattle.facts.specs.domain.Rows.{row_view, set_at, source_at, InSpans};
-ghost use Rattle.facts.specs.well_formed.Shapes.{EachTarget};
-ghost use Rattle.facts.specs.well_formed.Starts.{HoldsStarts, StartsAt, StartsByPart};
+ghost use Rattle.std.specs.Prelude.{◌≡◌, ◌<◌, ◌↔◌, IsTrue, All, None, length};
+ghost use Rattle.board.specs.Boards.{Target as AnyTarget};
+ghost use Rattle.targets.specs.States.{IsTargetAt};
+ghost use Rattle.facts.specs.domain.Firsts.{FindsFirst};
+ghost use Rattle.facts.specs.domain.Rows.{row_view, set_at, source_at, span_at, InSpan};
+ghost use Rattle.facts.specs.domain.Sets.{rails_in};
+ghost use Rattle.facts.specs.well_formed.Starts.{HoldsStarts, StartsAt};
+ghost use Rattle.facts.specs.well_formed.Unheld.{FindsUnheld};
 ghost use Rattle.facts.specs.declared.domain.source.Source.TheVariants as source;
 
+use crate::domain::good_set::GoodSet;
 use crate::domain::row::Row;
 use crate::domain::source::Source;
 use crate::domain::span::Span;
-use crate::well_formed::shaping::{has_none_from, has_page, has_protect};
+use crate::well_formed::shaping::{has_page, has_protect};
+use crate::well_formed::unheld::Unheld;
 use board::{Board, Target};
 
 /// Whether a row has each page that a target may start with.
@@ -41,67 +47,99 @@ fn starts_at(row: &Row, index: usize, target: &Target) -> bool
     has_start_pages(row, index, target) && has_start_protects(row, index, target)
 }
 
-/// Whether each span begins at 0.
-fn begin_at_zero(spans: &[Span]) -> bool
-    ensures { IsTrue result ↔ All (λ s. s.lo ≡ 0) spans.now }
-{
-    spans.iter().all(|span| span.lo == 0)
-}
-
-/// Whether 0 is in each span.
-fn hold_zero(spans: &[Span]) -> bool
-    ensures { IsTrue result ↔ InSpans spans.now (replicate (length spans.now) 0) }
-{
-    begin_at_zero(spans)
-}
-
-/// Whether each source is none.
-fn are_none(sources: &[Source]) -> bool
-    ensures { IsTrue result ↔ All (λ s. s ≡ source.None) sources.now }
-{
-    sources.iter().all(|source| *source == Source::None)
-}
-
-/// Whether no source names anything.
-fn name_nothing(sources: &[Source]) -> bool
-    ensures { IsTrue result ↔ ((r : ℕ) → source_at sources.now r ≡ source.None) }
-{
-    are_none(sources)
-}
-
-/// Whether a row has what each target may start with.
-fn holds_each_start(board: &Board, row: &Row) -> bool
-    ensures { IsTrue result ↔ EachTarget board.now (StartsAt (row_view row.now)) }
+/// The first target of which a row doesn't hold every start.
+fn unheld_target(board: &Board, row: &Row) -> Option<usize>
+    ensures { FindsFirst (λ i. (t : AnyTarget) → IsTargetAt board.now i t
+        → StartsAt (row_view row.now) i t) result }
 {
     for (index, target) in board.targets().iter().enumerate() {
         if !starts_at(row, index, target) {
-            return false;
+            return Some(index);
         }
     }
-    true
+    None
 }
 
-/// Whether each part of a row holds every start.
-fn starts_by_part(board: &Board, row: &Row) -> bool
-    ensures { IsTrue result ↔ StartsByPart board.now row.now }
+/// The first rail that is known to be good.
+fn good_rail(good: GoodSet) -> Option<usize>
+    ensures { FindsFirst (λ d. IsTrue (rails_in good d) → ⊥) result }
 {
-    holds_each_start(board, row)
-        && has_none_from(row.good, 0)
-        && hold_zero(&row.regs)
-        && name_nothing(&row.sources)
-        && hold_zero(&row.counters)
-        && row.lost.lo == 0
-        && row.lost_coeff == 0
+    for rail in 0..64 {
+        if good.contains(rail) {
+            return Some(usize::from(rail));
+        }
+    }
+    None
+}
+
+/// The first span that hasn't 0.
+fn span_without_zero(spans: &[Span]) -> Option<usize>
+    ensures { FindsFirst (λ n. n < length spans.now → InSpan (span_at spans.now n) 0) result }
+{
+    for place in 0..spans.len() {
+        if spans[place].lo > 0 {
+            return Some(place);
+        }
+    }
+    None
+}
+
+/// The first source that names something.
+fn naming_source(sources: &[Source]) -> Option<usize>
+    ensures { FindsFirst (λ n. source_at sources.now n ≡ source.None) result }
+{
+    for place in 0..sources.len() {
+        if sources[place] != Source::None {
+            return Some(place);
+        }
+    }
+    None
+}
+
+/// The first part of a row that doesn't hold every start.
+fn first_unheld(board: &Board, row: &Row) -> Option<Unheld>
+    ensures { FindsUnheld board.now (row_view row.now) result }
+{
+    if let Some(target) = unheld_target(board, row) {
+        return Some(Unheld::Target(target));
+    }
+    if let Some(rail) = good_rail(row.good) {
+        return Some(Unheld::Good(rail));
+    }
+    if let Some(register) = span_without_zero(&row.regs) {
+        return Some(Unheld::Register(register));
+    }
+    if let Some(register) = naming_source(&row.sources) {
+        return Some(Unheld::Source(register));
+    }
+    if let Some(counter) = span_without_zero(&row.counters) {
+        return Some(Unheld::Counter(counter));
+    }
+    if row.lost.lo > 0 {
+        return Some(Unheld::Lost);
+    }
+    if row.lost_coeff > 0 {
+        return Some(Unheld::LostTicks);
+    }
+    None
 }
 
 impl Row {
-    /// Whether it holds every start of the board: each value that a target's PAGE and WRITE_PROTECT
-    /// may have at the start, no good rail, 0 in each register and counter, no sources, and no lost
-    /// arbitration, of which none is paid for.
+    /// Its first part that doesn't hold every start of the board: a value that a target's PAGE or
+    /// WRITE_PROTECT may have at the start, no good rail, 0 in each register, no sources, 0 in each
+    /// counter, and no lost arbitration, of which none is paid for.
+    pub fn unheld(&self, board: &Board) -> Option<Unheld>
+        ensures first { FindsUnheld board.now (row_view self.now) result }
+        ensures row { (result ≡ None) ↔ HoldsStarts board.now (row_view self.now) }
+    {
+        self.is_sized();
+        first_unheld(board, self)
+    }
+
+    /// Whether it holds every start of the board.
     pub fn holds_starts(&self, board: &Board) -> bool
         ensures { IsTrue result ↔ HoldsStarts board.now (row_view self.now) }
     {
-        self.is_sized();
-        starts_by_part(board, self)
+        self.unheld(board).is_none()
     }
 }

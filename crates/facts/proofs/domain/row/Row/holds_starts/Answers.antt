@@ -1,7 +1,5 @@
-use Rattle.facts.proofs.Belongs.Starts.{starts}
+use Rattle.facts.proofs.Belongs.Fitting.{none_is}
 use Rattle.facts.proofs.domain.row.Row.holds_starts.Goals as goal
 
 pub returns : goal.returns
-returns c =
-    starts c.args.board.now c.args.self.now c.starts_by_part.result c.is_sized.ensures
-    c.starts_by_part.ensures
+returns c = none_is c.unheld.result c.is_none.result c.is_none.ensures _ c.unheld.ensures.row

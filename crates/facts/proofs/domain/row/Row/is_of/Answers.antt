@@ -1,7 +1,6 @@
-use Rattle.facts.proofs.Belongs.Rows.{shaped}
+use Rattle.facts.proofs.Belongs.Fitting.{none_is}
 use Rattle.facts.proofs.domain.row.Row.is_of.Goals as goal
 
 pub returns : goal.returns
 returns c =
-    shaped c.args.board.now c.args.self.now c.is_shaped_by_part.result c.is_sized.ensures
-    c.is_shaped_by_part.ensures
+    none_is c.misfit.result c.is_none.result c.is_none.ensures _ c.misfit.ensures.row

@@ -1,0 +1,6 @@
+use Rattle.std.proofs.Common.{◌≤◌, ◌<◌, ℕ, IsTrue}
+use Rattle.facts.specs.domain.Sets.{rails_in}
+use Rattle.facts.proofs.well_formed.misfitting.rail_from.Given as goal
+
+abbrev pub invariant-loop-rail : goal.invariant-loop-rail
+invariant-loop-rail l = (d : ℕ) → l.first ≤ d → d < l.rail → IsTrue (rails_in l.good d) → ⊥
