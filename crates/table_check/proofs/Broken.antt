@@ -1,5 +1,5 @@
 -- Which rule an instruction or an edge breaks.
-use Rattle.std.proofs.Common.{◌≡◌, ◌+◌, ◌-◌, ◌≤◌, ◌<◌, ℕ, zero, suc, Some, None, List, [], ◌∷◌}
+use Rattle.std.proofs.Common.{◌≡◌, ◌≤◌, ◌<◌, ℕ, zero, suc, Some, None, List, [], ◌∷◌}
 use Rattle.std.proofs.Common.{true, false}
 use Rattle.std.proofs.Common.{map, length, refl, sym, ap, subst, inl, inr, ◌∙◌, All, arith}
 use Rattle.std.specs.Prelude.{Result, Ok, Err, IfOk, replicate, slice_index}
@@ -17,13 +17,13 @@ use Rattle.facts.specs.domain.Covering.{IsSized}
 use Rattle.facts.specs.duties.Duties.{IsFirstFailing, Meets, duties}
 use Rattle.facts.specs.transfer.Edges.{Edge, edge}
 use Rattle.facts.specs.FactLaws.{IsShaped}
-use Rattle.facts.specs.domain.Rows.{Row, InSpan, InSpans, IsRow, RowCovers, most_ticks, no_span}
-use Rattle.facts.specs.domain.Rows.{rank, row_view}
+use Rattle.facts.specs.domain.Rows.{Row, IsRow, RowCovers, most_ticks, no_span, row_view}
 use Rattle.facts.specs.domain.Sets.{pages_in, protects_in}
 use Rattle.facts.specs.transfer.TimedEdges.{HasTimed}
 use Rattle.facts.specs.transfer.Ways.{timed_view}
 use Rattle.table_check.specs.Tables.{Table, row_of}
 use Rattle.table_check.specs.checker.Obligations.{Obligation, Covered, Duty, Falls, IsFirstFault}
+use Rattle.table_check.specs.checker.Looking.{PaysFor}
 use Rattle.table_check.proofs.Places.{none_some, some_same}
 
 -- duties
@@ -94,12 +94,6 @@ counters_are_spans b row h =
     all_by_index (λ (s : Span). (s.lo ≤ s.hi) × (s.hi ≤ 1000)) row.counters no_span 4
     h.counter_count h.counters
 
-pub shaped_counters : (b : Board) (row : Row) → IsShaped b row
-    → All (λ (s : Span). (s.lo ≤ s.hi) × (s.hi ≤ 1000)) row.counters
-shaped_counters b row h =
-    all_by_index (λ (s : Span). (s.lo ≤ s.hi) × (s.hi ≤ 1000)) row.counters no_span 4
-    h.counter_count h.counters
-
 -- rows of the code
 pub row_sized : (b : Board) (row : CodeRow) → IsRow b (row_view row) → IsSized b row
 row_sized b row h = record {
@@ -114,11 +108,6 @@ shaped_sized b row h = record {
 }
 
 -- edges
-abbrev pub PaysFor : Board → ℕ → Row → Row → Type 0
-PaysFor b worst next row = (counters : List ℕ) → InSpans row.counters counters
-    → (lost : ℕ) → InSpan row.lost lost
-    → worst + rank next counters (b.contentions - lost) ≤ rank row counters (b.contentions - lost)
-
 abbrev pub of_one : ℕ → ℕ → Edge → List Obligation
 of_one place worst e = Covered place e ∷ Falls place worst e ∷ []
 
@@ -165,9 +154,6 @@ kept b p t place worst e next there covers pays =
         refl,
       ),
     )
-
-pub false_true : false ≡ true → ⊥
-false_true e = cc
 
 -- a result's clause in other words
 pub ok_to : {X E : Type 0} (r : Result X E) (P Q : X → Type 0) → ((x : X) → P x → Q x)

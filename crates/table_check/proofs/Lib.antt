@@ -10,7 +10,9 @@ pub mod FlatCase
 pub mod Firsts
 pub mod Parts
 pub mod Gains
+pub mod Lacking
 pub mod Broken
+pub mod Evidence
 pub mod TypedRows
 pub mod Texts
 pub mod SmallTables

@@ -1,5 +1,7 @@
 pub mod Rules
 pub mod Obligations
+pub mod Lacking
+pub mod Breaches
 pub mod ByPlace
 pub mod FirstVersion
 pub mod SafeTables

@@ -1,5 +1,6 @@
 //! Whether a table keeps the rule book.
 
+pub(crate) mod breach;
 pub(crate) mod checking;
 pub(crate) mod forming;
 pub(crate) mod leading;

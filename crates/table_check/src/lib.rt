@@ -7,7 +7,8 @@ mod law;
 mod table;
 mod text;
 
-pub use checker::checking::check;
+pub use checker::breach::{Breach, Judgement, Refusal, Spot};
+pub use checker::checking::{check, judge};
 pub use checker::verdict::Verdict;
 pub use law::{
     accepted_runs_are_admitted, inductive_runs_are_safe, small_tables_are_judged,

@@ -1,15 +1,23 @@
 -- The code's words for what it looks at. No public contract cites this: `Obligations` says what is
 -- asked.
-use Rattle.std.specs.Prelude.{◌≡◌, ℕ, ◌-◌, List, [], ◌∷◌, ◌++◌, Option, Some, None, map}
-use Rattle.std.specs.Prelude.{All, slice_get}
+use Rattle.std.specs.Prelude.{◌≡◌, ℕ, ◌+◌, ◌-◌, ◌≤◌, List, [], ◌∷◌, ◌++◌, Option, Some, None}
+use Rattle.std.specs.Prelude.{All, map, slice_get}
 use Rattle.board.specs.Boards.{Board}
 use Rattle.seq_program.specs.declared.instr.Instr.{Instr}
 use Rattle.facts.specs.declared.domain.row.Row.{Row as CodeRow}
-use Rattle.facts.specs.declared.domain.span.Span.{Span}
-use Rattle.facts.specs.domain.Rows.{Row, row_view, IsRow}
-use Rattle.facts.specs.FactLaws.{IsShaped}
+use Rattle.facts.specs.declared.duties.rule.Rule.{Rule}
+use Rattle.facts.specs.domain.Rows.{Row, row_view, InSpan, InSpans, IsRow, rank}
+use Rattle.facts.specs.FactLaws.{IsShaped, without_ticks}
+use Rattle.facts.specs.transfer.Edges.{Edge}
 use Rattle.facts.specs.transfer.Ways.{timed_view}
 use Rattle.table_check.specs.Tables.{Table, row_of}
+use Rattle.table_check.specs.declared.checker.breach.Breach.{Breach}
+use Rattle.table_check.specs.declared.checker.breach.Refusal.{Refusal}
+use Rattle.table_check.specs.declared.checker.paying.Lack.{Lack}
+use Rattle.table_check.specs.declared.checker.paying.Ticks.{Ticks}
+use Rattle.table_check.specs.declared.checker.breach.Breach.TheVariants.{Unpaid, UnpaidEnd}
+use Rattle.table_check.specs.checker.Breaches.{rule_of, IsToBlame}
+use Rattle.table_check.specs.checker.Lacking.{IsUnpaid}
 use Rattle.table_check.specs.checker.Obligations.{Obligation, Length, Start, Shape}
 use Rattle.table_check.specs.checker.Obligations.{of_edges, of_row, shapes}
 
@@ -20,9 +28,46 @@ HasRowsOf b t = (place : ℕ) (row : Row) → row_of t place ≡ Some row → Is
 abbrev pub AreShapedEdges : Board → List (ℕ × CodeRow × ℕ) → Type 0
 AreShapedEdges b edges = All (λ e. IsShaped b (row_view e.1)) edges
 
--- how many arbitrations may still be lost, where so many were lost
-abbrev pub left_in : Board → Span → Span
-left_in b lost = record { lo = b.contentions - lost.hi; hi = b.contentions - lost.lo }
+-- a row with other ticks
+abbrev pub with_ticks : Row → Ticks → Row
+with_ticks row ticks = record row {
+  base = ticks.base;
+  coeffs = ticks.coeffs;
+  lost_coeff = ticks.lost_coeff;
+}
+
+-- the ticks of a row pay for what follows and for the next row, or here most are lacking
+abbrev pub PaysFor : Board → ℕ → Row → Row → Type 0
+PaysFor b ticks next row =
+    (counters : List ℕ) → InSpans row.counters counters → (lost : ℕ) → InSpan row.lost lost
+    → ticks + rank next counters (b.contentions - lost) ≤ rank row counters (b.contentions - lost)
+
+abbrev pub FindsLack : Board → ℕ → Row → Row → Option Lack → Type 0
+FindsLack b ticks next row None = PaysFor b ticks next row
+FindsLack b ticks next row (Some lack) = IsUnpaid b ticks next row lack.at lack.needed lack.left
+
+-- what is told of a breach at a place
+abbrev pub fault_at : ℕ → Breach → ℕ × Rule
+fault_at place by = (place, rule_of by)
+
+abbrev pub fault_in : Refusal → ℕ × Rule
+fault_in r = fault_at r.place r.breach
+
+-- what is to blame for a refusal
+abbrev pub Blames : Board → List Instr → Table → Refusal → Type 0
+Blames b p t r = IsToBlame b p t r.place r.breach
+
+-- the ticks fall along an edge to a row, or they don't by this
+abbrev pub FindsUnpaid : Board → Row → ℕ → Edge × ℕ → Option Breach → Type 0
+FindsUnpaid b next index e None = PaysFor b e.1 next e.0.row
+FindsUnpaid b next index e (Some (Unpaid edge to spot needed left)) =
+    (edge ≡ index) × (to ≡ e.0.to) × IsUnpaid b e.1 next e.0.row spot needed left
+FindsUnpaid b next index e (Some other) = ⊥
+
+-- no tick is left at an end
+abbrev pub EndsUnpaid : Board → Row → Breach → Type 0
+EndsUnpaid b row (UnpaidEnd spot) = IsUnpaid b 1 (without_ticks row) row spot 1 0
+EndsUnpaid b row other = ⊥
 
 -- what is owed along edges
 abbrev pub of_code : ℕ → List (ℕ × CodeRow × ℕ) → List Obligation

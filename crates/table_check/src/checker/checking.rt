@@ -1,26 +1,29 @@
 //! The checker.
 
-ghost use Rattle.std.specs.Prelude.{◌≡◌, ℕ, IfOk, slice_get, Some};
+ghost use Rattle.std.specs.Prelude.{◌≡◌, IfOk, IfSome, option_map, slice_get, Some};
 ghost use Rattle.facts.specs.domain.Rows.{row_view, IsRow};
 ghost use Rattle.table_check.specs.Tables.{table_view, rows_view};
+ghost use Rattle.table_check.specs.checker.Breaches.{BreaksAt, IsJudgement, verdict_of};
 ghost use Rattle.table_check.specs.checker.Looking.{HasRowsOf, at_place};
+ghost use Rattle.table_check.specs.checker.Looking.{fault_at, fault_in, Blames};
 ghost use Rattle.table_check.specs.checker.Obligations.{IsFirstFault, IsVerdict, bound_of};
 ghost use Rattle.table_check.specs.checker.Obligations.{obligations};
 ghost use Rattle.table_check.specs.checker.Obligations.{of_places, of_row};
 ghost use Rattle.table_check.specs.checker.SafeTables.{IsSafeVerdict};
 
-use crate::checker::forming::form_fault;
-use crate::checker::leading::{edges_fault, end_fault, shaped_edges};
+use crate::checker::breach::{Breach, Judgement, Refusal};
+use crate::checker::forming::form_breach;
+use crate::checker::leading::{edges_breach, end_breach, shaped_edges};
 use crate::checker::verdict::Verdict;
 use crate::law::inductive_runs_are_safe;
 use crate::table::{Table, row_at};
 use board::{Board, board_is_valid};
-use facts::{Row, Rule, duty};
+use facts::{Row, violation};
 use seq_program::{Instr, Program, program_is_valid};
 use std::alloc::{AllocError, Global};
 
-/// The first rule that an instruction breaks at its row, or one of its edges.
-fn instr_fault(
+/// What an instruction breaks first at its row, or the first of its edges that breaks a rule.
+fn instr_breach(
     alloc: Global,
     board: &Board,
     program: &Program,
@@ -28,34 +31,40 @@ fn instr_fault(
     place: usize,
     instr: &Instr,
     row: &Row,
-) -> Result<Option<(usize, Rule)>, AllocError>
+) -> Result<Option<Breach>, AllocError>
     requires here { slice_get program.now place ≡ Some instr.now }
     requires rows { HasRowsOf board.now (rows_view rows.now) }
     requires row { IsRow board.now (row_view row.now) }
-    ensures { IfOk result (λ found. IsFirstFault board.now program.now (rows_view rows.now)
-        (of_row board.now place instr.now (row_view row.now)) found) }
+    ensures first { IfOk result (λ found. IsFirstFault board.now program.now (rows_view rows.now)
+        (of_row board.now place instr.now (row_view row.now))
+        (option_map (fault_at place) found)) }
+    ensures blame { IfOk result (λ found. IfSome found
+        (BreaksAt board.now (rows_view rows.now) place instr.now (row_view row.now))) }
 {
-    if let Some(rule) = duty(board, instr, row) {
-        return Ok(Some((place, rule)));
+    if let Some(violation) = violation(board, instr, row) {
+        return Ok(Some(Breach::Duty(violation)));
     }
     let edges = shaped_edges(alloc, board, program, place, instr, row)?;
-    match edges_fault(board, rows, place, &edges) {
-        Some(fault) => Ok(Some(fault)),
-        None => Ok(end_fault(board, place, instr, row)),
+    match edges_breach(board, rows, &edges) {
+        Some(breach) => Ok(Some(breach)),
+        None => Ok(end_breach(board, instr, row)),
     }
 }
 
-/// The first rule that fails at a place; none where the table has no row there.
-fn place_fault(
+/// What is broken first at a place; nothing where the table has no row there.
+fn place_breach(
     alloc: Global,
     board: &Board,
     program: &Program,
     rows: &[Option<Row>],
     place: usize,
-) -> Result<Option<(usize, Rule)>, AllocError>
+) -> Result<Option<Refusal>, AllocError>
     requires rows { HasRowsOf board.now (rows_view rows.now) }
-    ensures { IfOk result (λ found. IsFirstFault board.now program.now (rows_view rows.now)
-        (at_place board.now program.now (rows_view rows.now) place) found) }
+    ensures first { IfOk result (λ found. IsFirstFault board.now program.now (rows_view rows.now)
+        (at_place board.now program.now (rows_view rows.now) place)
+        (option_map fault_in found)) }
+    ensures blame { IfOk result (λ found. IfSome found
+        (Blames board.now program.now (rows_view rows.now))) }
 {
     let Some(row) = row_at(rows, place) else {
         return Ok(None);
@@ -63,41 +72,48 @@ fn place_fault(
     let Some(instr) = program.at(place) else {
         return Ok(None);
     };
-    instr_fault(alloc, board, program, rows, place, instr, row)
+    match instr_breach(alloc, board, program, rows, place, instr, row)? {
+        Some(breach) => Ok(Some(Refusal { place, breach })),
+        None => Ok(None),
+    }
 }
 
-/// The first rule that fails at a place, places upwards.
-fn places_fault(
+/// What is broken first at a place, places upwards.
+fn places_breach(
     alloc: Global,
     board: &Board,
     program: &Program,
     rows: &[Option<Row>],
-) -> Result<Option<(usize, Rule)>, AllocError>
+) -> Result<Option<Refusal>, AllocError>
     requires rows { HasRowsOf board.now (rows_view rows.now) }
-    ensures { IfOk result (λ found. IsFirstFault board.now program.now (rows_view rows.now)
-        (of_places board.now 0 program.now (rows_view rows.now)) found) }
+    ensures first { IfOk result (λ found. IsFirstFault board.now program.now (rows_view rows.now)
+        (of_places board.now 0 program.now (rows_view rows.now)) (option_map fault_in found)) }
+    ensures blame { IfOk result (λ found. IfSome found
+        (Blames board.now program.now (rows_view rows.now))) }
 {
     for place in 0..rows.len() {
-        if let Some(fault) = place_fault(alloc, board, program, rows, place)? {
-            return Ok(Some(fault));
+        if let Some(refusal) = place_breach(alloc, board, program, rows, place)? {
+            return Ok(Some(refusal));
         }
     }
     Ok(None)
 }
 
-/// The first obligation that fails.
-fn first_fault(
+/// The first obligation that fails, and what is to blame.
+fn first_breach(
     alloc: Global,
     board: &Board,
     program: &Program,
     rows: &[Option<Row>],
-) -> Result<Option<(usize, Rule)>, AllocError>
-    ensures { IfOk result (λ found. IsFirstFault board.now program.now (rows_view rows.now)
-        (obligations board.now program.now (rows_view rows.now)) found) }
+) -> Result<Option<Refusal>, AllocError>
+    ensures first { IfOk result (λ found. IsFirstFault board.now program.now (rows_view rows.now)
+        (obligations board.now program.now (rows_view rows.now)) (option_map fault_in found)) }
+    ensures blame { IfOk result (λ found. IfSome found
+        (Blames board.now program.now (rows_view rows.now))) }
 {
-    match form_fault(board, program, rows) {
-        Some(fault) => Ok(Some(fault)),
-        None => places_fault(alloc, board, program, rows),
+    match form_breach(board, program, rows) {
+        Some(refusal) => Ok(Some(refusal)),
+        None => places_breach(alloc, board, program, rows),
     }
 }
 
@@ -111,21 +127,41 @@ fn bound_of(rows: &[Option<Row>]) -> u64
     }
 }
 
-/// The verdict: a fault refuses the rows, and without one they are accepted.
-fn verdict_on(
+/// The judgement: a refusal, or without one the rows are accepted.
+fn judgement_on(
     alloc: Global,
     board: &Board,
     program: &Program,
     rows: &[Option<Row>],
-) -> Result<Verdict, AllocError>
-    ensures { IfOk result (λ v. IsVerdict board.now program.now (rows_view rows.now) v) }
+) -> Result<Judgement, AllocError>
+    ensures { IfOk result (λ j. IsJudgement board.now program.now (rows_view rows.now) j) }
 {
-    match first_fault(alloc, board, program, rows)? {
-        Some((place, rule)) => Ok(Verdict::Refused { place, rule }),
-        None => Ok(Verdict::Accepted {
+    match first_breach(alloc, board, program, rows)? {
+        Some(refusal) => Ok(Judgement::Refused(refusal)),
+        None => Ok(Judgement::Accepted {
             bound: bound_of(rows),
         }),
     }
+}
+
+/// What `check` answers on a table of facts for a program on a board, and with a refusal what is
+/// to blame for it: the first obligation that fails, in the order that `check` says, and of that
+/// the first thing that breaks it, with ticks counted where most are lacking. The table may be any.
+/// Fails only for want of memory.
+pub fn judge(
+    alloc: Global,
+    board: &Board,
+    program: &Program,
+    table: &Table,
+) -> Result<Judgement, AllocError>
+    ensures exactly { IfOk result
+        (λ j. IsJudgement board.now program.now (table_view table.now) j) }
+    ensures safe { IfOk result (λ j. IsSafeVerdict board.now program.now (verdict_of j)) }
+{
+    inductive_runs_are_safe();
+    board_is_valid(board);
+    program_is_valid(program);
+    judgement_on(alloc, board, program, &table.rows)
 }
 
 /// The verdict on a table of facts for a program on a board.
@@ -148,8 +184,5 @@ pub fn check(
         (λ v. IsVerdict board.now program.now (table_view table.now) v) }
     ensures safe { IfOk result (λ v. IsSafeVerdict board.now program.now v) }
 {
-    inductive_runs_are_safe();
-    board_is_valid(board);
-    program_is_valid(program);
-    verdict_on(alloc, board, program, &table.rows)
+    Ok(judge(alloc, board, program, table)?.verdict())
 }

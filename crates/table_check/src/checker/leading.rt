@@ -1,6 +1,7 @@
-//! Whether the edges of a place keep the rules.
+//! Whether the edges of a place keep the rules, and what is to blame where one doesn't.
 
-ghost use Rattle.std.specs.Prelude.{◌≡◌, ◌≤◌, ◌∷◌, [], ℕ, List, IfOk, map, slice_get, Some};
+ghost use Rattle.std.specs.Prelude.{◌≡◌, ◌∷◌, [], ℕ, List, IfOk, IfSome, map, option_map};
+ghost use Rattle.std.specs.Prelude.{slice_get, Some};
 ghost use Rattle.seq_program.specs.declared.instr.Instr.{Instr};
 ghost use Rattle.facts.specs.declared.duties.rule.Rule.TheVariants.{K1};
 ghost use Rattle.facts.specs.duties.Duties.{Meets};
@@ -9,13 +10,16 @@ ghost use Rattle.facts.specs.domain.Rows.{row_view, IsRow};
 ghost use Rattle.facts.specs.transfer.TimedEdges.{timed_edges};
 ghost use Rattle.facts.specs.transfer.Ways.{timed_view};
 ghost use Rattle.table_check.specs.Tables.{Table, rows_view};
-ghost use Rattle.table_check.specs.checker.Looking.{AreShapedEdges, HasRowsOf, of_code};
+ghost use Rattle.table_check.specs.checker.Breaches.{BreaksEdge, BreaksFirst, BreaksAt};
+ghost use Rattle.table_check.specs.checker.Looking.{AreShapedEdges, HasRowsOf, of_code, fault_at};
+ghost use Rattle.table_check.specs.checker.Looking.{FindsUnpaid, EndsUnpaid};
 ghost use Rattle.table_check.specs.checker.Obligations.{FallsEnd, IsFirstFault, of_end};
 
-use crate::checker::paying::{pays, pays_end};
+use crate::checker::breach::Breach;
+use crate::checker::paying::{lack_at_end, lack_of};
 use crate::table::row_at;
 use board::{Board, board_is_valid};
-use facts::{Part, Row, Rule, covered_rows_follow, edges};
+use facts::{Row, covered_rows_follow, edges};
 use seq_program::{Instr, Program, program_is_valid};
 use std::alloc::{AllocError, Global};
 
@@ -42,79 +46,99 @@ pub(crate) fn shaped_edges(
     edges(alloc, board, program, place, row)
 }
 
-/// The rule that an edge breaks: K6 where the next place has no row that covers the edge's, K7
-/// where the ticks don't fall.
-fn edge_fault(
-    board: &Board,
-    rows: &[Option<Row>],
-    place: usize,
-    edge: &(usize, Row, u64),
-) -> Option<(usize, Rule)>
-    requires rows { HasRowsOf board.now (rows_view rows.now) }
+/// K7: where the ticks don't fall along an edge to a row that covers it.
+fn unpaid(board: &Board, index: usize, edge: &(usize, Row, u64), next: &Row) -> Option<Breach>
     requires shaped { IsShaped board.now (row_view edge.now.1) }
-    ensures { (p : List Instr) → IsFirstFault board.now p (rows_view rows.now)
-        (of_code place (edge.now ∷ [])) result }
+    ensures { FindsUnpaid board.now (row_view next.now) index (timed_view edge.now) result }
 {
     let (to, row, worst) = edge;
-    let Some(next) = row_at(rows, *to) else {
-        return Some((place, Rule::K6));
-    };
-    if !next.covers(row) {
-        Some((place, Rule::K6))
-    } else if !pays(board, *worst, next, row) {
-        Some((place, Rule::K7))
-    } else {
-        None
-    }
+    let lack = lack_of(board, *worst, next, row)?;
+    Some(Breach::Unpaid {
+        edge: index,
+        to: *to,
+        at: lack.at,
+        needed: lack.needed,
+        left: lack.left,
+    })
 }
 
-/// The first rule that an edge of a place breaks.
-pub(crate) fn edges_fault(
+/// What an edge breaks: K6 where the next place has no row that covers the edge's, K7 where the
+/// ticks don't fall.
+fn edge_breach(
     board: &Board,
     rows: &[Option<Row>],
-    place: usize,
+    index: usize,
+    edge: &(usize, Row, u64),
+) -> Option<Breach>
+    requires rows { HasRowsOf board.now (rows_view rows.now) }
+    requires shaped { IsShaped board.now (row_view edge.now.1) }
+    ensures first { (p : List Instr) (place : ℕ) → IsFirstFault board.now p (rows_view rows.now)
+        (of_code place (edge.now ∷ [])) (option_map (fault_at place) result) }
+    ensures blame { IfSome result
+        (BreaksEdge board.now (rows_view rows.now) index (timed_view edge.now)) }
+{
+    let (to, row, _worst) = edge;
+    let Some(next) = row_at(rows, *to) else {
+        return Some(Breach::NoRow {
+            edge: index,
+            to: *to,
+        });
+    };
+    if let Some(part) = next.uncovered(row) {
+        return Some(Breach::Uncovered {
+            edge: index,
+            to: *to,
+            part,
+        });
+    }
+    unpaid(board, index, edge, next)
+}
+
+/// What the first edge breaks that breaks a rule.
+pub(crate) fn edges_breach(
+    board: &Board,
+    rows: &[Option<Row>],
     edges: &[(usize, Row, u64)],
-) -> Option<(usize, Rule)>
+) -> Option<Breach>
     requires rows { HasRowsOf board.now (rows_view rows.now) }
     requires shaped { AreShapedEdges board.now edges.now }
-    ensures { (p : List Instr) → IsFirstFault board.now p (rows_view rows.now)
-        (of_code place edges.now) result }
+    ensures first { (p : List Instr) (place : ℕ) → IsFirstFault board.now p (rows_view rows.now)
+        (of_code place edges.now) (option_map (fault_at place) result) }
+    ensures blame { IfSome result
+        (BreaksFirst board.now (rows_view rows.now) (map timed_view edges.now)) }
 {
-    for edge in edges {
-        if let Some(fault) = edge_fault(board, rows, place, edge) {
-            return Some(fault);
+    for (index, edge) in edges.iter().enumerate() {
+        if let Some(breach) = edge_breach(board, rows, index, edge) {
+            return Some(breach);
         }
     }
     None
 }
 
 /// K7 at an end: whether a tick is left there.
-fn last_fault(board: &Board, place: usize, row: &Row) -> Option<(usize, Rule)>
+fn last_breach(board: &Board, row: &Row) -> Option<Breach>
     requires { IsRow board.now (row_view row.now) }
-    ensures { (p : List Instr) (t : Table)
-        → IsFirstFault board.now p t (FallsEnd place (row_view row.now) ∷ []) result }
+    ensures first { (p : List Instr) (t : Table) (place : ℕ)
+        → IsFirstFault board.now p t (FallsEnd place (row_view row.now) ∷ [])
+        (option_map (fault_at place) result) }
+    ensures blame { IfSome result (EndsUnpaid board.now (row_view row.now)) }
 {
-    if pays_end(board, row) {
-        None
-    } else {
-        Some((place, Rule::K7))
-    }
+    let lack = lack_at_end(board, row)?;
+    Some(Breach::UnpaidEnd { at: lack.at })
 }
 
-/// The rule that an instruction breaks which ends the program.
-pub(crate) fn end_fault(
-    board: &Board,
-    place: usize,
-    instr: &Instr,
-    row: &Row,
-) -> Option<(usize, Rule)>
+/// What an instruction breaks which ends the program.
+pub(crate) fn end_breach(board: &Board, instr: &Instr, row: &Row) -> Option<Breach>
     requires { IsRow board.now (row_view row.now) }
-    ensures { (p : List Instr) (t : Table)
-        → IsFirstFault board.now p t (of_end place (row_view row.now) instr.now) result }
+    ensures first { (p : List Instr) (t : Table) (place : ℕ)
+        → IsFirstFault board.now p t (of_end place (row_view row.now) instr.now)
+        (option_map (fault_at place) result) }
+    ensures blame { (t : Table) (place : ℕ) → IfSome result
+        (BreaksAt board.now t place instr.now (row_view row.now)) }
 {
     match instr {
-        Instr::End => last_fault(board, place, row),
-        Instr::Fail => last_fault(board, place, row),
+        Instr::End => last_breach(board, row),
+        Instr::Fail => last_breach(board, row),
         _ => None,
     }
 }

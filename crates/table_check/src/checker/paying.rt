@@ -1,11 +1,12 @@
-//! Whether the ticks that are left pay for what follows.
+//! Whether the ticks that are left pay for what follows, and where they don't.
 
-ghost use Rattle.std.specs.Prelude.{◌≡◌, ◌+◌, ◌-◌, ◌*◌, ◌^◌, ◌≤◌, ◌↔◌, ℕ, List, IsTrue, All};
-ghost use Rattle.facts.specs.domain.Rows.{InSpan, InSpans, weight, rank, row_view};
-ghost use Rattle.table_check.specs.checker.Rules.{PaysEnd};
-ghost use Rattle.table_check.specs.checker.Looking.{left_in};
-ghost use Rattle.seq_program.specs.declared.instr.TheConstants.{MOST_TURNS};
+ghost use Rattle.std.specs.Prelude.{◌≡◌, ◌+◌, ◌*◌, ◌^◌, ◌≤◌, All};
+ghost use Rattle.facts.specs.domain.Rows.{row_view, weight};
+ghost use Rattle.facts.specs.FactLaws.{without_ticks};
+ghost use Rattle.table_check.specs.checker.Lacking.{dearest, dearest_counters, dearest_lost};
+ghost use Rattle.table_check.specs.checker.Looking.{FindsLack, with_ticks};
 
+use crate::checker::breach::Spot;
 use board::Board;
 use facts::{Row, Span};
 
@@ -31,82 +32,115 @@ fn ticks_of(row: &Row) -> Ticks
     }
 }
 
-/// What one coefficient is worth more than another, so many times; 0 where it is worth less.
-fn times(coeff: u64, other: u64, number: u16) -> u128
-    ensures exact { result ≡ (coeff - other) * number }
+/// Where ticks are lacking, how many are needed there, and how many are left.
+#[derive(Clone, Copy)]
+pub(crate) struct Lack {
+    pub at: Spot,
+    pub needed: u128,
+    pub left: u128,
+}
+
+/// A coefficient, so many times.
+fn times(coeff: u64, number: u16) -> u128
+    ensures exact { result ≡ coeff * number }
     ensures small { result ≤ 2 ^ 80 }
 {
-    u128::from(coeff.saturating_sub(other)) * u128::from(number)
+    u128::from(coeff) * u128::from(number)
 }
 
-/// Whether at all counters in the spans, and at all numbers of arbitrations that are left, what is
-/// left before is at least what is left after and `worst` more. Each number is looked at where it
-/// is worth least: at its end if its coefficient grows, else at its beginning.
-fn pays_in(spans: [Span; 4], left: Span, before: Ticks, worst: u64, after: Ticks) -> bool
-    requires spans { All (λ s. (s.lo ≤ s.hi) × (s.hi ≤ MOST_TURNS)) spans }
-    requires left { left.lo ≤ left.hi }
-    ensures { IsTrue result ↔ ((cs : List ℕ) → InSpans spans cs → (l : ℕ) → InSpan left l
-        → worst + (after.base + weight after.coeffs cs + after.lost_coeff * l)
-        ≤ before.base + weight before.coeffs cs + before.lost_coeff * l) }
+/// The ticks at some counters, where so many arbitrations may still be lost.
+fn ticks_at(ticks: Ticks, counters: [u16; 4], left: u16) -> u128
+    ensures exact { result ≡ ticks.base + weight ticks.coeffs counters + ticks.lost_coeff * left }
+    ensures small { result ≤ 2 ^ 84 }
 {
-    let (from, to) = (before.lost_coeff, after.lost_coeff);
-    let mut gains = u128::from(before.base) + times(from, to, left.lo);
-    let mut costs = u128::from(worst) + u128::from(after.base) + times(to, from, left.hi);
-    for i in 0..4 {
-        let span = spans[i];
-        let from = before.coeffs[i];
-        let to = after.coeffs[i];
-        gains += times(from, to, span.lo);
-        costs += times(to, from, span.hi);
+    u128::from(ticks.base)
+        + times(ticks.coeffs[0], counters[0])
+        + times(ticks.coeffs[1], counters[1])
+        + times(ticks.coeffs[2], counters[2])
+        + times(ticks.coeffs[3], counters[3])
+        + times(ticks.lost_coeff, left)
+}
+
+/// The counter at which a row has least beside the next one, by its coefficient in both.
+fn dearest(before: u64, after: u64, span: Span) -> u16
+    ensures { result ≡ dearest before after span }
+{
+    if before < after { span.hi } else { span.lo }
+}
+
+/// All four of them.
+fn dearest_counters(spans: [Span; 4], before: [u64; 4], after: [u64; 4]) -> [u16; 4]
+    ensures { result ≡ dearest_counters spans before after }
+{
+    [
+        dearest(before[0], after[0], spans[0]),
+        dearest(before[1], after[1], spans[1]),
+        dearest(before[2], after[2], spans[2]),
+        dearest(before[3], after[3], spans[3]),
+    ]
+}
+
+/// How many arbitrations were lost where a row has least beside the next one.
+fn dearest_lost(before: u64, after: u64, lost: Span) -> u16
+    ensures { result ≡ dearest_lost before after lost }
+{
+    if before < after { lost.lo } else { lost.hi }
+}
+
+/// Where a row lacks most ticks beside the next one.
+fn dearest_spot(row: &Row, next: Ticks) -> Spot
+    ensures { result ≡ record {
+      counters = dearest_counters row.now.counters row.now.coeffs next.coeffs;
+      lost = dearest_lost row.now.lost_coeff next.lost_coeff row.now.lost;
+    } }
+{
+    Spot {
+        counters: dearest_counters(row.counters, row.coeffs, next.coeffs),
+        lost: dearest_lost(row.lost_coeff, next.lost_coeff, row.lost),
     }
-    costs <= gains
 }
 
-/// How many arbitrations may still be lost, where so many were lost.
-fn left_in(board: &Board, lost: Span) -> Span
-    requires top { lost.hi ≤ board.now.contentions }
-    requires order { lost.lo ≤ lost.hi }
-    ensures { result ≡ left_in board.now lost }
-{
-    let most = board.contentions();
-    Span {
-        lo: most - lost.hi,
-        hi: most - lost.lo,
-    }
-}
-
-/// Whether at all counters and lost arbitrations in an edge's spans the ticks that are left at the
-/// edge pay for `worst` and for those of the next row.
-pub(crate) fn pays(board: &Board, worst: u64, next: &Row, edge: &Row) -> bool
-    requires spans { All (λ s. (s.lo ≤ s.hi) × (s.hi ≤ MOST_TURNS)) edge.now.counters }
-    requires order { edge.now.lost.lo ≤ edge.now.lost.hi }
-    requires lost { edge.now.lost.hi ≤ board.now.contentions }
-    ensures { IsTrue result ↔ ((counters : List ℕ) → InSpans (row_view edge.now).counters counters
-        → (lost : ℕ) → InSpan (row_view edge.now).lost lost
-        → worst + rank (row_view next.now) counters (board.now.contentions - lost)
-        ≤ rank (row_view edge.now) counters (board.now.contentions - lost)) }
-{
-    let left = left_in(board, edge.lost);
-    pays_in(edge.counters, left, ticks_of(edge), worst, ticks_of(next))
-}
-
-/// Whether a tick is left at all counters and lost arbitrations in the spans.
-pub(crate) fn pays_end(board: &Board, row: &Row) -> bool
-    requires spans { All (λ s. (s.lo ≤ s.hi) × (s.hi ≤ MOST_TURNS)) row.now.counters }
+/// Where the ticks that are left at a row don't pay for `worst` and for those of the next row.
+fn lack_beside(board: &Board, worst: u64, next: Ticks, row: &Row) -> Option<Lack>
+    requires spans { All (λ s. s.lo ≤ s.hi) row.now.counters }
     requires order { row.now.lost.lo ≤ row.now.lost.hi }
     requires lost { row.now.lost.hi ≤ board.now.contentions }
-    ensures { IsTrue result ↔ PaysEnd board.now (row_view row.now) }
+    ensures { FindsLack board.now worst (with_ticks (row_view row.now) next) (row_view row.now)
+        result }
+{
+    row.is_sized();
+    let at = dearest_spot(row, next);
+    let most = board.contentions() - at.lost;
+    let needed = u128::from(worst) + ticks_at(next, at.counters, most);
+    let left = ticks_at(ticks_of(row), at.counters, most);
+    if needed <= left {
+        None
+    } else {
+        Some(Lack { at, needed, left })
+    }
+}
+
+/// Where the ticks that are left at an edge don't pay for `worst` and for those of the next row.
+pub(crate) fn lack_of(board: &Board, worst: u64, next: &Row, edge: &Row) -> Option<Lack>
+    requires spans { All (λ s. s.lo ≤ s.hi) edge.now.counters }
+    requires order { edge.now.lost.lo ≤ edge.now.lost.hi }
+    requires lost { edge.now.lost.hi ≤ board.now.contentions }
+    ensures { FindsLack board.now worst (row_view next.now) (row_view edge.now) result }
+{
+    lack_beside(board, worst, ticks_of(next), edge)
+}
+
+/// Where no tick is left at a row.
+pub(crate) fn lack_at_end(board: &Board, row: &Row) -> Option<Lack>
+    requires spans { All (λ s. s.lo ≤ s.hi) row.now.counters }
+    requires order { row.now.lost.lo ≤ row.now.lost.hi }
+    requires lost { row.now.lost.hi ≤ board.now.contentions }
+    ensures { FindsLack board.now 1 (without_ticks (row_view row.now)) (row_view row.now) result }
 {
     let none = Ticks {
         base: 0,
         coeffs: [0; 4],
         lost_coeff: 0,
     };
-    pays_in(
-        row.counters,
-        left_in(board, row.lost),
-        ticks_of(row),
-        1,
-        none,
-    )
+    lack_beside(board, 1, none, row)
 }
