@@ -1,10 +1,10 @@
 ghost use Rattle.std.specs.Prelude.{◌≡◌, ◌≢◌, ◌≤◌, ◌<◌, ◌+◌, ◌↔◌, length, slice_get, option_map};
-ghost use Rattle.std.specs.Prelude.{All, IfOk, IfErr, OnOk, Some, IsTrue};
+ghost use Rattle.std.specs.Prelude.{All, IfOk, IfErr, IfSome, OnOk, Some, IsTrue};
 ghost use Rattle.seq_program.specs.Messages.{message_of};
 ghost use Rattle.seq_program.specs.Valid.{IsInstr, IsProgram, IsOnBoard};
 ghost use Rattle.targets.specs.Fitting.{FitsStep};
 ghost use Rattle.targets.specs.States.{Belongs, BusState as AnyState};
-ghost use Rattle.simulator.specs.Faults.{most_ticks, IsStepFault};
+ghost use Rattle.simulator.specs.Faults.{index_of, most_ticks, IsStepFault};
 ghost use Rattle.simulator.specs.Machines.{IsMachine};
 ghost use Rattle.simulator.specs.Moves.{moved};
 ghost use Rattle.simulator.specs.Steps.{IsStepOf, IsStep};
@@ -150,8 +150,8 @@ impl Stage {
     ///
     /// AfterEnd is answered where the program has ended, then AnswerDoesNotFit where the targets
     /// can't answer so, both with the index, then TooLong where the run would have over 2^40 ticks.
-    /// Memory is answered where a growth was refused. Behind TooLong and Memory the stage is of no
-    /// more use.
+    /// Memory is answered where a growth was refused. Behind an answer that gives no step the stage
+    /// is what it was; behind TooLong and Memory it is of no more use.
     pub fn step(
         &mut self,
         alloc: Global,
@@ -172,6 +172,7 @@ impl Stage {
         ensures seen { OnOk result (HasItsFrame self.new.entry) }
         ensures fault { IfErr result (λ e. e ≢ Memory
             → IsStepFault board.now program.now self.old.machine answer.now before index e) }
+        ensures stays { IfErr result (λ e. IfSome (index_of e) (λ i. self.new ≡ self.old)) }
     {
         let machine = &self.machine;
         if !is_running(machine) {
