@@ -1,5 +1,16 @@
 //! Between loops that one counter bounds, it keeps its worth: what a loop leaves of it, a later one
-//! may take.
+//! may take. Two passes, one against the ways and one along them, until nothing changes.
+//!
+//!     0  count c0 9
+//!     1  read core STATUS_WORD r0 else 4
+//!     2  again c0 1
+//!     3  goto 6
+//!     4  read core STATUS_WORD r0 else 6
+//!     5  again c0 4
+//!     6  end
+//!
+//! Where a turn of the second loop costs 90 ticks, c0 is worth 90 for each turn ahead of it: at
+//! place 1 too, from which a way leads to place 4 before c0 is set.
 
 use crate::graph::Graph;
 use crate::loops::Ticks;

@@ -1,4 +1,8 @@
-//! The components of a graph: places each of which leads to each other one.
+//! The strongly connected components of a graph: places each of which leads to each other one
+//! (Tarjan, 1972, here without recursion).
+//!
+//! Where 0 leads to 1, 1 to 2, and 2 back to 1 and on to 3, they are {0}, {1, 2} and {3}. The order
+//! is 3, then 1 and 2, then 0: each component behind those to which it leads.
 
 use crate::graph::{Cut, Graph, Way};
 use std::alloc::{AllocError, Global};

@@ -1,4 +1,4 @@
-//! Joining rows.
+//! Joining rows: the least upper bound of two, and a wider one at the target of a jump back.
 
 ghost use Rattle.std.specs.Prelude.{◌≡◌, ◌<◌, ◌≤◌, IfOk, All, length};
 ghost use Rattle.facts.specs.FactLaws.{IsShaped, without_ticks};

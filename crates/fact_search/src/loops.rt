@@ -1,4 +1,8 @@
-//! The ticks that are left at the places of a program with loops.
+//! The ticks that are left at the places of a program with loops: a ranking function, linear in the
+//! counters (Floyd, 1967), which falls along each way by the ticks of that.
+//!
+//! `poll: again c0 poll`, then `end`: at `again` 2 + 1 c0 ticks are left. The way back takes a tick
+//! and one off c0; the way on takes a tick, and the end has one left.
 
 ghost use Rattle.table_check.specs.checker.Looking.{HasRowsOf};
 ghost use Rattle.table_check.specs.Tables.{rows_view};

@@ -1,4 +1,14 @@
-//! The loops of a program, and the counters that bound them.
+//! The loops of a program, and the counters that bound them: a loop nesting forest (after
+//! Steensgaard, 1993). A component is a loop; where the ways are cut that its counter pays for, the
+//! components of what is left are the loops inside.
+//!
+//!     0  count c0 9
+//!     1  count c1 3
+//!     2  again c1 2
+//!     3  again c0 1
+//!
+//! Places 1 to 3 are a loop. c1 is set in it, so c0 pays for its turns. Without the way from 3 to 1
+//! place 2 alone is a loop, for which c1 pays; without the way from 2 to 2 there is none.
 
 use crate::components::{Components, components_of};
 use crate::graph::{Cut, Graph, Way};

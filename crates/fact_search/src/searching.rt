@@ -1,4 +1,5 @@
-//! The search: edges' rows are joined until nothing changes.
+//! The search, an abstract interpretation: edges' rows are joined until nothing changes (Kildall,
+//! 1973; Cousot and Cousot, 1977).
 
 ghost use Rattle.std.specs.Prelude.{◌≡◌, IfErr, IfOk};
 ghost use Rattle.table_check.specs.Tables.{rows_view};

@@ -1,4 +1,8 @@
-//! The dearest ways: to a loop's next turn, and to the program's end.
+//! The dearest ways, to a loop's next turn and to the program's end: longest paths, by relaxation
+//! (Bellman and Ford).
+//!
+//! Where a read takes 143 ticks, then an `if` 1, a `wait 200` 201 and the `again` back to the read
+//! 1, the loop's next turn is 346 ticks away from the read, and that is what a turn costs.
 
 use crate::graph::{Cut, Graph, Way};
 use crate::loops::Ticks;

@@ -1,4 +1,5 @@
-//! How far a span goes that grows along a jump back.
+//! How far a span goes that grows along a jump back: widening with thresholds, the numbers that the
+//! program names (Blanchet and others, 2003).
 
 ghost use Rattle.std.specs.Prelude.{◌≤◌};
 ghost use Rattle.facts.specs.domain.Rows.{SpanCovers};
