@@ -12,3 +12,4 @@ pub mod Watching
 pub mod Served
 pub mod ShownFrames
 pub mod AskedBy
+pub mod Replied

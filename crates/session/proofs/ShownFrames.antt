@@ -15,7 +15,7 @@ use Rattle.smbus.specs.Text.{text_of}
 use Rattle.wires.specs.Events.{events_of}
 use Rattle.wires.specs.declared.lines.Sample.{Sample}
 use Rattle.session.specs.FrameReplies.{IsFrameText, frame_lines}
-use Rattle.session.specs.Outcomes.{outcome_text}
+use Rattle.session.specs.Endings.{outcome_text}
 
 pub frame_shown : (message : Asked) (answer : Answered) (samples : List Sample) (cut : Option ℕ)
     (frame outcome text : List ℕ) (count : ℕ) → text ≡ frame_lines frame count outcome

@@ -1,7 +1,9 @@
 -- A run that is told step by step.
 use Rattle.std.proofs.Common.{◌≡◌, ◌≤◌, ◌<◌, ◌^◌, drop, ◌+◌, ℕ, List, [], ◌∷◌, ◌++◌, length, take}
 use Rattle.std.proofs.Common.{slice_get}
-use Rattle.std.proofs.Common.{Some, All, zero, suc, refl, ap, subst, ◌∙◌}
+use Rattle.std.proofs.Common.{Option, Some, None, All, MatchOption, zero, suc, refl, ap, sym}
+use Rattle.std.proofs.Common.{subst, ◌∙◌}
+use Rattle.std.specs.Prelude.{IfSome, IsSomeAnd}
 use Rattle.std.proofs.Common.{length-drop, arith}
 use native.Mathlib.Numerals.{unary_clauses}
 use Rattle.std.proofs.lemmas.List.{take_all}
@@ -11,7 +13,8 @@ use Rattle.targets.specs.States.{IsStart}
 use Rattle.simulator.specs.declared.fault.RunFault.{RunFault}
 use Rattle.simulator.specs.declared.fault.RunFault.TheVariants as faults
 use Rattle.simulator.specs.declared.machine.Ending.{Ending}
-use Rattle.simulator.specs.Faults.{most_ticks, IsStepFault, RunFails}
+use Rattle.simulator.specs.Faults.{index_of, most_ticks, IsStepFault, RunFails}
+use Rattle.simulator.specs.declared.stepping.Stage.{Stage}
 use Rattle.simulator.specs.Machines.{Machine, Entry, start_at, IsMachine}
 use Rattle.simulator.specs.Steps.{IsStep, IsRun, total_ticks}
 use Rattle.simulator.specs.RunLaws.{RunsGoOn, TicksAddUp}
@@ -24,6 +27,9 @@ use Rattle.session.specs.declared.report.Report.TheVariants as reports
 use Rattle.session.specs.declared.report.Telling.TheVariants.{Lines, Levels}
 use Rattle.session.specs.RunReplies.{IsToldRun, IsRunText}
 use Rattle.session.specs.Scenarios.{start_of, IsFaultOf}
+use Rattle.session.specs.Stops.{IsHaltOf, IsKept, IsStop}
+use Rattle.session.specs.declared.stop.Halt.{Halt}
+use Rattle.session.specs.declared.stop.Stop.{Stop}
 
 -- the steps of the answers before an index, and what is told of them
 pub record IsTold (telling : Telling) (s : Scenario) (index ticks : ℕ) (m : Machine)
@@ -133,21 +139,21 @@ is_fault s (faults.AfterEnd index) start fails = (start, fails)
 is_fault s faults.TooLong start fails = (start, fails)
 is_fault s faults.BadStart start fails = absurd fails.why
 
-pub told_fault : (telling : Telling) (s : Scenario) (index ticks : ℕ) (m : Machine)
+pub told_fails : (telling : Telling) (s : Scenario) (index ticks : ℕ) (m : Machine)
     (report : Report) (a : Answered) (fault : RunFault) → IsTold telling s index ticks m report
-    → slice_get s.answers.answers index ≡ Some a → IsStart s.board (start_of s)
-    → IsStepFault s.board s.program m a ticks index fault → IsFaultOf s fault
-told_fault telling s index ticks m report a fault h here start why =
-    is_fault s fault start (record {
-      index = index;
-      entries = h.entries;
-      reached = m;
-      run = h.run;
-      within = subst (λ (n : ℕ). n ≤ most_ticks) h.sum h.few;
-      answer = a;
-      here = here;
-      why = subst (λ (n : ℕ). IsStepFault s.board s.program m a n index fault) h.sum why;
-    })
+    → slice_get s.answers.answers index ≡ Some a
+    → IsStepFault s.board s.program m a ticks index fault
+    → RunFails s.board s.program (start_at (start_of s)) s.answers.answers fault
+told_fails telling s index ticks m report a fault h here why = record {
+  index = index;
+  entries = h.entries;
+  reached = m;
+  run = h.run;
+  within = subst (λ (n : ℕ). n ≤ most_ticks) h.sum h.few;
+  answer = a;
+  here = here;
+  why = subst (λ (n : ℕ). IsStepFault s.board s.program m a n index fault) h.sum why;
+}
 
 pub told_to_more : RunsGoOn → TicksAddUp → (telling : Telling) (s : Scenario)
     (left later : List Answered) (index ticks : ℕ) (m next : Machine) (old new : Report)
@@ -173,14 +179,51 @@ room_to_tell telling s left index ticks m report e h within = (
   subst (λ (n : ℕ). n + e.ticks ≤ most_ticks) h.told.sum within,
 )
 
-pub told_to_fault : (telling : Telling) (s : Scenario) (left later : List Answered)
-    (index ticks : ℕ) (m : Machine) (report : Report) (a : Answered) (fault : RunFault)
+-- what a step's fault leaves, by its index
+abbrev pub Leaves : Machine → Answered → RunFault → Option Stop → Type 0
+Leaves m a fault stop =
+    MatchOption (index_of fault) (stop ≡ None) (λ _. IsSomeAnd stop (IsKept m a))
+
+left_by : (old new : Stage) (a : Answered) (index : Option ℕ) (stop : Option Stop)
+    → IfSome index (λ i. new ≡ old)
+    → MatchOption index (stop ≡ None) (λ _. IsSomeAnd stop (IsKept new.machine a))
+    → MatchOption index (stop ≡ None) (λ _. IsSomeAnd stop (IsKept old.machine a))
+left_by old new a None stop stays left = left
+left_by old new a (Some i) stop stays left =
+    subst (λ (s : Stage). IsSomeAnd stop (IsKept s.machine a)) stays left
+
+-- a step that isn't made leaves the machine, where an answer is to blame
+pub leaves : (old new : Stage) (a : Answered) (fault : RunFault) (h : Halt) → h.fault ≡ fault
+    → IfSome (index_of fault) (λ i. new ≡ old) → Leaves new.machine a fault h.stop
+    → Leaves old.machine a h.fault h.stop
+leaves old new a fault h same stays left =
+    subst (λ (f : RunFault). Leaves old.machine a f h.stop) (sym same)
+    (left_by old new a (index_of fault) h.stop stays left)
+
+stop_of : (s : Scenario) (m : Machine) (a : Answered) (fault : RunFault) (index : Option ℕ)
+    (stop : Option Stop)
+    (fails : RunFails s.board s.program (start_at (start_of s)) s.answers.answers fault)
+    → fails.reached ≡ m → fails.answer ≡ a
+    → MatchOption index (stop ≡ None) (λ _. IsSomeAnd stop (IsKept m a))
+    → MatchOption index (stop ≡ None) (λ _. IsSomeAnd stop (IsStop s fault))
+stop_of s m a fault None stop fails reached answer none = none
+stop_of s m a fault (Some i) None fails reached answer left = absurd left
+stop_of s m a fault (Some i) (Some x) fails reached answer left =
+    (fails, (left.0 ∙ sym reached, left.1 ∙ sym answer))
+
+pub told_to_halt : (telling : Telling) (s : Scenario) (left later : List Answered)
+    (index ticks : ℕ) (m : Machine) (report : Report) (a : Answered) (h : Halt)
     → IsToldTo telling s left index ticks m report → left ≡ a ∷ later
-    → IsStart s.board (start_of s) → IsStepFault s.board s.program m a ticks index fault
-    → IsFaultOf s fault
-told_to_fault telling s left later index ticks m report a fault h first start why =
-    let at = next_is s.answers.answers index a later (h.rest ∙ first) in
-    told_fault telling s index ticks m report a fault h.told at.here start why
+    → IsStart s.board (start_of s) → IsStepFault s.board s.program m a ticks index h.fault
+    → Leaves m a h.fault h.stop → IsHaltOf s h
+unfolding told_fails
+told_to_halt telling s left later index ticks m report a h t first start why leaves =
+    let at = next_is s.answers.answers index a later (t.rest ∙ first) in
+    let fails = told_fails telling s index ticks m report a h.fault t.told at.here why in
+    record {
+      fault = is_fault s h.fault start fails;
+      stop = stop_of s m a h.fault (index_of h.fault) h.stop fails refl refl leaves;
+    }
 
 pub told_to_end : (telling : Telling) (s : Scenario) (left : List Answered) (index ticks : ℕ)
     (m : Machine) (report : Report) → IsToldTo telling s left index ticks m report

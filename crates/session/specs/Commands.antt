@@ -1,11 +1,10 @@
 -- What a bundle asks for, and the reply to it.
-use Rattle.std.specs.Prelude.{ℕ, ◌≤◌, List, [], Result, Ok, All, slice_index_or}
+use Rattle.std.specs.Prelude.{ℕ, List, [], Result, Ok, slice_index_or}
 use Rattle.std.specs.Str.Lines.{lines}
 use Rattle.texts.specs.Reading.{◌>>=◌}
 use Rattle.bundles.specs.declared.command.Command.{Command}
 use Rattle.bundles.specs.declared.command.Command.TheVariants as commands
-use Rattle.session.specs.declared.commands.Task.{Task as TaskCode}
-use Rattle.session.specs.declared.commands.Task.TheVariants as tasks
+use Rattle.session.specs.declared.report.Telling.{Telling}
 use Rattle.session.specs.declared.report.Telling.TheVariants.{Lines, Levels}
 use Rattle.session.specs.declared.scenario.Scenario.{Scenario}
 use Rattle.session.specs.declared.sequence.Sequence.{Sequence}
@@ -20,10 +19,9 @@ use Rattle.session.specs.FrameReplies.{IsFrameReply}
 use Rattle.session.specs.RunReplies.{IsRunReply}
 use Rattle.session.specs.CheckReplies.{IsCheckReply}
 use Rattle.session.specs.SearchReplies.{IsFindReply, IsVerifyReply}
-use Rattle.session.specs.Scenarios.{scenario_in, IsOnItsBoard}
+use Rattle.session.specs.Scenarios.{scenario_in}
 use Rattle.session.specs.Sequences.{sequence_in}
-use Rattle.session.specs.Trials.{Trial, trial_in, trial_view}
-use Rattle.bit_bus.specs.declared.plan.TheConstants.{LONGEST_HOLD}
+use Rattle.session.specs.Trials.{Trial, trial_in}
 
 -- a message with its answer, a program with answers, whose run or whose levels are told, a program
 -- with a table, or a program alone
@@ -35,39 +33,41 @@ pub data Task : Type 0 where
   Find : (sequence : Sequence) → Task
   Verify : (sequence : Sequence) → Task
 
-abbrev pub task_view : TaskCode → Task
-task_view (tasks.Frame exchange) = Frame exchange
-task_view (tasks.Run scenario) = Run scenario
-task_view (tasks.Wave scenario) = Wave scenario
-task_view (tasks.Check trial) = Check (trial_view trial)
-task_view (tasks.Find sequence) = Find sequence
-task_view (tasks.Verify sequence) = Verify sequence
-
 abbrev pub section_at : List Section → ℕ → Section
 section_at sections place = slice_index_or sections place (record { first_line = 0; lines = [] })
 
 -- what each command asks for, from its sections in order
+abbrev pub frame_task : Section → Result Task InputFault
+frame_task message =
+    faulted faults.Bundle (exchange_in message) >>= λ exchange. Ok (Frame exchange)
+
+abbrev pub told_task : Telling → Scenario → Task
+told_task Lines scenario = Run scenario
+told_task Levels scenario = Wave scenario
+
+abbrev pub run_task : Telling → Section → Section → Section → Result Task InputFault
+run_task telling on program answered =
+    scenario_in on program answered >>= λ scenario. Ok (told_task telling scenario)
+
+abbrev pub check_task : Section → Section → Section → Result Task InputFault
+check_task on program table = trial_in on program table >>= λ trial. Ok (Check trial)
+
+abbrev pub find_task : Section → Section → Result Task InputFault
+find_task on program = sequence_in on program >>= λ sequence. Ok (Find sequence)
+
+abbrev pub verify_task : Section → Section → Result Task InputFault
+verify_task on program = sequence_in on program >>= λ sequence. Ok (Verify sequence)
+
 abbrev pub asked_by : Command → List Section → Result Task InputFault
-asked_by commands.Frame sections =
-    faulted faults.Bundle (exchange_in (section_at sections 0)) >>= λ exchange.
-    Ok (Frame exchange)
+asked_by commands.Frame sections = frame_task (section_at sections 0)
 asked_by commands.Run sections =
-    scenario_in (section_at sections 0) (section_at sections 1) (section_at sections 2)
-    >>= λ scenario.
-    Ok (Run scenario)
+    run_task Lines (section_at sections 0) (section_at sections 1) (section_at sections 2)
 asked_by commands.Wave sections =
-    scenario_in (section_at sections 0) (section_at sections 1) (section_at sections 2)
-    >>= λ scenario.
-    Ok (Wave scenario)
+    run_task Levels (section_at sections 0) (section_at sections 1) (section_at sections 2)
 asked_by commands.Check sections =
-    trial_in (section_at sections 0) (section_at sections 1) (section_at sections 2) >>= λ trial.
-    Ok (Check trial)
-asked_by commands.Find sections =
-    sequence_in (section_at sections 0) (section_at sections 1) >>= λ sequence.
-    Ok (Find sequence)
-asked_by commands.Verify sections =
-    sequence_in (section_at sections 0) (section_at sections 1) >>= λ sequence.
-    Ok (Verify sequence)
+    check_task (section_at sections 0) (section_at sections 1) (section_at sections 2)
+asked_by commands.Find sections = find_task (section_at sections 0) (section_at sections 1)
+asked_by commands.Verify sections = verify_task (section_at sections 0) (section_at sections 1)
 
 abbrev pub bundle_task : Bundle → Result Task InputFault
 bundle_task bundle = asked_by bundle.command bundle.sections
@@ -79,15 +79,6 @@ task_in_lines lines = faulted faults.Bundle (bundle_of lines) >>= λ bundle. bun
 -- what the text of a bundle asks for
 abbrev pub task_in : List ℕ → Result Task InputFault
 task_in text = task_in_lines (lines text)
-
--- the holds of a message can be driven, and a program is on its board
-abbrev pub IsReady : Task → Type 0
-IsReady (Frame exchange) = All (λ hold. hold ≤ LONGEST_HOLD) exchange.answer.holds
-IsReady (Run scenario) = IsOnItsBoard scenario
-IsReady (Wave scenario) = IsOnItsBoard scenario
-IsReady (Check trial) = Unit {0}
-IsReady (Find sequence) = Unit {0}
-IsReady (Verify sequence) = Unit {0}
 
 -- the reply to each task
 abbrev pub IsReplyOf : Task → Reply → Type 0

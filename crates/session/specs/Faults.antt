@@ -1,8 +1,6 @@
 -- The fault of an input, and the line that is printed for it.
 use Rattle.std.specs.Prelude.{ℕ, List, [], ◌++◌, Option, Some, None, Result, Ok, Err, codes}
 use Rattle.std.specs.Fmt.{decimal}
-use Rattle.texts.specs.declared.reading.ReadError.{ReadError}
-use Rattle.texts.specs.declared.reading.ReadError.TheVariants as errors
 use Rattle.smbus.specs.Faults.{number_of as frame_number_of, name_of as frame_name_of}
 use Rattle.board.specs.Faults.{number_of as board_number_of, name_of as board_name_of}
 use Rattle.seq_program.specs.Faults.{number_of as program_number_of, name_of as program_name_of}
@@ -22,11 +20,6 @@ use Rattle.session.specs.declared.fault.InputFault.TheVariants as faults
 abbrev pub faulted : {E A : Type 0} → (E → InputFault) → Result A E → Result A InputFault
 faulted as_input (Ok x) = Ok x
 faulted as_input (Err fault) = Err (as_input fault)
-
--- a bundle's error as an input's
-abbrev pub of_bundle : ReadError BundleFault → ReadError InputFault
-of_bundle errors.Memory = errors.Memory
-of_bundle (errors.Fault fault) = errors.Fault (faults.Bundle fault)
 
 -- the line of the fault, or the header that is missing
 abbrev pub detail_of : BundleFault → List ℕ

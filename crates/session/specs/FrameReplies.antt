@@ -13,7 +13,7 @@ use Rattle.smbus.specs.Text.{text_of}
 use Rattle.smbus.specs.declared.fault.SmbusFault.TheVariants.{BadBlock, BadData}
 use Rattle.session.specs.declared.fault.InputFault.TheVariants.{Frame}
 use Rattle.session.specs.declared.reply.Status.TheVariants.{Accepted}
-use Rattle.session.specs.Outcomes.{outcome_text}
+use Rattle.session.specs.Endings.{outcome_text}
 use Rattle.session.specs.Replies.{Reply, refusal}
 
 abbrev pub frame_lines : List ℕ → ℕ → List ℕ → List ℕ

@@ -1,10 +1,11 @@
 pub mod Intake
 pub mod Faults
-pub mod Outcomes
+pub mod Endings
 pub mod Replies
 pub mod FrameReplies
 pub mod SectionTexts
 pub mod Scenarios
+pub mod Stops
 pub mod Reports
 pub mod RunReplies
 pub mod Trials
@@ -19,4 +20,6 @@ pub mod Parts
 pub mod Places
 pub mod Runs
 pub mod Breaches
-pub mod Seen
+pub mod Unreads
+pub mod Outcomes
+pub mod Cases

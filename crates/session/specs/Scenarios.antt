@@ -1,12 +1,8 @@
 -- What a run is asked with, and what it is: a program on its board, how the targets start, and what
 -- they answer.
-use Rattle.std.specs.Prelude.{◌≡◌, List, length, Result, Ok, All}
+use Rattle.std.specs.Prelude.{◌≡◌, length, Result, Ok, All}
 use Rattle.texts.specs.Reading.{◌>>=◌}
-use Rattle.board.specs.Boards.{Board}
-use Rattle.board.specs.Files.{read_of}
 use Rattle.targets.specs.States.{BusState, IsStart}
-use Rattle.seq_program.specs.declared.instr.Instr.{Instr}
-use Rattle.seq_program.specs.Programs.{program_of}
 use Rattle.seq_program.specs.Valid.{IsOnBoard}
 use Rattle.simulator.specs.declared.fault.RunFault.{RunFault}
 use Rattle.simulator.specs.declared.fault.RunFault.TheVariants.{BadStart}
@@ -20,21 +16,14 @@ use Rattle.session.specs.declared.scenario.Scenario.{Scenario}
 use Rattle.session.specs.Faults.{faulted}
 use Rattle.bundles.specs.Answers.{answers_in}
 use Rattle.bundles.specs.Bundles.{Section}
-use Rattle.session.specs.SectionTexts.{section_text}
-
-abbrev pub board_in : Section → Result Board InputFault
-board_in section = faulted faults.Board (read_of (section_text section))
-
-abbrev pub program_in : Board → Section → Result (List Instr) InputFault
-program_in board section = faulted faults.Program (program_of board (section_text section))
+use Rattle.session.specs.Sequences.{sequence_in}
 
 -- the sections in order
 unfoldable pub scenario_in : Section → Section → Section → Result Scenario InputFault
 scenario_in on program answered = do
-  board ← board_in on
-  instrs ← program_in board program
+  sequence ← sequence_in on program
   answers ← faulted faults.Bundle (answers_in answered)
-  Ok (record { board = board; program = instrs; answers = answers })
+  Ok (record { board = sequence.board; program = sequence.program; answers = answers })
 
 -- what the program's targets are is the board's
 abbrev pub IsOnItsBoard : Scenario → Type 0

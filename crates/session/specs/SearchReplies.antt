@@ -20,6 +20,9 @@ use Rattle.session.specs.Replies.{Reply}
 abbrev pub gave_up_text : ℕ → List ℕ
 gave_up_text place = codes "gave up place " ++ (decimal place ++ codes "\n")
 
+abbrev pub gave_up_reply : ℕ → Reply
+gave_up_reply place = record { status = Refused; text = gave_up_text place }
+
 -- a table that a search may find: it can be written, and has a row or none for each place. Where
 -- each jump leads on, it keeps the rule book if any table does, and a verdict on it tells the cause
 pub record MayBeFound (s : Sequence) (table : Table) : Type 0 where
@@ -32,7 +35,7 @@ pub record MayBeFound (s : Sequence) (table : Table) : Type 0 where
 pub record GaveUp (s : Sequence) (reply : Reply) : Type 0 where
   pub place : ℕ
   pub back : IsForward s.program → ⊥
-  pub replies : reply ≡ record { status = Refused; text = gave_up_text place }
+  pub replies : reply ≡ gave_up_reply place
 
 -- a found table was printed, and would be read back
 pub record Prints (s : Sequence) (reply : Reply) : Type 0 where

@@ -6,8 +6,8 @@ use Rattle.seq_program.specs.declared.instr.Instr.{Instr}
 use Rattle.bundles.specs.Bundles.{Section}
 use Rattle.session.specs.declared.fault.InputFault.{InputFault}
 use Rattle.session.specs.declared.trial.Trial.{Trial as TrialCode}
-use Rattle.session.specs.Scenarios.{board_in, program_in}
 use Rattle.session.specs.SectionTexts.{section_text}
+use Rattle.session.specs.Sequences.{sequence_in}
 
 pub record Trial : Type 0 where
   pub board : Board
@@ -20,6 +20,9 @@ trial_view t = record { board = t.board; program = t.program; table = string_byt
 -- the sections in order
 unfoldable pub trial_in : Section → Section → Section → Result Trial InputFault
 trial_in on program table = do
-  board ← board_in on
-  instrs ← program_in board program
-  Ok (record { board = board; program = instrs; table = section_text table })
+  sequence ← sequence_in on program
+  Ok (record {
+    board = sequence.board;
+    program = sequence.program;
+    table = section_text table;
+  })

@@ -1,56 +1,35 @@
-ghost use Rattle.std.specs.Prelude.{◌≡◌, ◌≢◌, IfOk, string_bytes};
-ghost use Rattle.session.specs.Replies.{reply_view};
+ghost use Rattle.std.specs.Prelude.{◌≡◌, IfOk, string_bytes};
+ghost use Rattle.session.specs.Outcomes.{IsChecked, IsJudged};
 ghost use Rattle.session.specs.Trials.{trial_view};
-ghost use Rattle.session.specs.CheckReplies.{verdict_text, verdict_reply, IsCheckReply};
 
-use crate::fault::InputFault;
-use crate::reply::{Reply, Status, refused};
+use crate::outcome::Judged;
 use crate::trial::Trial;
+use board::Board;
+use seq_program::Program;
 use std::alloc::{AllocError, Global};
-use table_check::{TableFault, Verdict, check, read_table};
+use table_check::{Table, TableFault, judge, read_table};
 
-/// The line of a verdict.
-fn verdict_text(alloc: Global, verdict: Verdict) -> Result<String, AllocError>
-    ensures { IfOk result (λ text. string_bytes text ≡ verdict_text verdict) }
+/// A table with the judgement on it.
+pub(crate) fn judged(
+    alloc: Global,
+    board: &Board,
+    program: &Program,
+    table: Table,
+) -> Result<Judged, AllocError>
+    ensures table { IfOk result (λ judged. judged.table ≡ table) }
+    ensures judged { IfOk result (IsJudged board.now program.now) }
 {
-    match verdict {
-        Verdict::Accepted { bound } => { format!(in alloc; "accepted bound {bound}\n") }
-        Verdict::Refused { place, rule } => {
-            let rule = rule.name();
-            format!(in alloc; "refused place {place} rule {rule}\n")
-        }
-    }
+    let judgement = judge(alloc, board, program, &table)?;
+    Ok(Judged { table, judgement })
 }
 
-/// The reply with a verdict.
-pub(crate) fn verdict_reply(alloc: Global, verdict: Verdict) -> Result<Reply, AllocError>
-    ensures whole { IfOk result (λ reply. reply.status ≢ Status.DeviceFault) }
-    ensures replies { IfOk result (λ reply. reply_view reply ≡ verdict_reply verdict) }
-{
-    let text = verdict_text(alloc, verdict)?;
-    Ok(Reply {
-        status: match verdict {
-            Verdict::Accepted { .. } => Status::Accepted,
-            Verdict::Refused { .. } => Status::Refused,
-        },
-        text: text.into_bytes(),
-    })
-}
-
-/// The reply to a check: the verdict on its table, or the first line that is none of a table.
-pub fn check_reply(alloc: Global, trial: &Trial) -> Result<Reply, AllocError>
-    ensures whole { IfOk result (λ reply. reply.status ≢ Status.DeviceFault) }
-    ensures replies { IfOk result
-        (λ reply. IsCheckReply (trial_view trial.now) (reply_view reply)) }
+/// The verdict on the table of a text, or its first line that is none of a table.
+pub(crate) fn judge_text(alloc: Global, trial: &Trial) -> Result<Result<Judged, usize>, AllocError>
+    ensures { IfOk result (IsChecked (trial_view trial.now)) }
 {
     match read_table(alloc, &trial.board, &trial.table) {
-        Ok(table) => {
-            let verdict = check(alloc, &trial.board, &trial.program, &table)?;
-            verdict_reply(alloc, verdict)
-        }
+        Ok(table) => Ok(Ok(judged(alloc, &trial.board, &trial.program, table)?)),
+        Err(TableFault::BadLine(line)) => Ok(Err(line)),
         Err(TableFault::Memory) => Err(AllocError),
-        Err(TableFault::BadLine(line)) => {
-            refused(alloc, InputFault::Table(TableFault::BadLine(line)))
-        }
     }
 }

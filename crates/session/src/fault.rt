@@ -1,5 +1,5 @@
 ghost use Rattle.std.specs.Prelude.{◌≡◌, IfOk, string_bytes};
-ghost use Rattle.session.specs.Faults.{of_bundle, detail_of, counted_text, fault_text};
+ghost use Rattle.session.specs.Faults.{detail_of, counted_text, fault_text};
 
 use board::BoardFault;
 use bundles::BundleFault;
@@ -26,16 +26,6 @@ pub enum InputFault {
     Run(RunFault),
     #[error("{0}")]
     Table(TableFault),
-}
-
-/// A bundle's error as an input's.
-pub fn of_bundle(error: ReadError<BundleFault>) -> ReadError<InputFault>
-    ensures { result ≡ of_bundle error }
-{
-    match error {
-        ReadError::Memory => ReadError::Memory,
-        ReadError::Fault(fault) => ReadError::Fault(InputFault::Bundle(fault)),
-    }
 }
 
 /// What stands behind the name of a fault: its line, or the header that is missing.

@@ -1,4 +1,4 @@
-ghost use Rattle.std.specs.Prelude.{◌≡◌, ◌≢◌, ◌≤◌, ◌<◌, [], ◌∷◌, true, All, IfOk};
+ghost use Rattle.std.specs.Prelude.{◌≡◌, ◌≤◌, ◌<◌, [], ◌∷◌, true, All, IfOk};
 ghost use Rattle.std.specs.Prelude.{length, string_bytes};
 ghost use Rattle.wires.specs.Events.{events_of};
 ghost use Rattle.wires.specs.Runs.{most_samples};
@@ -8,13 +8,12 @@ ghost use Rattle.smbus.specs.Frames.{AreFrames};
 ghost use Rattle.smbus.specs.OneFrame.{CanBeSent, IsOnlyFrame};
 ghost use Rattle.smbus.specs.Shown.{Shown};
 ghost use Rattle.smbus.specs.Text.{text_of};
-ghost use Rattle.session.specs.Replies.{reply_view};
 ghost use Rattle.session.specs.FrameReplies.{IsFrameText, IsFrameReply};
+ghost use Rattle.session.specs.Outcomes.{told_reply};
+ghost use Rattle.session.specs.declared.fault.InputFault.TheVariants.{Frame};
 ghost use Rattle.bit_bus.specs.declared.plan.TheConstants.{LONGEST_HOLD};
 
-use crate::fault::InputFault;
-use crate::outcome::outcome_line;
-use crate::reply::{Reply, Status, refused};
+use crate::ending::outcome_line;
 use bit_bus::{Plan, Slot, drive};
 use smbus::{
     Answer, Message, SmbusFault, frame_slots, frame_text, only_frame_in, slots_are_one_frame,
@@ -76,21 +75,19 @@ fn shown(
     format!(in alloc; "{frame}\nsamples {count}\n{outcome}\n")
 }
 
-/// The reply to a message and its answer: what is seen on the wire.
-pub fn frame_reply(alloc: Global, message: &Message, answer: &Answer) -> Result<Reply, AllocError>
+/// What is seen on the wire of a message and its answer, or why they have no frame.
+pub(crate) fn frame_of(
+    alloc: Global,
+    message: &Message,
+    answer: &Answer,
+) -> Result<Result<String, SmbusFault>, AllocError>
     requires { All (λ hold. hold ≤ LONGEST_HOLD) answer.now.holds }
-    ensures whole { IfOk result (λ reply. reply.status ≢ Status.DeviceFault) }
-    ensures replies { IfOk result
-        (λ reply. IsFrameReply message.now answer.now (reply_view reply)) }
+    ensures { IfOk result
+        (λ told. IsFrameReply message.now answer.now (told_reply Frame told)) }
 {
-    let slots = match frame_slots(alloc, message, answer) {
-        Ok(slots) => slots,
-        Err(SmbusFault::Memory) => return Err(AllocError),
-        Err(fault) => return refused(alloc, InputFault::Frame(fault)),
-    };
-    let text = shown(alloc, slots, message, answer)?;
-    Ok(Reply {
-        status: Status::Accepted,
-        text: text.into_bytes(),
-    })
+    match frame_slots(alloc, message, answer) {
+        Ok(slots) => Ok(Ok(shown(alloc, slots, message, answer)?)),
+        Err(SmbusFault::Memory) => Err(AllocError),
+        Err(fault) => Ok(Err(fault)),
+    }
 }

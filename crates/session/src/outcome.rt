@@ -1,21 +1,82 @@
-ghost use Rattle.std.specs.Prelude.{◌≡◌, IfOk, string_bytes};
-ghost use Rattle.session.specs.Outcomes.{outcome_text};
+//! What became of an input: what was read of it, and what was found.
 
-use simulator::outcome_text;
-use smbus::{Answer, Message};
-use std::alloc::{AllocError, Global};
-use targets::ending_of;
+use crate::report::Telling;
+use crate::scenario::Scenario;
+use crate::sequence::Sequence;
+use crate::stop::Stop;
+use crate::trial::Trial;
+use crate::unread::Unread;
+use bundles::{Exchange, Section};
+use run_monitor::Reached;
+use simulator::RunFault;
+use smbus::SmbusFault;
+use table_check::{Judgement, Table};
 
-/// How a message ended: `timeout` where a slot was cut, else `nak` where a byte was refused, else
-/// `done` and what was returned. Fails only for want of memory.
-pub fn outcome_line(
-    alloc: Global,
-    message: &Message,
-    answer: &Answer,
-    cut: Option<usize>,
-) -> Result<String, AllocError>
-    ensures { IfOk result
-        (λ text. string_bytes text ≡ outcome_text message.now.form answer.now cut) }
-{
-    outcome_text(alloc, ending_of(message.form, answer, cut))
+/// A message with its answer, and the lines that tell its frame, or why it has none.
+#[derive(Drop)]
+pub struct Framed {
+    pub exchange: Exchange,
+    pub told: Result<String, SmbusFault>,
+}
+
+/// A run: what is told of it, or why there is none; where an answer gives no step; and where it
+/// breaks a rule first.
+#[derive(Drop)]
+pub struct Ran<'a> {
+    pub scenario: Scenario<'a>,
+    pub telling: Telling,
+    pub told: Result<String, RunFault>,
+    pub stop: Option<Stop>,
+    pub found: Option<Reached>,
+}
+
+/// A table of facts, and the judgement on it: with a refusal, what is to blame.
+#[derive(Drop)]
+pub struct Judged {
+    pub table: Table,
+    pub judgement: Judgement,
+}
+
+/// A program with the text of a table: the verdict on that, or its first line that is none of a
+/// table.
+#[derive(Drop)]
+pub struct Checked {
+    pub trial: Trial,
+    pub judged: Result<Judged, usize>,
+}
+
+/// A program whose facts were asked for: the table that was found, or the place at which the search
+/// gave up.
+#[derive(Drop)]
+pub struct Searched {
+    pub sequence: Sequence,
+    pub found: Result<Table, usize>,
+}
+
+/// A program that was to be verified: the verdict on the table that was found, or the place at
+/// which the search gave up.
+#[derive(Drop)]
+pub struct Verified {
+    pub sequence: Sequence,
+    pub judged: Result<Judged, usize>,
+}
+
+/// What became of an input. The reply to it and the notes on it are made from this.
+#[derive(Drop)]
+pub enum Outcome<'a> {
+    Unread(Unread),
+    Framed(Framed),
+    Ran(Ran<'a>),
+    Checked(Checked),
+    Searched(Searched),
+    Verified(Verified),
+}
+
+/// An input that was judged: as far as it is text, the sections of its bundle, none where it is no
+/// bundle, and what became of it.
+#[derive(Drop)]
+pub struct Case<'a> {
+    pub text: &'a str,
+    pub sections: Vec<Section<'a>>,
+    pub outcome: Outcome<'a>,
 }

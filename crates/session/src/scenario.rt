@@ -1,15 +1,17 @@
-ghost use Rattle.std.specs.Prelude.{◌≡◌, length, All, IfOk, string_bytes};
-ghost use Rattle.seq_program.specs.Valid.{IsOnBoard};
-ghost use Rattle.texts.specs.Reading.{Gives};
-ghost use Rattle.session.specs.SectionTexts.{section_text};
-ghost use Rattle.session.specs.Scenarios.{board_in, program_in, scenario_in, IsOnItsBoard};
+ghost use Rattle.std.specs.Prelude.{IfOk};
 ghost use Rattle.bundles.specs.Views.{section_view};
+ghost use Rattle.bundles.specs.Answers.{answers_in};
+ghost use Rattle.session.specs.Faults.{faulted};
+ghost use Rattle.session.specs.Scenarios.{scenario_in, IsOnItsBoard};
+ghost use Rattle.session.specs.Unreads.{Reads};
+ghost use Rattle.session.specs.declared.fault.InputFault.TheVariants.{Bundle};
 
-use crate::fault::{InputFault, of_bundle};
-use board::{Board, BoardFault, FaultKind, read_board};
+use crate::sequence::{Sequence, sequence_in};
+use crate::unread::{Unread, of_bundle};
+use board::Board;
 use bundles::{Answers, Section, answers_in};
-use seq_program::{Program, ProgramFault, read_program};
-use std::alloc::{AllocError, Global};
+use seq_program::Program;
+use std::alloc::Global;
 use texts::ReadError;
 
 /// A program on its board, how the targets start, and what they answer.
@@ -20,53 +22,11 @@ pub struct Scenario<'a> {
     pub answers: Answers<'a>,
 }
 
-/// The text of a section: its lines, each of them ended by a line feed. Fails only for want of
-/// memory.
-pub fn section_text(alloc: Global, section: &Section<'_>) -> Result<String, AllocError>
-    ensures { IfOk result (λ text. string_bytes text ≡ section_text (section_view section.now)) }
+/// How the targets start and what they answer, by a section.
+fn answers_of<'a>(alloc: Global, section: &Section<'a>) -> Result<Answers<'a>, ReadError<Unread>>
+    ensures { Reads (λ a. a) result (faulted Bundle (answers_in (section_view section.now))) }
 {
-    let mut text = String::new(alloc);
-    let mut rest = *section;
-    while let Some((line, below)) = rest.split_first() {
-        text.push_str(line)?;
-        text.push('\n')?;
-        rest = below;
-    }
-    Ok(text)
-}
-
-/// The board of a section.
-pub(crate) fn board_in(alloc: Global, section: &Section<'_>) -> Result<Board, ReadError<InputFault>>
-    ensures { Gives (λ b. b) result (board_in (section_view section.now)) }
-{
-    let text = section_text(alloc, section)?;
-    match read_board(alloc, &text) {
-        Ok(board) => Ok(board),
-        Err(
-            BoardFault {
-                kind: FaultKind::Memory,
-                ..
-            },
-        ) => Err(ReadError::Memory),
-        Err(fault) => Err(ReadError::Fault(InputFault::Board(fault))),
-    }
-}
-
-/// The program of a section, on its board.
-pub(crate) fn program_in(
-    alloc: Global,
-    board: &Board,
-    section: &Section<'_>,
-) -> Result<Program, ReadError<InputFault>>
-    ensures on_board { IfOk result (λ p. All (λ i. IsOnBoard (length board.now.targets) i) p) }
-    ensures value { Gives (λ p. p) result (program_in board.now (section_view section.now)) }
-{
-    let text = section_text(alloc, section)?;
-    match read_program(alloc, board, &text) {
-        Ok(program) => Ok(program),
-        Err(ProgramFault::Memory) => Err(ReadError::Memory),
-        Err(fault) => Err(ReadError::Fault(InputFault::Program(fault))),
-    }
+    answers_in(alloc, section).map_err(of_bundle)
 }
 
 /// What the sections of a run say, read in order.
@@ -76,14 +36,13 @@ pub fn scenario_in<'a>(
     on: &Section<'_>,
     program: &Section<'_>,
     answered: &Section<'a>,
-) -> Result<Scenario<'a>, ReadError<InputFault>>
-    ensures value { Gives (λ s. s) result
+) -> Result<Scenario<'a>, ReadError<Unread>>
+    ensures value { Reads (λ s. s) result
         (scenario_in (section_view on.now) (section_view program.now) (section_view answered.now)) }
     ensures on_board { IfOk result IsOnItsBoard }
 {
-    let board = board_in(alloc, on)?;
-    let program = program_in(alloc, &board, program)?;
-    let answers = answers_in(alloc, answered).map_err(of_bundle)?;
+    let Sequence { board, program } = sequence_in(alloc, on, program)?;
+    let answers = answers_of(alloc, answered)?;
     Ok(Scenario {
         board,
         program,

@@ -1,9 +1,10 @@
-ghost use Rattle.texts.specs.Reading.{Gives};
 ghost use Rattle.bundles.specs.Views.{section_view};
 ghost use Rattle.session.specs.Trials.{trial_in, trial_view};
+ghost use Rattle.session.specs.Unreads.{Reads};
 
-use crate::fault::InputFault;
-use crate::scenario::{board_in, program_in, section_text};
+use crate::section::section_text;
+use crate::sequence::{Sequence, sequence_in};
+use crate::unread::Unread;
 use board::Board;
 use bundles::Section;
 use seq_program::Program;
@@ -25,12 +26,11 @@ pub fn trial_in(
     on: &Section<'_>,
     program: &Section<'_>,
     table: &Section<'_>,
-) -> Result<Trial, ReadError<InputFault>>
-    ensures { Gives trial_view result
+) -> Result<Trial, ReadError<Unread>>
+    ensures { Reads trial_view result
         (trial_in (section_view on.now) (section_view program.now) (section_view table.now)) }
 {
-    let board = board_in(alloc, on)?;
-    let program = program_in(alloc, &board, program)?;
+    let Sequence { board, program } = sequence_in(alloc, on, program)?;
     let table = section_text(alloc, table)?;
     Ok(Trial {
         board,

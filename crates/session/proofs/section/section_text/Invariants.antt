@@ -1,7 +1,7 @@
 use Rattle.std.proofs.Common.{◌≡◌, ◌++◌, string_bytes}
 use Rattle.session.specs.SectionTexts.{section_text}
 use Rattle.bundles.specs.Views.{section_view}
-use Rattle.session.proofs.scenario.section_text.Given as goal
+use Rattle.session.proofs.section.section_text.Given as goal
 
 abbrev pub invariant-loop-line : goal.invariant-loop-line
 invariant-loop-line l =

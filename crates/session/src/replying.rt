@@ -1,0 +1,188 @@
+//! The reply that tells an outcome.
+
+ghost use Rattle.std.specs.Prelude.{◌≡◌, ◌≢◌, ℕ, List, IfOk, Result, string_bytes};
+ghost use Rattle.session.specs.CheckReplies.{verdict_text, verdict_reply};
+ghost use Rattle.session.specs.Commands.{Task};
+ghost use Rattle.session.specs.Outcomes.{IsOutcomeOf, IsTrue, told_reply, checked_reply};
+ghost use Rattle.session.specs.Outcomes.{verified_reply, text_reply, IsSearched};
+ghost use Rattle.session.specs.Outcomes.{searched_status, status_of};
+ghost use Rattle.session.specs.Unreads.{fault_of};
+ghost use Rattle.session.specs.Replies.{reply_view, refusal};
+ghost use Rattle.session.specs.SearchReplies.{gave_up_reply, IsFindReply, MayBeFound, Prints};
+ghost use Rattle.table_check.specs.Tables.{table_view};
+ghost use Rattle.session.specs.Cases.{IsCaseIn};
+ghost use Rattle.session.specs.Sessions.{IsReplyAfter, IsReplyTo};
+ghost use Rattle.session.specs.declared.fault.InputFault.{InputFault as AnyFault};
+ghost use Rattle.session.specs.declared.fault.InputFault.TheVariants as faults;
+
+use crate::fault::InputFault;
+use crate::outcome::{Case, Checked, Framed, Outcome, Ran, Searched, Verified};
+use crate::reply::{Reply, Status, refused};
+use crate::sequence::Sequence;
+use crate::unread::Unread;
+use std::alloc::{AllocError, Global};
+use table_check::{Table, TableFault, Verdict, write_table};
+
+/// The reply with a text that was asked for.
+fn text_reply(text: String) -> Reply
+    ensures whole { result.status ≢ Status.DeviceFault }
+    ensures replies { reply_view result ≡ text_reply (string_bytes text) }
+{
+    Reply {
+        status: Status::Accepted,
+        text: text.into_bytes(),
+    }
+}
+
+/// The reply where a search gave up at a place.
+fn gave_up_reply(alloc: Global, place: usize) -> Result<Reply, AllocError>
+    ensures whole { IfOk result (λ reply. reply.status ≢ Status.DeviceFault) }
+    ensures replies { IfOk result (λ reply. reply_view reply ≡ gave_up_reply place) }
+{
+    let text = format!(in alloc; "gave up place {place}\n")?;
+    Ok(Reply {
+        status: Status::Refused,
+        text: text.into_bytes(),
+    })
+}
+
+/// The reply with a found table.
+fn table_reply(alloc: Global, sequence: &Sequence, table: &Table) -> Result<Reply, AllocError>
+    requires { MayBeFound sequence.now (table_view table.now) }
+    ensures whole { IfOk result (λ reply. reply.status ≢ Status.DeviceFault) }
+    ensures status { IfOk result (λ reply. reply.status ≡ Status.Accepted) }
+    ensures replies { IfOk result (λ reply. Prints sequence.now (reply_view reply)) }
+{
+    let text = write_table(alloc, &sequence.board, table)?;
+    Ok(text_reply(text))
+}
+
+/// The line of a verdict.
+fn verdict_text(alloc: Global, verdict: Verdict) -> Result<String, AllocError>
+    ensures { IfOk result (λ text. string_bytes text ≡ verdict_text verdict) }
+{
+    match verdict {
+        Verdict::Accepted { bound } => { format!(in alloc; "accepted bound {bound}\n") }
+        Verdict::Refused { place, rule } => {
+            let rule = rule.name();
+            format!(in alloc; "refused place {place} rule {rule}\n")
+        }
+    }
+}
+
+/// The reply with a verdict.
+fn verdict_reply(alloc: Global, verdict: Verdict) -> Result<Reply, AllocError>
+    ensures whole { IfOk result (λ reply. reply.status ≢ Status.DeviceFault) }
+    ensures replies { IfOk result (λ reply. reply_view reply ≡ verdict_reply verdict) }
+{
+    let text = verdict_text(alloc, verdict)?;
+    Ok(Reply {
+        status: match verdict {
+            Verdict::Accepted { .. } => Status::Accepted,
+            Verdict::Refused { .. } => Status::Refused,
+        },
+        text: text.into_bytes(),
+    })
+}
+
+// An outcome is given up variant by variant: a function that gave up all of them would be dear to
+// prove, since its proof goes through the parts of each.
+
+fn unread_reply(alloc: Global, unread: Unread) -> Result<Reply, AllocError>
+    ensures whole { IfOk result (λ reply. reply.status ≢ Status.DeviceFault) }
+    ensures replies { IfOk result (λ reply. reply_view reply ≡ refusal (fault_of unread)) }
+{
+    refused(alloc, unread.fault())
+}
+
+fn framed_reply(alloc: Global, framed: Framed) -> Result<Reply, AllocError>
+    ensures whole { IfOk result (λ reply. reply.status ≢ Status.DeviceFault) }
+    ensures replies { IfOk result
+        (λ reply. reply_view reply ≡ told_reply faults.Frame framed.told) }
+{
+    let Framed { told, .. } = framed;
+    match told {
+        Ok(text) => Ok(text_reply(text)),
+        Err(fault) => refused(alloc, InputFault::Frame(fault)),
+    }
+}
+
+fn ran_reply(alloc: Global, ran: Ran<'_>) -> Result<Reply, AllocError>
+    ensures whole { IfOk result (λ reply. reply.status ≢ Status.DeviceFault) }
+    ensures replies { IfOk result
+        (λ reply. reply_view reply ≡ told_reply faults.Run ran.entry.told) }
+{
+    let Ran { told, .. } = ran;
+    match told {
+        Ok(text) => Ok(text_reply(text)),
+        Err(fault) => refused(alloc, InputFault::Run(fault)),
+    }
+}
+
+fn checked_reply(alloc: Global, checked: Checked) -> Result<Reply, AllocError>
+    ensures whole { IfOk result (λ reply. reply.status ≢ Status.DeviceFault) }
+    ensures replies { IfOk result
+        (λ reply. reply_view reply ≡ checked_reply checked.judged) }
+{
+    let Checked { judged, .. } = checked;
+    match judged {
+        Ok(judged) => verdict_reply(alloc, judged.judgement.verdict()),
+        Err(line) => refused(alloc, InputFault::Table(TableFault::BadLine(line))),
+    }
+}
+
+fn searched_reply(alloc: Global, searched: Searched) -> Result<Reply, AllocError>
+    requires { IsSearched searched.sequence searched.found }
+    ensures whole { IfOk result (λ reply. reply.status ≢ Status.DeviceFault) }
+    ensures status { IfOk result (λ reply. reply.status ≡ searched_status searched.found) }
+    ensures replies { IfOk result (λ reply. IsFindReply searched.sequence (reply_view reply)) }
+{
+    let Searched { sequence, found } = searched;
+    match found {
+        Ok(table) => table_reply(alloc, &sequence, &table),
+        Err(place) => gave_up_reply(alloc, place),
+    }
+}
+
+fn verified_reply(alloc: Global, verified: Verified) -> Result<Reply, AllocError>
+    ensures whole { IfOk result (λ reply. reply.status ≢ Status.DeviceFault) }
+    ensures replies { IfOk result
+        (λ reply. reply_view reply ≡ verified_reply verified.judged) }
+{
+    let Verified { judged, .. } = verified;
+    match judged {
+        Ok(judged) => verdict_reply(alloc, judged.judgement.verdict()),
+        Err(place) => gave_up_reply(alloc, place),
+    }
+}
+
+/// The reply to what was read of an outcome that is true of it.
+fn outcome_reply(alloc: Global, outcome: Outcome<'_>) -> Result<Reply, AllocError>
+    requires { IsTrue outcome }
+    ensures whole { IfOk result (λ reply. reply.status ≢ Status.DeviceFault) }
+    ensures status { IfOk result (λ reply. reply.status ≡ status_of outcome.entry) }
+    ensures replies { IfOk result (λ reply. (read : Result Task AnyFault)
+        → IsOutcomeOf read outcome.entry → IsReplyAfter read (reply_view reply)) }
+{
+    match outcome {
+        Outcome::Unread(unread) => unread_reply(alloc, unread),
+        Outcome::Framed(framed) => framed_reply(alloc, framed),
+        Outcome::Ran(ran) => ran_reply(alloc, ran),
+        Outcome::Checked(checked) => checked_reply(alloc, checked),
+        Outcome::Searched(searched) => searched_reply(alloc, searched),
+        Outcome::Verified(verified) => verified_reply(alloc, verified),
+    }
+}
+
+/// The reply to an input that was judged, for standard output: what was asked for, or a fault. The
+/// outcome is true, as `judge` leaves it. AllocError is answered where a growth was refused.
+pub fn reply_of(alloc: Global, case: Case<'_>) -> Result<Reply, AllocError>
+    requires { IsTrue case.outcome }
+    ensures whole { IfOk result (λ reply. reply.status ≢ Status.DeviceFault) }
+    ensures status { IfOk result (λ reply. reply.status ≡ status_of case.entry.outcome) }
+    ensures replies { IfOk result (λ reply. (input : List ℕ) → IsCaseIn input case.entry
+        → IsReplyTo input (reply_view reply)) }
+{
+    let Case { outcome, .. } = case;
+    outcome_reply(alloc, outcome)
+}
