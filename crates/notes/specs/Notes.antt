@@ -5,7 +5,7 @@ use Rattle.std.specs.Prelude.{option_copied, option_map, string_bytes, unwrap_or
 use Rattle.std.specs.Fmt.{decimal}
 use Rattle.texts.specs.Words.{lines_by_feed}
 use Rattle.notes.specs.declared.level.Level.{Level}
-use Rattle.notes.specs.declared.level.Level.TheVariants.{Error, Warning}
+use Rattle.notes.specs.declared.level.Level.TheVariants.{Error, Warning, Info}
 use Rattle.notes.specs.declared.note.Note.{Note}
 use Rattle.notes.specs.Lines.{line_at}
 use Rattle.notes.specs.Marks.{column_behind, mark_of}
@@ -14,6 +14,7 @@ use Rattle.notes.specs.ShownLines.{is_plain, IsShown}
 abbrev pub level_word : Level → List ℕ
 level_word Error = codes "error"
 level_word Warning = codes "warning"
+level_word Info = codes "note"
 
 -- the first line of a text
 abbrev pub one_line : List ℕ → List ℕ

@@ -8,6 +8,8 @@ pub enum Level {
     Error,
     /// It may be meant so.
     Warning,
+    /// It is asked for, and nothing is wrong.
+    Info,
 }
 
 impl Level {
@@ -18,6 +20,7 @@ impl Level {
         match self {
             Level::Error => "error",
             Level::Warning => "warning",
+            Level::Info => "note",
         }
     }
 }
