@@ -2,5 +2,4 @@ pub mod CountedNames
 pub mod FoundAnswers
 pub mod CountedLines
 pub mod Results
-pub mod ShortInputs
-pub mod WarnedInputs
+pub mod FaultNotes

@@ -1,9 +1,9 @@
 -- What a note on a board file, or a warning of it, names.
 use Rattle.std.specs.Prelude.{◌≢◌, ℕ, List, [], Option, IsSome, IsSomeAnd, codes}
-use Rattle.std.specs.Prelude.{option_map, unwrap_or}
+use Rattle.std.specs.Prelude.{option_map, slice_get, unwrap_or}
 use Rattle.texts.specs.Words.{lines_by_feed}
+use Rattle.bundles.specs.Bundles.{Section}
 use Rattle.session.specs.SectionTexts.{section_text}
-use Rattle.session.specs.Parts.{section_in}
 use Rattle.notes.specs.declared.level.Level.TheVariants.{Error, Warning}
 use Rattle.notes.specs.declared.note.Note.{Note}
 use Rattle.notes.specs.Lines.{line_at}
@@ -20,12 +20,10 @@ IsOnSomeLine text note =
     (λ n. (number : ℕ) × (IsLineNumber (lines_by_feed text) number
     × IsOn Error (codes "%board") number (lines_by_feed text) n))
 
--- the text of a bundle's board, and its lines
-abbrev pub board_text : List ℕ → List ℕ
-board_text text = unwrap_or (option_map section_text (section_in text 0)) []
-
-abbrev pub board_lines : List ℕ → List (List ℕ)
-board_lines text = lines_by_feed (board_text text)
+-- the lines of a bundle's board
+abbrev pub board_lines : List Section → List (List ℕ)
+board_lines sections =
+    lines_by_feed (unwrap_or (option_map section_text (slice_get sections 0)) [])
 
 -- a warning on one of the lines of a board
 abbrev pub IsBoardWarning : List (List ℕ) → Note → Type 0

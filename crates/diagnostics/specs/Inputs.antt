@@ -1,111 +1,80 @@
--- What a note on a whole input names.
-use Rattle.std.specs.Prelude.{◌≡◌, ◌⊎◌, ⊤, ℕ, List, Option, None, Ok, Err, MatchOption}
-use Rattle.std.specs.Prelude.{codes, IsSomeAnd}
+-- The note on what became of an input: where it stands.
+use Rattle.std.specs.Prelude.{◌≡◌, ◌≢◌, ℕ, List, Option, None, MatchOption, MatchResult, IsSomeAnd}
+use Rattle.std.specs.Prelude.{codes, slice_get, string_bytes, unwrap_or}
 use Rattle.texts.specs.Words.{lines_by_feed}
-use Rattle.board.specs.Boards.{Board}
-use Rattle.seq_program.specs.declared.instr.Instr.{Instr}
-use Rattle.seq_program.specs.declared.fault.ProgramFault.{ProgramFault}
+use Rattle.board.specs.declared.fault.FaultKind.TheVariants.{Memory}
 use Rattle.seq_program.specs.Faults.{line_of}
 use Rattle.simulator.specs.declared.fault.RunFault.{RunFault}
-use Rattle.simulator.specs.Traces.{Trace}
-use Rattle.bundles.specs.declared.fault.BundleFault.{BundleFault}
-use Rattle.session.specs.Commands.{Task, Run, Wave, Check, Find, Verify, task_in}
-use Rattle.session.specs.declared.fault.InputFault.TheVariants.{Program, Bundle}
-use Rattle.session.specs.declared.scenario.Scenario.{Scenario}
-use Rattle.session.specs.declared.sequence.Sequence.{Sequence}
-use Rattle.session.specs.Scenarios.{IsRunOf, IsFaultOf}
-use Rattle.session.specs.Trials.{Trial}
+use Rattle.bundles.specs.Bundles.{Section}
+use Rattle.session.specs.declared.outcome.Outcome.{Outcome}
+use Rattle.session.specs.declared.outcome.Outcome.TheVariants as outcomes
+use Rattle.session.specs.declared.unread.Unread.{Unread}
+use Rattle.session.specs.declared.unread.Unread.TheVariants as unread
 use Rattle.session.specs.SectionTexts.{section_text}
-use Rattle.table_check.specs.declared.checker.verdict.Verdict.{Verdict}
-use Rattle.table_check.specs.declared.checker.verdict.Verdict.TheVariants as verdicts
-use Rattle.table_check.specs.checker.Obligations.{IsVerdict}
-use Rattle.table_check.specs.Tables.{Table}
-use Rattle.table_check.specs.text.Texts.{IsFirstBadLine, IsTextOf}
-use Rattle.diagnostics.specs.AnswerPlaces.{run_line}
-use Rattle.session.specs.Parts.{section_in}
-use Rattle.diagnostics.specs.BundlePlaces.{IsOnFault}
+use Rattle.table_check.specs.declared.checker.breach.Judgement.{Judgement}
+use Rattle.table_check.specs.declared.checker.breach.Judgement.TheVariants as judgements
 use Rattle.notes.specs.declared.level.Level.TheVariants.{Error}
 use Rattle.notes.specs.declared.note.Note.{Note}
 use Rattle.notes.specs.Notes.{IsOn}
-use Rattle.diagnostics.specs.ProgramPlaces.{IsOnPlaceIn}
+use Rattle.diagnostics.specs.AnswerPlaces.{counted_line, run_line}
+use Rattle.diagnostics.specs.Boards.{IsOnSomeLine}
+use Rattle.diagnostics.specs.BundlePlaces.{IsOnFault}
+use Rattle.diagnostics.specs.ProgramPlaces.{program_lines, IsOnRefusal}
 
--- the note is on the line of the program with this number, if it is one
-abbrev pub IsOnLine : Option ℕ → Option Note → Type 0
-IsOnLine line note =
-    MatchOption line ⊤
-    (λ number. IsSomeAnd note
-    (λ n. (lines : List (List ℕ)) × IsOn Error (codes "%program") number lines n))
+-- on a line of a program, if there is one to name
+abbrev pub IsOnLine : List Section → Option ℕ → Option Note → Type 0
+IsOnLine sections line note =
+    MatchOption line (note ≡ None)
+    (λ number. IsSomeAnd note (IsOn Error (codes "%program") number (program_lines sections)))
 
--- where the program has a fault, the note is on the fault's own line
-abbrev pub NamesFault : List ℕ → Option Note → Type 0
-NamesFault text note =
-    (fault : ProgramFault) → task_in text ≡ Err (Program fault) → IsOnLine (line_of fault) note
+-- on the fault's own line
+abbrev pub IsOnUnread : List ℕ → List Section → Unread → Option Note → Type 0
+IsOnUnread text sections (unread.Bundle fault) note =
+    IsSomeAnd note (IsOnFault text sections fault)
+IsOnUnread text sections (unread.Board fault) note =
+    fault.kind ≢ Memory → MatchOption (slice_get sections 0) (note ≡ None)
+    (λ section. IsOnSomeLine (section_text section) note)
+IsOnUnread text sections (unread.Program b fault) note = IsOnLine sections (line_of fault) note
 
--- where the bundle itself has a fault, the note is on the fault's own line
-abbrev pub NamesBundleFault : List ℕ → Option Note → Type 0
-NamesBundleFault text note =
-    (fault : BundleFault) → task_in text ≡ Err (Bundle fault)
-    → IsSomeAnd note (IsOnFault text fault)
+-- on the line of a message
+abbrev pub IsOnMessage : List Section → Option Note → Type 0
+IsOnMessage sections note =
+    MatchOption (slice_get sections 0) (note ≡ None)
+    (λ section. IsSomeAnd note
+    (IsOn Error (codes "%message")
+    (unwrap_or (counted_line 0 (lines_by_feed (section_text section))) 1)
+    (lines_by_feed (section_text section))))
 
--- the note on answers: on the line of theirs that has the fault, if it is one's
+-- on the line of the answers that has the fault, if it is one's
 abbrev pub IsOnAnswers : List (List ℕ) → RunFault → Option Note → Type 0
 IsOnAnswers lines fault note =
     MatchOption (run_line fault lines) (note ≡ None)
     (λ number. IsSomeAnd note (IsOn Error (codes "%answers") number lines))
 
--- and they are those of a bundle
-abbrev pub IsOnRunFault : List ℕ → RunFault → Option Note → Type 0
-IsOnRunFault text fault note =
-    MatchOption (section_in text 2) (note ≡ None)
+abbrev pub IsOnRunFault : List Section → RunFault → Option Note → Type 0
+IsOnRunFault sections fault note =
+    MatchOption (slice_get sections 2) (note ≡ None)
     (λ section. IsOnAnswers (lines_by_feed (section_text section)) fault note)
 
--- a run without a fault has no note, and any other one on the fault's own line
-abbrev pub NamesRunFault : List ℕ → Scenario → Option Note → Type 0
-NamesRunFault text s note =
-    ((trace : Trace) × IsRunOf s trace × (note ≡ None))
-    ⊎ ((fault : RunFault) × IsFaultOf s fault × IsOnRunFault text fault note)
+-- a judgement that accepts has no note
+abbrev pub IsOnJudgement : List Section → Judgement → Option Note → Type 0
+IsOnJudgement sections (judgements.Accepted bound) note = note ≡ None
+IsOnJudgement sections (judgements.Refused refusal) note =
+    IsOnRefusal sections refusal.place note
 
--- the note on a refusal is on the line of its place
-abbrev pub IsOnRefusal : List ℕ → ℕ → Option Note → Type 0
-IsOnRefusal text place note = IsOnPlaceIn Error text place note
-
--- a verdict that accepts has no note
-abbrev pub IsOnVerdict : List ℕ → Verdict → Option Note → Type 0
-IsOnVerdict text (verdicts.Accepted bound) note = note ≡ None
-IsOnVerdict text (verdicts.Refused place rule) note = IsOnRefusal text place note
-
--- the program is judged with a table
-abbrev pub IsOnJudged : List ℕ → Board → List Instr → Table → Option Note → Type 0
-IsOnJudged text b p table note =
-    (verdict : Verdict) × IsVerdict b p table verdict × IsOnVerdict text verdict note
-
--- a text of a table is judged, or has a line that is none of a table
-abbrev pub NamesCheckFault : List ℕ → Trial → Option Note → Type 0
-NamesCheckFault text t note =
-    ((table : Table) × IsTextOf t.board table t.table
-    × IsOnJudged text t.board t.program table note)
-    ⊎ ((number : ℕ) × IsFirstBadLine t.board (lines_by_feed t.table) number
-    × IsSomeAnd note (IsOn Error (codes "%table") number (lines_by_feed t.table)))
-
--- a table that was found is judged, or the search gave up at a place
-abbrev pub NamesVerifyFault : List ℕ → Sequence → Option Note → Type 0
-NamesVerifyFault text s note =
-    ((table : Table) × IsOnJudged text s.board s.program table note)
-    ⊎ ((place : ℕ) × IsOnRefusal text place note)
-
-abbrev pub NamesFindFault : List ℕ → Option Note → Type 0
-NamesFindFault text note = (note ≡ None) ⊎ ((place : ℕ) × IsOnRefusal text place note)
-
--- what a bundle asks for; frames have notes of their own
-abbrev pub NamesTaskFault : List ℕ → Task → Option Note → Type 0
-NamesTaskFault text (Run s) note = NamesRunFault text s note
-NamesTaskFault text (Wave s) note = NamesRunFault text s note
-NamesTaskFault text (Check t) note = NamesCheckFault text t note
-NamesTaskFault text (Verify s) note = NamesVerifyFault text s note
-NamesTaskFault text (Find s) note = NamesFindFault text note
-NamesTaskFault text _ _ = ⊤
-
--- where a run has a fault, or a program is refused, the note is on its own line
-abbrev pub NamesTaskFaults : List ℕ → Option Note → Type 0
-NamesTaskFaults text note =
-    (task : Task) → task_in text ≡ Ok task → NamesTaskFault text task note
+-- what was asked for has no note, and a fault or a refusal is told on its own line
+abbrev pub IsErrorOf : List ℕ → List Section → Outcome → Option Note → Type 0
+IsErrorOf text sections (outcomes.Unread x) note = IsOnUnread text sections x note
+IsErrorOf text sections (outcomes.Framed x) note =
+    MatchResult x.told (λ _. note ≡ None) (λ _. IsOnMessage sections note)
+IsErrorOf text sections (outcomes.Ran x) note =
+    MatchResult x.told (λ _. note ≡ None) (λ fault. IsOnRunFault sections fault note)
+IsErrorOf text sections (outcomes.Checked x) note =
+    MatchResult x.judged (λ judged. IsOnJudgement sections judged.judgement note)
+    (λ number. IsSomeAnd note
+    (IsOn Error (codes "%table") number (lines_by_feed (string_bytes x.trial.table))))
+IsErrorOf text sections (outcomes.Searched x) note =
+    MatchResult x.found (λ _. note ≡ None) (λ place. IsOnRefusal sections place note)
+IsErrorOf text sections (outcomes.Verified x) note =
+    MatchResult x.judged (λ judged. IsOnJudgement sections judged.judgement note)
+    (λ place. IsOnRefusal sections place note)

@@ -5,4 +5,6 @@ pub mod BundlePlaces
 pub mod Inputs
 pub mod Boards
 pub mod Warnings
+pub mod OtherErrors
+pub mod Bounds
 pub mod Told

@@ -1,19 +1,54 @@
 -- What is warned of: the lints of a board, and the first instruction of a run that breaks a
 -- rule.
-use Rattle.std.specs.Prelude.{◌≡◌, List, ℕ, Option, None, MatchOption, IsSomeAnd, length}
+use Rattle.std.specs.Prelude.{◌≡◌, List, [], Option, None, MatchOption, IsSomeAnd, All, length}
+use Rattle.std.specs.Prelude.{option_map}
 use Rattle.board.specs.Boards.{Board}
 use Rattle.seq_program.specs.declared.instr.Instr.{Instr}
 use Rattle.board_lints.specs.Lints.{Lints, AreLints}
 use Rattle.run_monitor.specs.declared.breach.Breach.{Breach}
+use Rattle.run_monitor.specs.declared.breach.Reached.{Reached}
+use Rattle.bundles.specs.Bundles.{Section}
+use Rattle.session.specs.declared.outcome.Outcome.{Outcome}
+use Rattle.session.specs.declared.outcome.Outcome.TheVariants as outcomes
 use Rattle.notes.specs.declared.note.Note.{Note}
+use Rattle.diagnostics.specs.Boards.{board_lines, IsBoardWarning}
 use Rattle.diagnostics.specs.ProgramPlaces.{IsWarningAt}
+use Rattle.diagnostics.specs.declared.warning.Warnings.{Warnings}
 
--- so many warnings there are as lints of a board and a program on it
-abbrev pub HasEachLint : Board → List Instr → ℕ → Type 0
-HasEachLint b p count = (lints : Lints) × AreLints b p lints × (count ≡ length lints)
+-- each lint of a board and a program on it has a warning, on a line of the board
+pub record WarnsOfBoard (sections : List Section) (b : Board) (p : List Instr)
+    (warnings : List Note) : Type 0 where
+  pub lines : All (IsBoardWarning (board_lines sections)) warnings
+  pub lints : Lints
+  pub are_lints : AreLints b p lints
+  pub each : length warnings ≡ length lints
 
 -- a breach has a warning on the line of its place, and without one there is none
-abbrev pub IsWarningOf : List ℕ → Option Breach → Option Note → Type 0
-IsWarningOf text found note =
+abbrev pub WarnsOfBreach : List Section → Option Breach → Option Note → Type 0
+WarnsOfBreach sections found note =
     MatchOption found (note ≡ None)
-    (λ x. IsSomeAnd note (IsWarningAt text x.place))
+    (λ x. IsSomeAnd note (IsWarningAt sections x.place))
+
+-- what is warned of a board, a program on it, and a run that breaks a rule there
+pub record WarnsOf (sections : List Section) (b : Board) (p : List Instr) (found : Option Reached)
+    (warnings : Warnings) : Type 0 where
+  pub board : WarnsOfBoard sections b p warnings.of_board.items
+  pub run : WarnsOfBreach sections (option_map (λ x. x.breach) found) warnings.of_run
+
+-- nothing is warned of
+pub record WarnsOfNothing (warnings : Warnings) : Type 0 where
+  pub board : warnings.of_board.items ≡ []
+  pub run : warnings.of_run ≡ None
+
+-- what became of an input has a board and a program, or nothing is warned of
+abbrev pub AreWarningsOf : List Section → Outcome → Warnings → Type 0
+AreWarningsOf sections (outcomes.Unread x) warnings = WarnsOfNothing warnings
+AreWarningsOf sections (outcomes.Framed x) warnings = WarnsOfNothing warnings
+AreWarningsOf sections (outcomes.Ran x) warnings =
+    WarnsOf sections x.scenario.board x.scenario.program x.found warnings
+AreWarningsOf sections (outcomes.Checked x) warnings =
+    WarnsOf sections x.trial.board x.trial.program None warnings
+AreWarningsOf sections (outcomes.Searched x) warnings =
+    WarnsOf sections x.sequence.board x.sequence.program None warnings
+AreWarningsOf sections (outcomes.Verified x) warnings =
+    WarnsOf sections x.sequence.board x.sequence.program None warnings

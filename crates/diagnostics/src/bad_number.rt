@@ -4,6 +4,8 @@ use crate::habit::habit_in;
 use crate::operand::{Operand, operands_of};
 use crate::remark::Remark;
 use crate::sentence::{Advice, Sentence, Word};
+use crate::units::{mantissa_help, ticks_help};
+use board::Board;
 use seq_program::{Width, number_within, sized_in};
 use smbus::Form;
 use std::alloc::{AllocError, Global};
@@ -68,19 +70,47 @@ fn write_help<'a>(words: &[&'a str], high: u32) -> Option<Sentence<'a>> {
     Some(Sentence::two("{} is written as a {}", command, Word::Text(size)))
 }
 
+/// The exponent of a target's voltages.
+fn exponent_of(board: &Board, name: &str) -> Option<i8> {
+    let target = board.target(board.target_named(name)?)?;
+    Some(target.exponent())
+}
+
+/// What a word says that is no number: a time, a voltage, or what OPERATION is to do.
+fn meaning<'a>(board: &Board, words: &[&'a str], word: &'a str) -> Option<Sentence<'a>> {
+    match words {
+        ["wait", ..] => ticks_help(word),
+        ["write", _, "OPERATION", ..] if word.eq_ignore_ascii_case("on") => {
+            Some(Sentence::plain("0x80 turns on, 0x00 turns off"))
+        }
+        ["write", _, "OPERATION", ..] if word.eq_ignore_ascii_case("off") => {
+            Some(Sentence::plain("0x80 turns on, 0x00 turns off"))
+        }
+        ["write", target, command, ..] if command.starts_with("VOUT_") => {
+            mantissa_help(word, exponent_of(board, target)?)
+        }
+        _ => None,
+    }
+}
+
 /// What may help where a number can't stand.
-fn number_help<'a>(words: &[&'a str], misplaced: Misplaced) -> Option<Sentence<'a>> {
+fn number_help<'a>(
+    board: &Board,
+    words: &[&'a str],
+    misplaced: Misplaced<'a>,
+) -> Option<Sentence<'a>> {
     if let Some(habit) = habit_in(words) {
         return Some(Sentence::plain(habit));
     }
     if number_within(0, u32::MAX, misplaced.word).is_none() {
-        return Some(Sentence::plain(FORM));
+        let meaning = meaning(board, words, misplaced.word);
+        return Some(meaning.unwrap_or(Sentence::plain(FORM)));
     }
     write_help(words, misplaced.high)
 }
 
 /// What is said of a word in a line that stands in the place of a number.
-fn advice_on<'a>(words: &[&'a str], misplaced: Misplaced<'a>) -> Advice<'a> {
+fn advice_on<'a>(board: &Board, words: &[&'a str], misplaced: Misplaced<'a>) -> Advice<'a> {
     Advice {
         message: Sentence::three(
             "expected a number from {} to {}, found {}",
@@ -88,14 +118,18 @@ fn advice_on<'a>(words: &[&'a str], misplaced: Misplaced<'a>) -> Advice<'a> {
             Word::Number(u64::from(misplaced.high)),
             Word::Name(misplaced.word),
         ),
-        help: number_help(words, misplaced),
+        help: number_help(board, words, misplaced),
     }
 }
 
 /// What is said of a line with such a word.
-pub(crate) fn bad_number(alloc: Global, words: &[&str]) -> Result<Remark, AllocError> {
+pub(crate) fn bad_number(
+    alloc: Global,
+    board: &Board,
+    words: &[&str],
+) -> Result<Remark, AllocError> {
     match misplaced_in(words) {
-        Some(misplaced) => advice_on(words, misplaced).told(alloc),
+        Some(misplaced) => advice_on(board, words, misplaced).told(alloc),
         None => Remark::plain(alloc, "a bad number"),
     }
 }

@@ -3,8 +3,10 @@
 use crate::habit::habit_in;
 use crate::operand::{Operand, operands_of};
 use crate::remark::{Remark, help_of};
-use crate::sentence::{Sentence, Word};
+use crate::sentence::{Sentence, Word, told};
+use pmbus_table::by_name;
 use seq_program::{block_of, counter_of, direction_of, register_of};
+use smbus::Form;
 use std::alloc::{AllocError, Global};
 use texts::is_name;
 
@@ -107,6 +109,37 @@ fn description(alloc: Global, word: &str, operands: &[Operand]) -> Result<String
     Ok(text)
 }
 
+/// That a command is sent and has no data, where it stands behind `write`.
+fn sent_help<'a>(word: &str, words: &[&'a str]) -> Option<Sentence<'a>> {
+    match (word, words) {
+        ("write", [target, name, ..]) => {
+            let command = by_name(name)?;
+            if command.form_written() != Some(Form::SendByte) {
+                return None;
+            }
+            let (target, name) = (Word::Text(target), Word::Text(name));
+            Some(Sentence::three("{} has no data: send {} {} else LABEL", name, target, name))
+        }
+        _ => None,
+    }
+}
+
+/// What may help on a line with such operands.
+fn operand_help(
+    alloc: Global,
+    word: &str,
+    operands: &[Operand],
+    words: &[&str],
+) -> Result<Option<String>, AllocError> {
+    if let Some(habit) = habit_in(words) {
+        return help_of(alloc, Some(habit));
+    }
+    match sent_help(word, words) {
+        Some(help) => told(alloc, Some(help)),
+        None => Ok(Some(description(alloc, word, operands)?)),
+    }
+}
+
 /// What is said of a line with such operands.
 pub(crate) fn bad_operand(alloc: Global, words: &[&str]) -> Result<Remark, AllocError> {
     let [word, words @ ..] = words else {
@@ -116,9 +149,6 @@ pub(crate) fn bad_operand(alloc: Global, words: &[&str]) -> Result<Remark, Alloc
         return Remark::plain(alloc, "a bad operand");
     };
     let message = operand_message(alloc, word, operands, words)?;
-    let help = match habit_in(words) {
-        Some(habit) => help_of(alloc, Some(habit))?,
-        None => Some(description(alloc, word, operands)?),
-    };
+    let help = operand_help(alloc, word, operands, words)?;
     message.helped_by(alloc, help)
 }

@@ -1,14 +1,16 @@
 //! Warnings of boards.
 
 ghost use Rattle.std.specs.Prelude.{◌≡◌, All, IfOk, length, string_bytes};
-ghost use Rattle.diagnostics.specs.Boards.{board_lines, board_text, IsBoardWarning};
-ghost use Rattle.diagnostics.specs.Warnings.{HasEachLint};
+ghost use Rattle.diagnostics.specs.Boards.{board_lines, IsBoardWarning};
+ghost use Rattle.diagnostics.specs.Warnings.{WarnsOfBoard};
+ghost use Rattle.session.specs.Parts.{sections_view};
 ghost use Rattle.texts.specs.Words.{lines_by_feed};
 
 use crate::boards::{lines_of, number_of, number_within, remark_of, site_of};
 use crate::note::warning_note;
 use board::Board;
 use board_lints::{Lint, lints_on};
+use bundles::Section;
 use notes::Note;
 use seq_program::Program;
 use session::section_of;
@@ -50,34 +52,32 @@ fn notes_of(
 }
 
 /// The text of a bundle's board, or nothing.
-fn board_text(alloc: Global, text: &str) -> Result<String, AllocError>
-    ensures { IfOk result (λ board. string_bytes board ≡ board_text text.now) }
+fn board_text(alloc: Global, sections: &[Section<'_>]) -> Result<String, AllocError>
+    ensures { IfOk result (λ text. lines_by_feed (string_bytes text)
+        ≡ board_lines (sections_view sections.now)) }
 {
-    match section_of(alloc, text, 0)? {
-        Some(section) => Ok(section),
+    match section_of(alloc, sections, 0)? {
+        Some(text) => Ok(text),
         None => Ok(String::new(alloc)),
     }
 }
 
 /// What of the board of a bundle may be meant otherwise, each with its line: needs that go round in
 /// a circle, a rail that no entry of its target can turn on, a limit that no voltage can break, and
-/// start values with which a target doesn't take what the program sends it. The bundle is read
-/// again only where there are some.
+/// start values with which a target doesn't take what the program sends it.
 pub(crate) fn board_warnings(
     alloc: Global,
-    text: &str,
+    sections: &[Section<'_>],
     board: &Board,
     program: &Program,
 ) -> Result<Vec<Note>, AllocError>
-    ensures lines { IfOk result
-        (λ notes. All (IsBoardWarning (board_lines text.now)) notes.items) }
-    ensures lints { IfOk result
-        (λ notes. HasEachLint board.now program.now (length notes.items)) }
+    ensures { IfOk result (λ notes.
+        WarnsOfBoard (sections_view sections.now) board.now program.now notes.items) }
 {
     let lints = lints_on(alloc, board, program)?;
     if lints.is_empty() {
         return Ok(Vec::new(alloc));
     }
-    let text = board_text(alloc, text)?;
+    let text = board_text(alloc, sections)?;
     notes_of(alloc, &text, board, &lints)
 }

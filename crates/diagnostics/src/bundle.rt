@@ -1,17 +1,18 @@
 //! Notes on bundles.
 
 ghost use Rattle.std.specs.Prelude.{IfOk};
+ghost use Rattle.bundles.specs.Views.{section_view};
 ghost use Rattle.diagnostics.specs.BundlePlaces.{IsOnFault, IsOnBundleLine, IsOnSectionLine};
-ghost use Rattle.diagnostics.specs.BundlePlaces.{IsOnPartLine};
-ghost use Rattle.session.specs.Parts.{part_view};
+ghost use Rattle.diagnostics.specs.BundlePlaces.{IsOnPart};
+ghost use Rattle.session.specs.Parts.{sections_view};
 
 use crate::header::{missing_section, unexpected_line, unknown_command};
 use crate::note::error_note;
 use crate::remark::{Remark, help_of};
 use crate::spot::{Spot, spot_remark};
-use bundles::{BundleFault, Header};
+use bundles::{BundleFault, Header, Section};
 use notes::{Note, line_at};
-use session::{Part, part_at};
+use session::section_text;
 use std::alloc::{AllocError, Global};
 
 /// The note on a line of the bundle.
@@ -27,32 +28,38 @@ fn bundle_line_note(
 }
 
 /// The note on the line of a section that has this number in the bundle.
-fn part_note(alloc: Global, header: Header, part: &Part, line: usize) -> Result<Note, AllocError>
-    ensures { IfOk result
-        (IsOnPartLine header (part_view part.now) line) }
+fn part_note(
+    alloc: Global,
+    header: Header,
+    section: &Section<'_>,
+    line: usize,
+) -> Result<Note, AllocError>
+    ensures { IfOk result (IsOnPart header (section_view section.now) line) }
 {
-    let number = line.saturating_sub(part.above);
+    let text = section_text(alloc, section)?;
+    let number = line.saturating_sub(section.first_line.saturating_sub(1));
     let spot = Spot {
-        text: &part.text,
+        text: &text,
         number,
     };
     let remark = spot_remark(alloc, header, spot)?;
-    error_note(alloc, header.text(), &part.text, number, remark)
+    error_note(alloc, header.text(), &text, number, remark)
 }
 
 /// The note on the line of the section of an index that has this number in the bundle.
 fn section_note(
     alloc: Global,
     text: &str,
+    sections: &[Section<'_>],
     header: Header,
     index: usize,
     line: usize,
 ) -> Result<Note, AllocError>
     ensures { IfOk result
-        (IsOnSectionLine text.now header index line) }
+        (IsOnSectionLine text.now (sections_view sections.now) header index line) }
 {
-    match part_at(alloc, text, index)? {
-        Some(part) => part_note(alloc, header, &part, line),
+    match sections.get(index) {
+        Some(section) => part_note(alloc, header, section, line),
         None => {
             let remark = Remark::plain(alloc, "this line doesn't belong here")?;
             bundle_line_note(alloc, text, line, remark)
@@ -92,18 +99,24 @@ fn no_command(alloc: Global) -> Result<Remark, AllocError> {
 /// wrong with it, and what may help. Lines of messages and answers are counted in their sections.
 /// What has no line is told at the first, which has the command.
 ///
-/// The fault is to be the one that the bundle's readers answer for the text. Of another fault the
-/// note still names its line, and quotes it if the text has it. For `NotText` the text is what
-/// stands before the first byte that is none. Fails only for want of memory.
-pub fn bundle_note(alloc: Global, text: &str, fault: BundleFault) -> Result<Note, AllocError>
-    ensures { IfOk result (IsOnFault text.now fault) }
+/// The sections are those of the text, none where it is no bundle, and the fault is to be the one
+/// that the bundle's readers answer for it. Of another fault the note still names its line, and
+/// quotes it if the text has it. For `NotText` the text is what stands before the first byte that
+/// is none. Fails only for want of memory.
+pub fn bundle_note(
+    alloc: Global,
+    text: &str,
+    sections: &[Section<'_>],
+    fault: BundleFault,
+) -> Result<Note, AllocError>
+    ensures { IfOk result (IsOnFault text.now (sections_view sections.now) fault) }
 {
     let remark = match fault {
         BundleFault::BadMessage(line) => {
-            return section_note(alloc, text, Header::Message, 0, line);
+            return section_note(alloc, text, sections, Header::Message, 0, line);
         }
         BundleFault::BadAnswer(line) => {
-            return section_note(alloc, text, Header::Answers, 2, line);
+            return section_note(alloc, text, sections, Header::Answers, 2, line);
         }
         BundleFault::Unexpected(line) => {
             let remark = unexpected_line(alloc, text, line)?;

@@ -3,12 +3,15 @@
 use crate::remark::Remark;
 
 /// What is to blame for a refusal, with names and numbers, and what may mend just that; what is
-/// known at its place, and how that is reached.
+/// known at its place, how that is reached, and where on the way what is to blame came in.
 #[derive(Drop)]
 pub(crate) struct Cause {
     pub blame: Option<Remark>,
     pub known: Option<String>,
     pub way: Option<String>,
+    pub origin: Option<String>,
+    /// What is wrong beside it.
+    pub beside: Option<String>,
 }
 
 impl Cause {
@@ -23,11 +26,23 @@ impl Cause {
             blame,
             known,
             way: None,
+            origin: None,
+            beside: None,
         }
     }
 
     /// The same, and how the place is reached.
     pub(crate) fn reached_by(self, way: Option<String>) -> Cause {
         Cause { way, ..self }
+    }
+
+    /// The same, and what is wrong beside it.
+    pub(crate) fn beside(self, beside: Option<String>) -> Cause {
+        Cause { beside, ..self }
+    }
+
+    /// The same, and where what is to blame came in.
+    pub(crate) fn coming_from(self, origin: Option<String>) -> Cause {
+        Cause { origin, ..self }
     }
 }

@@ -1,17 +1,18 @@
 //! What is to blame for a refusal, with names and numbers.
 
 use crate::cause::Cause;
-use crate::edge_detail::edge_detail;
+use crate::edge_detail::{edge_detail, end_detail};
 use crate::entry_words::{known_values, no_entry, no_room, other_byte, other_length, other_values};
 use crate::facts_here::{facts_here, rail_word, target_word};
 use crate::remark::bare;
 use crate::roads::Judged;
 use crate::sentence::{Advice, Sentence, Word, advised, told};
-use crate::table_detail::{form_detail, start_detail};
+use crate::table_detail::{length_detail, shape_detail, start_detail};
 use board::{Allow, Board, Target};
-use facts::{Row, Rule, Violation, violation};
+use facts::{Row, Violation, violation};
 use seq_program::{Content, Instr, Request, Transaction};
 use std::alloc::{AllocError, Global};
+use table_check::{Breach, Refusal};
 
 /// What is said, where no more may be said to mend it.
 fn plain<'a>(message: Sentence<'a>) -> Option<Advice<'a>> {
@@ -103,14 +104,15 @@ fn advice_on<'a>(
     }
 }
 
-/// What is to blame where an instruction breaks a rule at a row, and what is known there.
-pub(crate) fn instr_cause(
+/// What is to blame in an instruction at a row, and what is known there.
+fn duty_cause(
     alloc: Global,
     board: &Board,
     instr: &Instr,
     row: &Row,
+    violation: Violation,
 ) -> Result<Cause, AllocError> {
-    let (Some(request), Some(violation)) = (instr.request(), violation(board, instr, row)) else {
+    let Some(request) = instr.request() else {
         return Ok(Cause::none());
     };
     let blame = advised(alloc, advice_on(board, &request, violation))?;
@@ -118,30 +120,50 @@ pub(crate) fn instr_cause(
     Ok(Cause::of(blame, known))
 }
 
-/// The same of a place's instruction.
-fn place_cause(alloc: Global, judged: Judged<'_>, place: usize) -> Result<Cause, AllocError> {
+/// What is to blame where an instruction breaks a rule at a row, and what is known there.
+pub(crate) fn instr_cause(
+    alloc: Global,
+    board: &Board,
+    instr: &Instr,
+    row: &Row,
+) -> Result<Cause, AllocError> {
+    match violation(board, instr, row) {
+        Some(violation) => duty_cause(alloc, board, instr, row, violation),
+        None => Ok(Cause::none()),
+    }
+}
+
+/// The cause of a violation at a place.
+fn place_cause(
+    alloc: Global,
+    judged: Judged<'_>,
+    place: usize,
+    violation: Violation,
+) -> Result<Cause, AllocError> {
     match (judged.program.at(place), judged.row(place)) {
-        (Some(instr), Some(row)) => instr_cause(alloc, judged.board, instr, row),
+        (Some(instr), Some(row)) => duty_cause(alloc, judged.board, instr, row, violation),
         _ => Ok(Cause::none()),
     }
 }
 
-/// What is to blame where a rule is broken at a place, and what is known there; `lines` are those
-/// of all places.
-pub(crate) fn detail_of(
+/// What is to blame for a refusal, and what is known there; `lines` are those of all places.
+pub(crate) fn refusal_cause(
     alloc: Global,
     judged: Judged<'_>,
     lines: &[usize],
-    place: usize,
-    rule: Rule,
+    refusal: Refusal,
 ) -> Result<Cause, AllocError> {
-    let detail = match rule {
-        Rule::K6 | Rule::K7 => edge_detail(alloc, judged, lines, place)?,
-        Rule::K8 => told(alloc, start_detail(judged))?,
-        Rule::K9 => form_detail(alloc, judged, place)?,
-        Rule::K1 | Rule::K2 | Rule::K3 | Rule::K4 | Rule::K5 => {
-            return place_cause(alloc, judged, place);
-        }
+    let Refusal { place, breach } = refusal;
+    let detail = match breach {
+        Breach::Duty(violation) => return place_cause(alloc, judged, place, violation),
+        Breach::NoRow { edge, .. } => edge_detail(alloc, judged, lines, place, edge, breach)?,
+        Breach::Uncovered { edge, .. } => edge_detail(alloc, judged, lines, place, edge, breach)?,
+        Breach::Unpaid { edge, .. } => edge_detail(alloc, judged, lines, place, edge, breach)?,
+        Breach::UnpaidEnd { .. } => end_detail(alloc, place)?,
+        Breach::NoStart => told(alloc, Some(Sentence::plain("row 0 is none")))?,
+        Breach::Start(unheld) => told(alloc, start_detail(judged, unheld))?,
+        Breach::Length => told(alloc, Some(length_detail(judged)))?,
+        Breach::Shape(misfit) => shape_detail(alloc, judged, place, misfit)?,
     };
     Ok(Cause::of(bare(detail), None))
 }

@@ -1,63 +1,59 @@
-//! K6 and K7: what isn't covered where a place leads, or why the ticks don't fall.
+//! K6 and K7: what isn't covered where a place leads, or where the ticks don't fall.
 
-use crate::facts_here::{has_rail, rail_word, target_word};
+use crate::facts_here::{rail_word, target_word};
 use crate::roads::{Edge, Judged};
 use crate::sentence::{Sentence, Word};
 use board::Board;
-use facts::{Part, Row, Source, Span};
-use seq_program::Instr;
+use facts::{Row, RowPart, Source, Span};
 use std::alloc::{AllocError, Global};
+use table_check::{Breach, Spot};
 
-/// The first place at which a part of what a row has doesn't cover what is known, and both.
-fn first_uncovered<'a, P: Part>(claimed: &'a [P], known: &'a [P]) -> Option<(usize, &'a P, &'a P)> {
-    for (index, (part, more)) in claimed.iter().zip(known).enumerate() {
-        if !part.covers(more) {
-            return Some((index, part, more));
-        }
-    }
-    None
-}
-
-/// The first target whose pages aren't covered.
-fn pages_detail<'a>(board: &'a Board, known: &'a Row, claimed: &'a Row) -> Option<Sentence<'a>> {
-    let (target, pages, more) = first_uncovered(&claimed.pages, &known.pages)?;
+/// What a target may store in PAGE, beside what the row has.
+fn pages_detail<'a>(
+    board: &'a Board,
+    known: &'a Row,
+    claimed: &'a Row,
+    target: usize,
+) -> Option<Sentence<'a>> {
     Some(Sentence::three(
         "PAGE of {} may be {}, and there the row has only {}",
         target_word(board, target),
-        Word::Pages(more),
-        Word::Pages(pages),
+        Word::Pages(known.pages.get(target)?),
+        Word::Pages(claimed.pages.get(target)?),
     ))
 }
 
-/// The first target whose protections aren't covered.
-fn protects_detail<'a>(board: &'a Board, known: &'a Row, claimed: &'a Row) -> Option<Sentence<'a>> {
-    let (target, protects, more) = first_uncovered(&claimed.protects, &known.protects)?;
+/// What a target may store in WRITE_PROTECT, beside what the row has.
+fn protects_detail<'a>(
+    board: &'a Board,
+    known: &'a Row,
+    claimed: &'a Row,
+    target: usize,
+) -> Option<Sentence<'a>> {
     Some(Sentence::three(
         "WRITE_PROTECT of {} may be {}, and there the row has only {}",
         target_word(board, target),
-        Word::Protects(more),
-        Word::Protects(protects),
+        Word::Protects(known.protects.get(target)?),
+        Word::Protects(claimed.protects.get(target)?),
     ))
 }
 
-/// The first rail that a row has for good, and that isn't known to be.
-fn good_detail<'a>(board: &'a Board, known: &Row, claimed: &Row) -> Option<Sentence<'a>> {
-    let index = (0..board.rails().len()).find(|index| {
-        has_rail(claimed.good, *index) && !has_rail(known.good, *index)
-    })?;
-    Some(Sentence::one(
+/// That a rail isn't known to be good.
+fn good_detail(board: &Board, rail: usize) -> Sentence<'_> {
+    Sentence::one(
         "{} isn't known to be good, and there the row has it for good",
-        rail_word(board, index),
-    ))
+        rail_word(board, rail),
+    )
 }
 
-/// The first register, or counter, whose numbers aren't covered.
-fn spans_detail(
+/// The numbers of a register, or a counter, beside those that the row has.
+fn span_detail(
     letter: &'static str,
     known: &[Span],
     claimed: &[Span],
+    index: usize,
 ) -> Option<Sentence<'static>> {
-    let (index, span, more) = first_uncovered(claimed, known)?;
+    let (more, span) = (known.get(index)?, claimed.get(index)?);
     Some(Sentence::four(
         "{}{} may be {}, and there the row has {}",
         Word::Text(letter),
@@ -88,82 +84,50 @@ fn source_detail(board: &Board, register: usize, source: Source) -> Sentence<'_>
     )
 }
 
-/// The first register whose source isn't known.
-fn sources_detail<'a>(
-    board: &'a Board,
-    known: &[Source; 8],
-    claimed: &[Source; 8],
-) -> Option<Sentence<'a>> {
-    let (index, source, _) = first_uncovered(claimed, known)?;
-    Some(source_detail(board, index, *source))
-}
-
-/// How many arbitrations may be lost, where the row doesn't cover that.
-fn lost_detail(known: &Row, claimed: &Row) -> Option<Sentence<'static>> {
-    if claimed.lost.covers(&known.lost) {
-        return None;
-    }
-    Some(Sentence::two(
+/// How many arbitrations may be lost, beside how many the row has.
+fn lost_detail(known: &Row, claimed: &Row) -> Sentence<'static> {
+    Sentence::two(
         "`lost` may be {}, and there the row has {}",
         Word::Span(known.lost.lo, known.lost.hi),
         Word::Span(claimed.lost.lo, claimed.lost.hi),
-    ))
+    )
 }
 
 /// What a row says that isn't known.
-fn uncovered<'a>(board: &'a Board, known: &'a Row, claimed: &'a Row) -> Option<Sentence<'a>> {
-    let pages = pages_detail(board, known, claimed);
-    let protects = protects_detail(board, known, claimed);
-    let good = good_detail(board, known, claimed);
-    let regs = spans_detail("r", &known.regs, &claimed.regs);
-    let sources = sources_detail(board, &known.sources, &claimed.sources);
-    let counters = spans_detail("c", &known.counters, &claimed.counters);
-    pages
-        .or(protects)
-        .or(good)
-        .or(regs)
-        .or(sources)
-        .or(counters)
-        .or(lost_detail(known, claimed))
-}
-
-/// Where ticks are counted: at these counters, and so many lost arbitrations of how many may be.
-#[derive(Clone, Copy)]
-struct Spot {
-    counters: [u16; 4],
-    lost: u16,
-    most: u16,
-}
-
-/// What a row leaves at some counters and lost arbitrations.
-fn ticks_at(row: &Row, spot: &Spot) -> u128 {
-    let left = u128::from(spot.most.saturating_sub(spot.lost));
-    let lost = u128::from(row.lost_coeff).saturating_mul(left);
-    let mut ticks = u128::from(row.base).saturating_add(lost);
-    for (coeff, counter) in row.coeffs.iter().zip(&spot.counters) {
-        let more = u128::from(*coeff).saturating_mul(u128::from(*counter));
-        ticks = ticks.saturating_add(more);
+fn part_detail<'a>(
+    board: &'a Board,
+    known: &'a Row,
+    claimed: &'a Row,
+    part: RowPart,
+) -> Option<Sentence<'a>> {
+    match part {
+        RowPart::Pages(target) => pages_detail(board, known, claimed, target),
+        RowPart::Protects(target) => protects_detail(board, known, claimed, target),
+        RowPart::Good(rail) => Some(good_detail(board, rail)),
+        RowPart::Register(index) => span_detail("r", &known.regs, &claimed.regs, index),
+        RowPart::Source(index) => Some(source_detail(board, index, *claimed.sources.get(index)?)),
+        RowPart::Counter(index) => span_detail("c", &known.counters, &claimed.counters, index),
+        RowPart::Lost => Some(lost_detail(known, claimed)),
     }
-    ticks
 }
 
-/// The counters of a row at which it leaves least, beside another row.
-fn worst_counters(row: &Row, next: &[u64; 4]) -> [u16; 4] {
-    let mut counters = [0; 4];
-    for (index, counter) in counters.iter_mut().enumerate() {
-        let grows = next[index] > row.coeffs[index];
-        let span = row.counters[index];
-        *counter = if grows { span.hi } else { span.lo };
-    }
-    counters
-}
-
-/// How many arbitrations were lost where a row leaves least, beside another row.
-fn worst_lost(row: &Row, next: &Row) -> u16 {
-    if next.lost_coeff > row.lost_coeff {
-        row.lost.lo
-    } else {
-        row.lost.hi
+/// The same, with the number of the row.
+fn uncovered_text(
+    alloc: Global,
+    judged: Judged<'_>,
+    known: &Row,
+    to: usize,
+    part: RowPart,
+) -> Result<Option<String>, AllocError> {
+    let Some(claimed) = judged.row(to) else {
+        return Ok(None);
+    };
+    match part_detail(judged.board, known, claimed, part) {
+        Some(detail) => {
+            let detail = detail.told(alloc)?;
+            Ok(Some(format!(in alloc; "{detail} (row {to})")?))
+        }
+        None => Ok(None),
     }
 }
 
@@ -189,66 +153,48 @@ fn spot_text(alloc: Global, spot: &Spot, row: &Row, next: &Row) -> Result<String
 }
 
 /// Both sums, where the ticks that are left don't pay for what follows.
-fn ticks_detail(
+fn ticks_text(
     alloc: Global,
-    board: &Board,
+    judged: Judged<'_>,
     place: usize,
     edge: &Edge,
-    next: &Row,
+    at: &Spot,
+    sums: (u128, u128),
 ) -> Result<Option<String>, AllocError> {
     let (to, row, worst) = edge;
-    let spot = Spot {
-        counters: worst_counters(row, &next.coeffs),
-        lost: worst_lost(row, next),
-        most: board.contentions(),
-    };
-    let (before, after) = (ticks_at(row, &spot), ticks_at(next, &spot));
-    let needed = u128::from(*worst).saturating_add(after);
-    if needed <= before {
+    let Some(next) = judged.row(*to) else {
         return Ok(None);
-    }
+    };
+    let (needed, before) = sums;
+    let after = needed.saturating_sub(u128::from(*worst));
     let unit = if *worst == 1 { "tick" } else { "ticks" };
-    let spot = spot_text(alloc, &spot, row, next)?;
+    let spot = spot_text(alloc, at, row, next)?;
     Ok(Some(format!(in alloc;
         "{worst} {unit} at most and the {after} of row {to} are {needed}, and row {place} leaves \
          {before} for them{spot}"
     )?))
 }
 
-/// What an edge breaks.
-fn broken_by(
+/// What an edge of a place breaks.
+fn breach_text(
     alloc: Global,
     judged: Judged<'_>,
     place: usize,
     edge: &Edge,
+    breach: Breach,
 ) -> Result<Option<String>, AllocError> {
-    let (to, known, _) = edge;
-    let Some(next) = judged.row(*to) else {
-        return Ok(Some(format!(in alloc; "row {to} is none")?));
-    };
-    if next.covers(known) {
-        ticks_detail(alloc, judged.board, place, edge, next)
-    } else {
-        match uncovered(judged.board, known, next) {
-            Some(detail) => {
-                let detail = detail.told(alloc)?;
-                Ok(Some(format!(in alloc; "{detail} (row {to})")?))
-            }
-            None => Ok(None),
+    match breach {
+        Breach::NoRow { to, .. } => Ok(Some(format!(in alloc; "row {to} is none")?)),
+        Breach::Uncovered { to, part, .. } => {
+            let (_to, known, _ticks) = edge;
+            uncovered_text(alloc, judged, known, to, part)
         }
-    }
-}
-
-/// What is broken where no edge is: an end takes a tick.
-fn end_detail(
-    alloc: Global,
-    judged: Judged<'_>,
-    place: usize,
-) -> Result<Option<String>, AllocError> {
-    match judged.program.at(place) {
-        Some(Instr::End | Instr::Fail) => Ok(Some(format!(in alloc;
-            "the end takes a tick, and the `ticks` of row {place} may leave none"
-        )?)),
+        Breach::Unpaid {
+            at,
+            needed,
+            left,
+            ..
+        } => ticks_text(alloc, judged, place, edge, &at, (needed, left)),
         _ => Ok(None),
     }
 }
@@ -262,20 +208,31 @@ fn way_name(number: usize) -> &'static str {
     }
 }
 
-/// What the first edge breaks that breaks something, with the line to which it leads.
+/// What the edge of a place with this number breaks, with the line to which it leads.
 pub(crate) fn edge_detail(
     alloc: Global,
     judged: Judged<'_>,
     lines: &[usize],
     place: usize,
+    number: usize,
+    breach: Breach,
 ) -> Result<Option<String>, AllocError> {
-    for (number, edge) in judged.edges(alloc, place)?.iter().enumerate() {
-        if let Some(detail) = broken_by(alloc, judged, place, edge)? {
-            let (to, _row, _ticks) = edge;
-            let line = lines.get(*to).copied().unwrap_or(0);
-            let way = way_name(number);
-            return Ok(Some(format!(in alloc; "on the way to line {line}{way}, {detail}")?));
-        }
-    }
-    end_detail(alloc, judged, place)
+    let edges = judged.edges(alloc, place)?;
+    let Some(edge) = edges.get(number) else {
+        return Ok(None);
+    };
+    let Some(detail) = breach_text(alloc, judged, place, edge, breach)? else {
+        return Ok(None);
+    };
+    let (to, _row, _ticks) = edge;
+    let line = lines.get(*to).copied().unwrap_or(0);
+    let way = way_name(number);
+    Ok(Some(format!(in alloc; "on the way to line {line}{way}, {detail}")?))
+}
+
+/// K7 at an end: it takes a tick.
+pub(crate) fn end_detail(alloc: Global, place: usize) -> Result<Option<String>, AllocError> {
+    Ok(Some(format!(in alloc;
+        "the end takes a tick, and the `ticks` of row {place} may leave none"
+    )?))
 }

@@ -1,13 +1,17 @@
 //! Notes on messages that have no frame.
 
+ghost use Rattle.std.specs.Prelude.{IfOk};
+ghost use Rattle.diagnostics.specs.Inputs.{IsOnMessage};
+ghost use Rattle.session.specs.Parts.{sections_view};
+
 use crate::counted::counted_line;
 use crate::misfit::refuse_misfit;
 use crate::note::error_note;
 use crate::sentence::{Advice, Sentence, Word};
-use bundles::Exchange;
+use bundles::{Exchange, Section};
 use notes::Note;
-use session::part_at;
-use smbus::{Form, Message, SmbusFault, frame_slots};
+use session::section_of;
+use smbus::{Form, Message, SmbusFault};
 use std::alloc::{AllocError, Global};
 
 /// How many data bytes a message of a form has, if it has no block.
@@ -78,21 +82,19 @@ fn advice_on(exchange: &Exchange, fault: SmbusFault) -> Advice<'static> {
     }
 }
 
-/// The note on the message of a bundle, if that has no frame.
+/// The note on the message of a bundle that has no frame.
 pub(crate) fn frame_note(
     alloc: Global,
-    text: &str,
+    sections: &[Section<'_>],
     exchange: &Exchange,
-) -> Result<Option<Note>, AllocError> {
-    let fault = match frame_slots(alloc, &exchange.message, &exchange.answer) {
-        Ok(_) => return Ok(None),
-        Err(SmbusFault::Memory) => return Err(AllocError),
-        Err(fault) => fault,
-    };
-    let Some(part) = part_at(alloc, text, 0)? else {
+    fault: SmbusFault,
+) -> Result<Option<Note>, AllocError>
+    ensures { IfOk result (IsOnMessage (sections_view sections.now)) }
+{
+    let Some(text) = section_of(alloc, sections, 0)? else {
         return Ok(None);
     };
-    let number = counted_line(&part.text, 0).unwrap_or(1);
+    let number = counted_line(&text, 0).unwrap_or(1);
     let remark = advice_on(exchange, fault).told(alloc)?;
-    Ok(Some(error_note(alloc, "%message", &part.text, number, remark)?))
+    Ok(Some(error_note(alloc, "%message", &text, number, remark)?))
 }

@@ -10,6 +10,12 @@ pub(crate) fn habit_in(words: &[&str]) -> Option<&'static str> {
     if words.iter().any(|word| is_comment(word)) {
         return Some("a comment begins with \"#\"");
     }
+    if words
+        .first()
+        .is_some_and(|word| word.starts_with('\u{FEFF}'))
+    {
+        return Some("the file begins with a byte order mark; it is to be UTF-8 without one");
+    }
     if words.iter().any(|word| word.contains('\r')) {
         return Some("lines end with LF alone, and a CR is a character like any other");
     }

@@ -1,16 +1,17 @@
 //! Notes on whole inputs.
 
-ghost use Rattle.std.specs.Prelude.{[], codes, IfOk};
+ghost use Rattle.std.specs.Prelude.{◌≡◌, ◌≢◌, None, IfOk, MatchOption, MatchResult, IsSomeAnd};
+ghost use Rattle.std.specs.Prelude.{codes, slice_get, string_bytes};
 ghost use Rattle.seq_program.specs.Faults.{line_of};
 ghost use Rattle.notes.specs.Notes.{IsOn};
-ghost use Rattle.session.specs.Commands.{task_view, IsReady};
-ghost use Rattle.session.specs.Scenarios.{IsOnItsBoard};
-ghost use Rattle.session.specs.Trials.{trial_view};
+ghost use Rattle.board.specs.declared.fault.FaultKind.TheVariants.{Memory};
+ghost use Rattle.session.specs.SectionTexts.{section_text};
+ghost use Rattle.session.specs.Parts.{sections_view};
 ghost use Rattle.texts.specs.Words.{lines_by_feed};
-ghost use Rattle.diagnostics.specs.Inputs.{IsOnLine, NamesFault, NamesBundleFault, NamesTaskFault};
-ghost use Rattle.diagnostics.specs.Inputs.{NamesTaskFaults, IsOnRefusal, IsOnVerdict};
-ghost use Rattle.diagnostics.specs.Inputs.{NamesCheckFault, NamesVerifyFault, NamesFindFault};
-ghost use Rattle.diagnostics.specs.Inputs.{NamesRunFault};
+ghost use Rattle.diagnostics.specs.Boards.{IsOnSomeLine};
+ghost use Rattle.diagnostics.specs.Inputs.{IsOnLine, IsOnUnread, IsOnJudgement, IsErrorOf};
+ghost use Rattle.diagnostics.specs.Inputs.{IsOnMessage, IsOnRunFault};
+ghost use Rattle.diagnostics.specs.ProgramPlaces.{program_lines, IsOnRefusal};
 
 use crate::boards::board_note;
 use crate::bundle::bundle_note;
@@ -18,165 +19,137 @@ use crate::frame::frame_note;
 use crate::note::error_note;
 use crate::program::program_note;
 use crate::reason::{cause_of, loop_cause};
-use crate::refusal::{Refusal, detailed_note};
+use crate::refusal::{RefusalKind, detailed_note};
 use crate::remark::Remark;
-use crate::roads::Judged;
+use crate::roads::Judged as Judging;
 use crate::run::run_note;
-use board::{Board, BoardFault, FaultKind, read_board};
-use fact_search::{FindFault, find};
-use facts::Rule;
+use board::{Board, BoardFault};
+use bundles::Section;
 use notes::{Level, Note};
 use seq_program::{Program, ProgramFault};
-use session::{InputFault, Scenario, Sequence, Task, Trial, read_task, section_of};
+use session::{
+    Case, Checked, Framed, Judged, Outcome, Ran, Searched, Sequence, Trial, Unread, Verified,
+    section_of,
+};
 use std::alloc::{AllocError, Global};
-use table_check::{TableFault, Verdict, check, read_table};
-use texts::ReadError;
+use table_check::{Judgement, Refusal};
 
-/// The board of an input.
-fn board_of(alloc: Global, text: &str) -> Result<Option<Board>, AllocError> {
-    let Some(text) = section_of(alloc, text, 0)? else {
-        return Ok(None);
-    };
-    match read_board(alloc, &text) {
-        Ok(board) => Ok(Some(board)),
-        Err(fault) if fault.kind == FaultKind::Memory => Err(AllocError),
-        Err(_) => Ok(None),
-    }
-}
-
-/// The note on a line of which no more is known than its fault.
-fn bare_note(alloc: Global, number: usize, fault: ProgramFault) -> Result<Note, AllocError>
-    ensures { IfOk result (IsOn Level.Error (codes "%program") number []) }
+/// The text of a bundle's program, or nothing.
+pub(crate) fn program_text(alloc: Global, sections: &[Section<'_>]) -> Result<String, AllocError>
+    ensures { IfOk result (λ text. lines_by_feed (string_bytes text)
+        ≡ program_lines (sections_view sections.now)) }
 {
-    let message = format!(in alloc; "{fault}")?;
-    let remark = Remark::new(message, None);
-    error_note(alloc, "%program", "", number, remark)
-}
-
-/// The note on the fault of a program with this text for a board.
-fn of_program(
-    alloc: Global,
-    board: Board,
-    text: &str,
-    fault: ProgramFault,
-) -> Result<Option<Note>, AllocError>
-    ensures { IfOk result (λ note. IsOnLine (line_of fault) note) }
-{
-    program_note(alloc, &board, text, fault)
-}
-
-/// The note on the fault of an input's program.
-fn program_fault_note(
-    alloc: Global,
-    text: &str,
-    fault: ProgramFault,
-) -> Result<Option<Note>, AllocError>
-    ensures { IfOk result (λ note. IsOnLine (line_of fault) note) }
-{
-    let Some(number) = fault.line() else {
-        return Ok(None);
-    };
-    let Some(program) = section_of(alloc, text, 1)? else {
-        return Ok(Some(bare_note(alloc, number, fault)?));
-    };
-    match board_of(alloc, text)? {
-        Some(board) => of_program(alloc, board, &program, fault),
-        None => Ok(Some(bare_note(alloc, number, fault)?)),
+    match section_of(alloc, sections, 1)? {
+        Some(text) => Ok(text),
+        None => Ok(String::new(alloc)),
     }
 }
 
 /// The note on the fault of an input's board.
 fn board_fault_note(
     alloc: Global,
-    text: &str,
+    sections: &[Section<'_>],
     fault: BoardFault,
-) -> Result<Option<Note>, AllocError> {
-    match section_of(alloc, text, 0)? {
+) -> Result<Option<Note>, AllocError>
+    ensures { IfOk result (λ note. fault.kind ≢ Memory
+        → MatchOption (slice_get (sections_view sections.now) 0) (note ≡ None)
+        (λ section. IsOnSomeLine (section_text section) note)) }
+{
+    match section_of(alloc, sections, 0)? {
         Some(board) => board_note(alloc, &board, fault),
         None => Ok(None),
     }
 }
 
-/// The note on a rule that is broken at a place.
-fn broken_note(
+/// The note on the fault of an input's program.
+fn program_fault_note(
+    alloc: Global,
+    sections: &[Section<'_>],
+    board: &Board,
+    fault: ProgramFault,
+) -> Result<Option<Note>, AllocError>
+    ensures { IfOk result (IsOnLine (sections_view sections.now) (line_of fault)) }
+{
+    let text = program_text(alloc, sections)?;
+    program_note(alloc, board, &text, fault)
+}
+
+/// The note on an input of which nothing is done.
+fn unread_note(
     alloc: Global,
     text: &str,
-    judged: Judged<'_>,
-    place: usize,
-    rule: Rule,
+    sections: &[Section<'_>],
+    unread: &Unread,
 ) -> Result<Option<Note>, AllocError>
-    ensures { IfOk result (IsOnRefusal text.now place) }
+    ensures { IfOk result (IsOnUnread text.now (sections_view sections.now) unread.now) }
 {
-    let Some(program) = section_of(alloc, text, 1)? else {
-        return Ok(None);
-    };
-    let cause = cause_of(alloc, judged, &program, place, rule)?;
-    detailed_note(alloc, &program, place, Refusal::Breaks(rule), cause)
+    match unread {
+        Unread::Bundle(fault) => Ok(Some(bundle_note(alloc, text, sections, *fault)?)),
+        Unread::Board(fault) => board_fault_note(alloc, sections, *fault),
+        Unread::Program(board, fault) => program_fault_note(alloc, sections, board, *fault),
+    }
+}
+
+/// The note on a refusal.
+fn broken_note(
+    alloc: Global,
+    sections: &[Section<'_>],
+    judging: Judging<'_>,
+    refusal: Refusal,
+) -> Result<Option<Note>, AllocError>
+    ensures { IfOk result (IsOnRefusal (sections_view sections.now) refusal.place) }
+{
+    let program = program_text(alloc, sections)?;
+    let (kind, cause) = cause_of(alloc, judging, &program, refusal)?;
+    detailed_note(alloc, &program, refusal.place, kind, cause)
 }
 
 /// The note on a place at which the search gave up.
 fn gave_up_note(
     alloc: Global,
-    text: &str,
+    sections: &[Section<'_>],
     program: &Program,
     place: usize,
 ) -> Result<Option<Note>, AllocError>
-    ensures { IfOk result (IsOnRefusal text.now place) }
+    ensures { IfOk result (IsOnRefusal (sections_view sections.now) place) }
 {
-    let Some(written) = section_of(alloc, text, 1)? else {
-        return Ok(None);
-    };
+    let written = program_text(alloc, sections)?;
     let cause = loop_cause(alloc, program, &written, place)?;
-    detailed_note(alloc, &written, place, Refusal::GaveUp, cause)
+    detailed_note(alloc, &written, place, RefusalKind::GaveUp, cause)
 }
 
-/// The note on the verdict on a table.
+/// The note on a table that was judged.
 fn verdict_note(
     alloc: Global,
-    text: &str,
-    judged: Judged<'_>,
-    verdict: Verdict,
+    sections: &[Section<'_>],
+    judging: Judging<'_>,
+    judgement: Judgement,
 ) -> Result<Option<Note>, AllocError>
-    ensures { IfOk result (IsOnVerdict text.now verdict) }
+    ensures { IfOk result (IsOnJudgement (sections_view sections.now) judgement) }
 {
-    match verdict {
-        Verdict::Accepted { .. } => Ok(None),
-        Verdict::Refused { place, rule } => broken_note(alloc, text, judged, place, rule),
+    match judgement {
+        Judgement::Accepted { .. } => Ok(None),
+        Judgement::Refused(refusal) => broken_note(alloc, sections, judging, refusal),
     }
 }
 
-/// The note on a program that is verified.
-fn verify_note(alloc: Global, text: &str, sequence: &Sequence) -> Result<Option<Note>, AllocError>
-    ensures { IfOk result (NamesVerifyFault text.now sequence.now) }
-{
-    match find(alloc, &sequence.board, &sequence.program) {
-        Ok(table) => {
-            let (board, program, table) = (&sequence.board, &sequence.program, &table);
-            let verdict = check(alloc, board, program, table)?;
-            verdict_note(
-                alloc,
-                text,
-                Judged {
-                    board,
-                    program,
-                    table,
-                },
-                verdict,
-            )
-        }
-        Err(FindFault::GaveUp(place)) => gave_up_note(alloc, text, &sequence.program, place),
-        Err(FindFault::Memory) => Err(AllocError),
+/// A table that was read, with its board and its program.
+fn as_read<'a>(trial: &'a Trial, judged: &'a Judged) -> Judging<'a> {
+    Judging {
+        board: &trial.board,
+        program: &trial.program,
+        table: &judged.table,
+        is_found: false,
     }
 }
 
-/// The note on a program whose facts are searched for.
-fn find_note(alloc: Global, text: &str, sequence: &Sequence) -> Result<Option<Note>, AllocError>
-    ensures { IfOk result (NamesFindFault text.now) }
-{
-    match find(alloc, &sequence.board, &sequence.program) {
-        Ok(_) => Ok(None),
-        Err(FindFault::GaveUp(place)) => gave_up_note(alloc, text, &sequence.program, place),
-        Err(FindFault::Memory) => Err(AllocError),
+/// A table that was found, with its board and its program.
+pub(crate) fn as_found<'a>(sequence: &'a Sequence, judged: &'a Judged) -> Judging<'a> {
+    Judging {
+        board: &sequence.board,
+        program: &sequence.program,
+        table: &judged.table,
+        is_found: true,
     }
 }
 
@@ -199,100 +172,110 @@ fn table_note(alloc: Global, table: &str, number: usize) -> Result<Note, AllocEr
     error_note(alloc, "%table", table, number, remark)
 }
 
-/// The note on a program that is checked with a table.
-fn check_note(alloc: Global, text: &str, trial: &Trial) -> Result<Option<Note>, AllocError>
-    ensures { IfOk result (NamesCheckFault text.now (trial_view trial.now)) }
+/// The note on a message and its answer, if they have no frame.
+fn framed_note(
+    alloc: Global,
+    sections: &[Section<'_>],
+    framed: &Framed,
+) -> Result<Option<Note>, AllocError>
+    ensures { IfOk result (λ note. MatchResult framed.now.told (λ _. note ≡ None)
+        (λ _. IsOnMessage (sections_view sections.now) note)) }
 {
-    match read_table(alloc, &trial.board, &trial.table) {
-        Ok(table) => {
-            let (board, program, table) = (&trial.board, &trial.program, &table);
-            let verdict = check(alloc, board, program, table)?;
+    match &framed.told {
+        Ok(_) => Ok(None),
+        Err(fault) => frame_note(alloc, sections, &framed.exchange, *fault),
+    }
+}
+
+/// The note on a run, if it fails.
+fn ran_note(
+    alloc: Global,
+    sections: &[Section<'_>],
+    ran: &Ran<'_>,
+) -> Result<Option<Note>, AllocError>
+    ensures { IfOk result (λ note. MatchResult ran.now.told (λ _. note ≡ None)
+        (λ fault. IsOnRunFault (sections_view sections.now) fault note)) }
+{
+    match &ran.told {
+        Ok(_) => Ok(None),
+        Err(fault) => run_note(alloc, sections, ran, *fault),
+    }
+}
+
+/// The note on a program with a table, if that is refused or is none.
+fn checked_note(
+    alloc: Global,
+    sections: &[Section<'_>],
+    checked: &Checked,
+) -> Result<Option<Note>, AllocError>
+    ensures { IfOk result (λ note. MatchResult checked.now.judged
+        (λ judged. IsOnJudgement (sections_view sections.now) judged.judgement note)
+        (λ number. IsSomeAnd note (IsOn Level.Error (codes "%table") number
+        (lines_by_feed (string_bytes checked.now.trial.table))))) }
+{
+    let Checked { trial, judged } = checked;
+    match judged {
+        Ok(judged) => { verdict_note(alloc, sections, as_read(trial, judged), judged.judgement) }
+        Err(number) => Ok(Some(table_note(alloc, &trial.table, *number)?)),
+    }
+}
+
+/// The note on a program whose facts were searched for, if the search gave up.
+fn searched_note(
+    alloc: Global,
+    sections: &[Section<'_>],
+    searched: &Searched,
+) -> Result<Option<Note>, AllocError>
+    ensures { IfOk result (λ note. MatchResult searched.now.found (λ _. note ≡ None)
+        (λ place. IsOnRefusal (sections_view sections.now) place note)) }
+{
+    match &searched.found {
+        Ok(_) => Ok(None),
+        Err(place) => gave_up_note(alloc, sections, &searched.sequence.program, *place),
+    }
+}
+
+/// The note on a program that was to be verified, if it is refused.
+fn verified_note(
+    alloc: Global,
+    sections: &[Section<'_>],
+    verified: &Verified,
+) -> Result<Option<Note>, AllocError>
+    ensures { IfOk result (λ note. MatchResult verified.now.judged
+        (λ judged. IsOnJudgement (sections_view sections.now) judged.judgement note)
+        (λ place. IsOnRefusal (sections_view sections.now) place note)) }
+{
+    let sequence = &verified.sequence;
+    match &verified.judged {
+        Ok(judged) => {
             verdict_note(
                 alloc,
-                text,
-                Judged {
-                    board,
-                    program,
-                    table,
-                },
-                verdict,
+                sections,
+                as_found(sequence, judged),
+                judged.judgement,
             )
         }
-        Err(TableFault::BadLine(number)) => Ok(Some(table_note(alloc, &trial.table, number)?)),
-        Err(TableFault::Memory) => Err(AllocError),
+        Err(place) => gave_up_note(alloc, sections, &sequence.program, *place),
     }
 }
 
-// What is asked for is given up variant by variant, as for its reply.
-
-/// The note on a scenario.
-fn of_scenario(
-    alloc: Global,
-    text: &str,
-    scenario: Scenario<'_>,
-) -> Result<Option<Note>, AllocError>
-    requires { IsOnItsBoard scenario }
-    ensures { IfOk result (λ note. NamesRunFault text.now scenario.entry note) }
-{
-    run_note(alloc, text, &scenario)
-}
-
-/// The note on a program with a table.
-fn of_trial(alloc: Global, text: &str, trial: Trial) -> Result<Option<Note>, AllocError>
-    ensures { IfOk result (NamesCheckFault text.now (trial_view trial)) }
-{
-    check_note(alloc, text, &trial)
-}
-
-/// The note on a program whose facts are asked for.
-fn of_search(alloc: Global, text: &str, sequence: Sequence) -> Result<Option<Note>, AllocError>
-    ensures { IfOk result (NamesFindFault text.now) }
-{
-    find_note(alloc, text, &sequence)
-}
-
-/// The note on a program that is to be verified.
-fn of_verdict(alloc: Global, text: &str, sequence: Sequence) -> Result<Option<Note>, AllocError>
-    ensures { IfOk result (NamesVerifyFault text.now sequence) }
-{
-    verify_note(alloc, text, &sequence)
-}
-
-/// The note on what is asked for, if that is refused.
-fn task_note(alloc: Global, text: &str, task: Task<'_>) -> Result<Option<Note>, AllocError>
-    requires { IsReady (task_view task) }
-    ensures { IfOk result (λ note. NamesTaskFault text.now (task_view task.entry) note) }
-{
-    match task {
-        Task::Check(trial) => of_trial(alloc, text, trial),
-        Task::Find(sequence) => of_search(alloc, text, sequence),
-        Task::Verify(sequence) => of_verdict(alloc, text, sequence),
-        Task::Frame(exchange) => frame_note(alloc, text, &exchange),
-        Task::Run(scenario) => of_scenario(alloc, text, scenario),
-        Task::Wave(scenario) => of_scenario(alloc, text, scenario),
-    }
-}
-
-/// What a person needs to mend an input: a note on the fault of its bundle, its board, its program
-/// or its answers, or on the place at which its program is refused. `None` where there is nothing
-/// to say.
+/// What a person needs to mend an input, by what became of it: a note on the fault of its bundle,
+/// its board, its program or its answers, or on the place at which its program is refused. `None`
+/// where what was asked for was done and accepted.
 ///
-/// It is for standard error, beside the reply to the same input, and has no say in that. Fails only
-/// for want of memory.
-pub fn note_on(alloc: Global, text: &str) -> Result<Option<Note>, AllocError>
-    ensures program { IfOk result (λ note. NamesFault text.now note) }
-    ensures bundle { IfOk result (λ note. NamesBundleFault text.now note) }
-    ensures task { IfOk result (λ note. NamesTaskFaults text.now note) }
+/// It is for standard error, beside the reply of the same outcome, and has no say in that. Fails
+/// only for want of memory.
+pub fn note_on(alloc: Global, case: &Case<'_>) -> Result<Option<Note>, AllocError>
+    ensures { IfOk result (IsErrorOf case.now.text.now (sections_view case.now.sections.items)
+        case.now.outcome) }
 {
-    let fault = match read_task(alloc, text) {
-        Ok(task) => return task_note(alloc, text, task),
-        Err(ReadError::Memory) => return Err(AllocError),
-        Err(ReadError::Fault(fault)) => fault,
-    };
-    match fault {
-        InputFault::Bundle(fault) => Ok(Some(bundle_note(alloc, text, fault)?)),
-        InputFault::Board(fault) => board_fault_note(alloc, text, fault),
-        InputFault::Program(fault) => program_fault_note(alloc, text, fault),
-        _ => Ok(None),
+    let sections = &case.sections;
+    match &case.outcome {
+        Outcome::Unread(unread) => unread_note(alloc, case.text, sections, unread),
+        Outcome::Framed(framed) => framed_note(alloc, sections, framed),
+        Outcome::Ran(ran) => ran_note(alloc, sections, ran),
+        Outcome::Checked(checked) => checked_note(alloc, sections, checked),
+        Outcome::Searched(searched) => searched_note(alloc, sections, searched),
+        Outcome::Verified(verified) => verified_note(alloc, sections, verified),
     }
 }

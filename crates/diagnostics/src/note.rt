@@ -1,6 +1,6 @@
 //! Notes on lines of sections.
 
-ghost use Rattle.std.specs.Prelude.{IfOk};
+ghost use Rattle.std.specs.Prelude.{IfOk, codes};
 ghost use Rattle.texts.specs.Words.{lines_by_feed};
 ghost use Rattle.notes.specs.Notes.{IsOn, StaysOn};
 
@@ -54,6 +54,18 @@ pub(crate) fn warning_note(
     note_on(alloc, Level::Warning, section, text, number, remark)
 }
 
+/// The note on a line of a program of which nothing is wrong.
+pub(crate) fn told_note(
+    alloc: Global,
+    text: &str,
+    number: usize,
+    remark: Remark,
+) -> Result<Note, AllocError>
+    ensures { IfOk result (IsOn Level.Info (codes "%program") number (lines_by_feed text.now)) }
+{
+    note_on(alloc, Level::Info, "%program", text, number, remark)
+}
+
 /// The same note with a mark below a word, which stands behind this in its line, if one is known.
 pub(crate) fn marked(
     alloc: Global,
@@ -83,14 +95,16 @@ pub(crate) fn known_error_note(
     text: &str,
     number: usize,
     remark: Remark,
-    known: Option<String>,
-    way: Option<String>,
+    known: [Option<String>; 4],
 ) -> Result<Note, AllocError>
     ensures { IfOk result (IsOn Level.Error section.now number (lines_by_feed text.now)) }
 {
     let note = error_note(alloc, section, text, number, remark)?;
+    let [first, second, third, fourth] = known;
     let mut facts = Vec::new(alloc);
-    push_fact(&mut facts, known)?;
-    push_fact(&mut facts, way)?;
+    push_fact(&mut facts, first)?;
+    push_fact(&mut facts, second)?;
+    push_fact(&mut facts, third)?;
+    push_fact(&mut facts, fourth)?;
     Ok(Note { facts, ..note })
 }

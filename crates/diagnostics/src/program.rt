@@ -34,7 +34,7 @@ fn remark_on(
     match fault {
         ProgramFault::Memory => Remark::plain(alloc, "out of memory"),
         ProgramFault::UnknownWord(_) => unknown_word(alloc, &words),
-        ProgramFault::BadNumber(_) => bad_number(alloc, &words),
+        ProgramFault::BadNumber(_) => bad_number(alloc, board, &words),
         ProgramFault::UnknownTarget(_) => unknown_target(alloc, board, &words),
         ProgramFault::UnknownCommand(_) => unknown_command(alloc, &words),
         ProgramFault::UnknownLabel(_) => unknown_label(alloc, text, &words),

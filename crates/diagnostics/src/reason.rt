@@ -2,17 +2,24 @@
 
 use crate::branch::{push_branches, push_start};
 use crate::cause::Cause;
-use crate::detail::detail_of;
+use crate::detail::refusal_cause;
 use crate::meeting::meeting_place;
+use crate::origin::BadWay;
+use crate::refusal::RefusalKind;
+use crate::remark::bare;
 use crate::roads::{Judged, Roads};
 use crate::route::route_of;
 use crate::single_way::{MOST_STEPS, SingleWay, first_trails, single_way};
 use crate::trail::{Trail, Trails};
+use crate::uncounted::uncounted_text;
 use crate::way::{loop_through, way_to};
+use crate::widened::widened_text;
 use facts::Rule;
 use seq_program::Program;
 use session::place_lines;
+use simulator::MOST_TICKS;
 use std::alloc::{AllocError, Global};
+use table_check::{Refusal, Table};
 
 /// The shortest way that leads to a place, unless that is the first.
 fn way_note(
@@ -94,6 +101,39 @@ fn joined_note(
     )?))
 }
 
+/// How a place is reached where a rule fails, and where on the way what breaks it came in.
+#[derive(Drop)]
+struct Reach {
+    way: Option<String>,
+    origin: Option<String>,
+}
+
+impl Reach {
+    /// The way alone.
+    fn by(way: Option<String>) -> Reach {
+        Reach { way, origin: None }
+    }
+}
+
+/// A way on which a rule may fail, and where on it what breaks that came in.
+fn found_reach(
+    alloc: Global,
+    judged: Judged<'_>,
+    lines: &[usize],
+    trails: &Trails,
+    way: &[Trail],
+) -> Result<Reach, AllocError> {
+    let bad = BadWay {
+        judged,
+        lines,
+        trails,
+        way,
+    };
+    let origin = bad.origin(alloc)?;
+    let way = found_note(alloc, judged, lines, trails, way)?;
+    Ok(Reach { way, origin })
+}
+
 /// A way on which a rule may fail at a place, or that none shows it.
 fn single_way_note(
     alloc: Global,
@@ -101,38 +141,140 @@ fn single_way_note(
     lines: &[usize],
     place: usize,
     rule: Rule,
-) -> Result<Option<String>, AllocError> {
+) -> Result<Reach, AllocError> {
     let mut trails = first_trails(alloc, judged)?;
     match single_way(alloc, judged, &mut trails, place, rule)? {
-        SingleWay::Found(way) => found_note(alloc, judged, lines, &trails, &way),
-        SingleWay::Nowhere => joined_note(alloc, judged, lines, place, rule),
-        SingleWay::Unknown => Ok(Some(format!(in alloc;
-            "no way on which it may fail was found within {MOST_STEPS} steps"
-        )?)),
+        SingleWay::Found(way) => found_reach(alloc, judged, lines, &trails, &way),
+        SingleWay::Nowhere => {
+            let way = joined_note(alloc, judged, lines, place, rule)?;
+            let origin = widened_text(alloc, judged, lines, place)?;
+            Ok(Reach { way, origin })
+        }
+        SingleWay::Unknown => {
+            let way = format!(in alloc;
+                "no way on which it may fail was found within {MOST_STEPS} steps"
+            )?;
+            let origin = widened_text(alloc, judged, lines, place)?;
+            Ok(Reach {
+                way: Some(way),
+                origin,
+            })
+        }
     }
 }
 
-/// Why a rule is broken at a place, in a program with this text.
+/// How the place of a refusal is reached.
+fn reaching(
+    alloc: Global,
+    judged: Judged<'_>,
+    lines: &[usize],
+    place: usize,
+    rule: Rule,
+) -> Result<Reach, AllocError> {
+    match rule {
+        Rule::K1 | Rule::K2 | Rule::K3 | Rule::K4 | Rule::K5 => {
+            single_way_note(alloc, judged, lines, place, rule)
+        }
+        Rule::K6 | Rule::K7 => Ok(Reach::by(way_note(alloc, judged, lines, place)?)),
+        Rule::K8 | Rule::K9 => Ok(Reach::by(None)),
+    }
+}
+
+/// What is to blame for a refusal of a program with this text, and how its place is reached.
+fn blame_of(
+    alloc: Global,
+    judged: Judged<'_>,
+    lines: &[usize],
+    refusal: Refusal,
+) -> Result<Cause, AllocError> {
+    let cause = refusal_cause(alloc, judged, lines, refusal)?;
+    let (place, rule) = (refusal.place, refusal.breach.rule());
+    let Reach { way, origin } = reaching(alloc, judged, lines, place, rule)?;
+    Ok(cause.reached_by(way).coming_from(origin))
+}
+
+/// Whether what is left at some place is the most that a row may have.
+fn is_full(table: &Table) -> bool {
+    for row in table.rows.iter().flatten() {
+        if row.base == MOST_TICKS || row.coeffs.contains(&MOST_TICKS) {
+            return true;
+        }
+    }
+    false
+}
+
+/// Why a program isn't verified, for whose ticks no bound was found.
+fn unbounded_cause(judged: Judged<'_>, uncounted: Option<String>) -> (RefusalKind, Cause) {
+    let kind = match &uncounted {
+        Some(_) => RefusalKind::Uncounted,
+        None if is_full(judged.table) => RefusalKind::TooLong,
+        None => RefusalKind::Unbounded,
+    };
+    (kind, Cause::of(bare(uncounted), None))
+}
+
+/// What is told of a loop that no counter bounds, beside another refusal.
+fn beside(alloc: Global, uncounted: Option<String>) -> Result<Option<String>, AllocError> {
+    match uncounted {
+        Some(uncounted) => Ok(Some(format!(in alloc; "beside this, {uncounted}")?)),
+        None => Ok(None),
+    }
+}
+
+/// Why a program isn't verified. Nobody wrote the table, so nothing is said of its ticks.
+fn unverified(
+    alloc: Global,
+    judged: Judged<'_>,
+    lines: &[usize],
+    refusal: Refusal,
+) -> Result<(RefusalKind, Cause), AllocError> {
+    let uncounted = uncounted_text(alloc, judged.program, Roads::Kept(judged), lines)?;
+    let rule = refusal.breach.rule();
+    if rule == Rule::K7 {
+        return Ok(unbounded_cause(judged, uncounted));
+    }
+    let cause = blame_of(alloc, judged, lines, refusal)?;
+    let beside = beside(alloc, uncounted)?;
+    Ok((RefusalKind::Breaks(rule), cause.beside(beside)))
+}
+
+/// Why a program with this text is refused.
 pub(crate) fn cause_of(
     alloc: Global,
     judged: Judged<'_>,
     text: &str,
-    place: usize,
-    rule: Rule,
-) -> Result<Cause, AllocError> {
+    refusal: Refusal,
+) -> Result<(RefusalKind, Cause), AllocError> {
     let lines = place_lines(alloc, text)?;
-    let cause = detail_of(alloc, judged, &lines, place, rule)?;
-    let way = match rule {
-        Rule::K1 | Rule::K2 | Rule::K3 | Rule::K4 | Rule::K5 => {
-            single_way_note(alloc, judged, &lines, place, rule)?
-        }
-        Rule::K6 | Rule::K7 => way_note(alloc, judged, &lines, place)?,
-        Rule::K8 | Rule::K9 => None,
-    };
-    Ok(cause.reached_by(way))
+    if judged.is_found {
+        return unverified(alloc, judged, &lines, refusal);
+    }
+    let cause = blame_of(alloc, judged, &lines, refusal)?;
+    Ok((RefusalKind::Breaks(refusal.breach.rule()), cause))
 }
 
-/// Which loop goes through a place.
+/// The loop that no counter bounds, or else the shortest one through a place.
+fn loop_text(
+    alloc: Global,
+    program: &Program,
+    lines: &[usize],
+    place: usize,
+) -> Result<Option<String>, AllocError> {
+    let roads = Roads::Written(program);
+    let uncounted = uncounted_text(alloc, program, roads, lines)?;
+    if uncounted.is_some() {
+        return Ok(uncounted);
+    }
+    match loop_through(alloc, roads, place)? {
+        Some(way) => {
+            let route = route_of(alloc, lines, &way)?;
+            Ok(Some(format!(in alloc; "the shortest loop through it: {route}")?))
+        }
+        None => Ok(None),
+    }
+}
+
+/// Which loop has no facts.
 pub(crate) fn loop_cause(
     alloc: Global,
     program: &Program,
@@ -140,12 +282,6 @@ pub(crate) fn loop_cause(
     place: usize,
 ) -> Result<Cause, AllocError> {
     let lines = place_lines(alloc, text)?;
-    let way = match loop_through(alloc, Roads::Written(program), place)? {
-        Some(way) => {
-            let route = route_of(alloc, &lines, &way)?;
-            Some(format!(in alloc; "the shortest loop through it: {route}")?)
-        }
-        None => None,
-    };
+    let way = loop_text(alloc, program, &lines, place)?;
     Ok(Cause::none().reached_by(way))
 }

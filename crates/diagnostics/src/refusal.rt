@@ -14,78 +14,89 @@ use std::alloc::{AllocError, Global};
 
 /// Why a program isn't accepted.
 #[derive(Clone, Copy, Debug, PartialEq, Eq)]
-pub enum Refusal {
+pub enum RefusalKind {
     /// A rule fails at the place.
     Breaks(Rule),
     /// The search found no facts for a loop through the place.
     GaveUp,
+    /// Of facts that were found: nothing bounds the ticks of a loop.
+    Uncounted,
+    /// The bound of those is over 2^40 ticks.
+    TooLong,
+    /// No bound was found for their ticks.
+    Unbounded,
 }
 
 /// What fails, in a sentence.
-fn message_of(refusal: Refusal) -> &'static str {
-    match refusal {
-        Refusal::Breaks(Rule::K1) => {
+fn message_of(kind: RefusalKind) -> &'static str {
+    match kind {
+        RefusalKind::Breaks(Rule::K1) => {
             "K1: the target may not take this: no entry of its `allow` permits it with every value \
              that it may carry here"
         }
-        Refusal::Breaks(Rule::K2) => {
+        RefusalKind::Breaks(Rule::K2) => {
             "K2: this reads at a page, and PAGE may be FFh here, all pages"
         }
-        Refusal::Breaks(Rule::K3) => {
+        RefusalKind::Breaks(Rule::K3) => {
             "K3: WRITE_PROTECT may have a value here that forbids this write"
         }
-        Refusal::Breaks(Rule::K4) => {
+        RefusalKind::Breaks(Rule::K4) => {
             "K4: this may command a voltage over the limit of a rail that it may touch"
         }
-        Refusal::Breaks(Rule::K5) => {
+        RefusalKind::Breaks(Rule::K5) => {
             "K5: this may turn on a rail while a rail that it needs isn't known to be good"
         }
-        Refusal::Breaks(Rule::K6) => {
+        RefusalKind::Breaks(Rule::K6) => {
             "K6: this leads to a place whose row says more than is known there"
         }
-        Refusal::Breaks(Rule::K7) => {
+        RefusalKind::Breaks(Rule::K7) => {
             "K7: this may take more ticks than the rows leave from here to where it leads"
         }
-        Refusal::Breaks(Rule::K8) => "K8: the row of place 0 doesn't hold every start of the board",
-        Refusal::Breaks(Rule::K9) => {
+        RefusalKind::Breaks(Rule::K8) =>
+            "K8: the row of place 0 doesn't hold every start of the board",
+        RefusalKind::Breaks(Rule::K9) => {
             "K9: the table doesn't belong to this program on this board"
         }
-        Refusal::GaveUp => "no facts are found: no counter bounds a loop through this line",
+        RefusalKind::GaveUp => "no facts are found: no counter bounds a loop through this line",
+        RefusalKind::Uncounted => "K7: nothing bounds the ticks from here on",
+        RefusalKind::TooLong => "K7: the bound would be over 2^40 ticks, 63 days",
+        RefusalKind::Unbounded => "K7: no bound was found for the ticks from here on",
     }
 }
 
 /// What may mend it, where there is something to say.
-fn help_on(refusal: Refusal) -> Option<&'static str> {
-    match refusal {
-        Refusal::Breaks(Rule::K1) => {
+fn help_on(kind: RefusalKind) -> Option<&'static str> {
+    match kind {
+        RefusalKind::Breaks(Rule::K1) => {
             Some("send what an entry permits, or, if the data sheet allows it, add an entry")
         }
-        Refusal::Breaks(Rule::K2) => Some("write the page that is meant before this line"),
-        Refusal::Breaks(Rule::K3) => Some(
+        RefusalKind::Breaks(Rule::K2) => Some("write the page that is meant before this line"),
+        RefusalKind::Breaks(Rule::K3) => Some(
             "write a value to WRITE_PROTECT before that permits this; where that write wasn't \
              done, leave by its `else` label, or read it back and test the register",
         ),
-        Refusal::Breaks(Rule::K4) => Some(
+        RefusalKind::Breaks(Rule::K4) => Some(
             "a voltage is its mantissa times two to the target's exponent; all pages count that \
              PAGE may have here: where a write of PAGE wasn't done, leave by its `else` label",
         ),
-        Refusal::Breaks(Rule::K5) => Some(
+        RefusalKind::Breaks(Rule::K5) => Some(
             "read STATUS_WORD of the rails that it needs, each at its page, and come here only \
              behind `if rN 0x0840 0x0000 LABEL`",
         ),
-        Refusal::GaveUp => Some(
+        RefusalKind::TooLong => Some("count fewer turns, or wait less in them"),
+        RefusalKind::GaveUp | RefusalKind::Uncounted | RefusalKind::Unbounded => Some(
             "count the turns of each loop through it: `count c0 N` before it, `again c0 LABEL` in \
              it; when they are used up, the line below `again` comes next",
         ),
-        Refusal::Breaks(Rule::K7) => Some(
+        RefusalKind::Breaks(Rule::K7) => Some(
             "of a row's `ticks`, the first are left in any case, the next four for each turn left \
              of c0 to c3, and a sixth for each arbitration that may still be lost; `find` makes a \
              table anew",
         ),
-        Refusal::Breaks(Rule::K6 | Rule::K8) => Some(
+        RefusalKind::Breaks(Rule::K6 | Rule::K8) => Some(
             "in a row, values stand side by side, as in `page a 00 01`; `find` makes a table anew",
         ),
-        Refusal::Breaks(Rule::K9) => Some("`find` makes a table anew"),
+        RefusalKind::Breaks(Rule::K9) => Some("`find` makes a table anew"),
     }
 }
 
@@ -93,7 +104,7 @@ fn help_on(refusal: Refusal) -> Option<&'static str> {
 pub(crate) fn blaming(
     alloc: Global,
     sentence: &str,
-    refusal: Refusal,
+    kind: RefusalKind,
     blame: Option<Remark>,
 ) -> Result<Remark, AllocError> {
     let Some(
@@ -104,22 +115,23 @@ pub(crate) fn blaming(
     ) = blame
     else {
         let message = String::from_str(alloc, sentence)?;
-        let help = help_of(alloc, help_on(refusal))?;
+        let help = help_of(alloc, help_on(kind))?;
         return Ok(Remark::new(message, help));
     };
     let message = format!(in alloc; "{sentence}: {detail}")?;
     let help = match help {
         Some(help) => Some(help),
-        None => help_of(alloc, help_on(refusal))?,
+        None => help_of(alloc, help_on(kind))?,
     };
     Ok(Remark::new(message, help))
 }
 
 /// The page of the rule that is broken.
-pub(crate) fn page_of(refusal: Refusal) -> Option<&'static str> {
-    match refusal {
-        Refusal::Breaks(rule) => Some(rule.name()),
-        Refusal::GaveUp => None,
+pub(crate) fn page_of(kind: RefusalKind) -> Option<&'static str> {
+    match kind {
+        RefusalKind::Breaks(rule) => Some(rule.name()),
+        RefusalKind::Uncounted | RefusalKind::TooLong | RefusalKind::Unbounded => Some("K7"),
+        RefusalKind::GaveUp => None,
     }
 }
 
@@ -128,7 +140,7 @@ pub(crate) fn detailed_note(
     alloc: Global,
     text: &str,
     place: usize,
-    refusal: Refusal,
+    kind: RefusalKind,
     cause: Cause,
 ) -> Result<Option<Note>, AllocError>
     ensures { IfOk result (IsOnPlace Level.Error (lines_by_feed text.now) place) }
@@ -136,10 +148,17 @@ pub(crate) fn detailed_note(
     let Some(number) = place_line(alloc, text, place)? else {
         return Ok(None);
     };
-    let Cause { blame, known, way } = cause;
-    let remark = blaming(alloc, message_of(refusal), refusal, blame)?;
-    let note = known_error_note(alloc, "%program", text, number, remark, known, way)?;
-    let page = page_of(refusal);
+    let Cause {
+        blame,
+        known,
+        way,
+        origin,
+        beside,
+    } = cause;
+    let remark = blaming(alloc, message_of(kind), kind, blame)?;
+    let known = [known, way, origin, beside];
+    let note = known_error_note(alloc, "%program", text, number, remark, known)?;
+    let page = page_of(kind);
     Ok(Some(Note { page, ..note }))
 }
 
@@ -150,9 +169,9 @@ pub fn refusal_note(
     alloc: Global,
     text: &str,
     place: usize,
-    refusal: Refusal,
+    kind: RefusalKind,
 ) -> Result<Option<Note>, AllocError>
     ensures { IfOk result (IsOnPlace Level.Error (lines_by_feed text.now) place) }
 {
-    detailed_note(alloc, text, place, refusal, Cause::none())
+    detailed_note(alloc, text, place, kind, Cause::none())
 }

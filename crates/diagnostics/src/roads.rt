@@ -20,6 +20,8 @@ pub(crate) struct Judged<'a> {
     pub board: &'a Board,
     pub program: &'a Program,
     pub table: &'a Table,
+    /// Nobody wrote the table: the search found it.
+    pub is_found: bool,
 }
 
 /// Whether a target allows what an instruction may send.
@@ -60,11 +62,39 @@ impl<'a> Judged<'a> {
         edges(alloc, self.board, self.program, place, row)
     }
 
+    /// The first of the rules K1 to K5 that a place's instruction breaks at a row, or else its edges
+    /// there.
+    pub(crate) fn step_at(
+        self,
+        alloc: Global,
+        place: usize,
+        row: &Row,
+    ) -> Result<Result<Vec<Edge>, Rule>, AllocError> {
+        let Some(instr) = self.program.at(place) else {
+            return Ok(Ok(Vec::new(alloc)));
+        };
+        if let Some(rule) = duty(self.board, instr, row) {
+            return Ok(Err(rule));
+        }
+        if !row.is_of(self.board) {
+            return Ok(Ok(Vec::new(alloc)));
+        }
+        Ok(Ok(edges(alloc, self.board, self.program, place, row)?))
+    }
+
     /// The first of the rules K1 to K5 that a place's instruction breaks at a row.
     pub(crate) fn broken_at(self, place: usize, row: &Row) -> Option<Rule> {
         match self.program.at(place) {
             Some(instr) => duty(self.board, instr, row),
             None => None,
+        }
+    }
+
+    /// Whether a place's instruction breaks one of them.
+    fn is_broken(self, place: usize) -> bool {
+        match self.row(place) {
+            Some(row) => self.broken_at(place, row).is_some(),
+            None => false,
         }
     }
 
@@ -107,6 +137,8 @@ fn written_places(
 pub(crate) enum Roads<'a> {
     /// Those that may be taken, by a table of what is known.
     Known(Judged<'a>),
+    /// Those of them that lead on from places which break no rule from K1 to K5.
+    Kept(Judged<'a>),
     /// Those that a program has.
     Written(&'a Program),
 }
@@ -115,7 +147,7 @@ impl Roads<'_> {
     /// How many places there are.
     pub(crate) fn places(self) -> usize {
         match self {
-            Roads::Known(judged) => judged.program.places(),
+            Roads::Known(judged) | Roads::Kept(judged) => judged.program.places(),
             Roads::Written(program) => program.places(),
         }
     }
@@ -124,6 +156,8 @@ impl Roads<'_> {
     pub(crate) fn from(self, alloc: Global, place: usize) -> Result<Vec<usize>, AllocError> {
         match self {
             Roads::Known(judged) => judged.next_places(alloc, place),
+            Roads::Kept(judged) if judged.is_broken(place) => Ok(Vec::new(alloc)),
+            Roads::Kept(judged) => judged.next_places(alloc, place),
             Roads::Written(program) => written_places(alloc, program, place),
         }
     }

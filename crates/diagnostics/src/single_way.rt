@@ -20,26 +20,17 @@ pub(crate) enum SingleWay {
     Unknown,
 }
 
-/// The edges from a trail's place, by what is known along that way. None where a rule fails there.
-fn edges_from(
+/// The first rule that fails at a trail's place, by what is known along that way, or else the edges
+/// from there.
+fn step_from(
     alloc: Global,
     judged: Judged<'_>,
     trails: &Trails,
     trail: Trail,
-) -> Result<Vec<Edge>, AllocError> {
+) -> Result<Result<Vec<Edge>, Rule>, AllocError> {
     match trails.row(trail) {
-        Some(row) if judged.broken_at(trail.place, row).is_none() => {
-            judged.edges_at(alloc, trail.place, row)
-        }
-        _ => Ok(Vec::new(alloc)),
-    }
-}
-
-/// Whether a rule is the first that fails at a trail's place.
-fn breaks(judged: Judged<'_>, trails: &Trails, trail: Trail, rule: Rule) -> bool {
-    match trails.row(trail) {
-        Some(row) => judged.broken_at(trail.place, row) == Some(rule),
-        None => false,
+        Some(row) => judged.step_at(alloc, trail.place, row),
+        None => Ok(Ok(Vec::new(alloc))),
     }
 }
 
@@ -62,11 +53,13 @@ pub(crate) fn single_way(
         let Some(trail) = trails.at(number) else {
             return Ok(SingleWay::Nowhere);
         };
-        if trail.place == place && breaks(judged, trails, trail, rule) {
-            return Ok(SingleWay::Found(trails.way_to(alloc, trail)?));
+        match step_from(alloc, judged, trails, trail)? {
+            Ok(edges) => trails.go_on(edges)?,
+            Err(broken) if broken == rule && trail.place == place => {
+                return Ok(SingleWay::Found(trails.way_to(alloc, trail)?));
+            }
+            Err(_) => trails.go_on(Vec::new(alloc))?,
         }
-        let edges = edges_from(alloc, judged, trails, trail)?;
-        trails.go_on(edges)?;
     }
     Ok(SingleWay::Unknown)
 }

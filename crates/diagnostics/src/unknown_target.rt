@@ -6,6 +6,7 @@ ghost use Rattle.notes.specs.Nearest.{IsSuggestion};
 
 use crate::listing::quoted;
 use crate::remark::Remark;
+use crate::sentence::{Sentence, Word, told};
 use board::Board;
 use notes::{Quoted, lowercase_suggestion};
 use std::alloc::{AllocError, Global};
@@ -21,6 +22,17 @@ fn target_names<'b>(alloc: Global, board: &'b Board) -> Result<Vec<&'b str>, All
     Ok(names)
 }
 
+/// The target and the page of a rail, where a word names one.
+fn rail_help<'a>(board: &'a Board, word: &'a str) -> Option<Sentence<'a>> {
+    let rail = board.rail(board.rail_named(word)?)?;
+    Some(Sentence::three(
+        "{} is a rail: it is at page {} of the target {}",
+        Word::Name(word),
+        Word::Number(u64::from(rail.page())),
+        Word::Name(board.target_name(rail.target())?),
+    ))
+}
+
 /// Proposes one of the board's targets.
 fn target_help(alloc: Global, board: &Board, word: &str) -> Result<Option<String>, AllocError>
     ensures { IfOk result (λ help. IsSuggestion (str_to_ascii_lowercase word.now)
@@ -32,7 +44,10 @@ fn target_help(alloc: Global, board: &Board, word: &str) -> Result<Option<String
 
 /// What is said of a word that is no target's name.
 fn target_remark(alloc: Global, board: &Board, word: &str) -> Result<Remark, AllocError> {
-    let help = target_help(alloc, board, word)?;
+    let help = match rail_help(board, word) {
+        Some(help) => told(alloc, Some(help))?,
+        None => target_help(alloc, board, word)?,
+    };
     let names = target_names(alloc, board)?;
     let names = quoted(alloc, &names)?;
     let word = Quoted(word);

@@ -8,11 +8,23 @@ use notes::lowercase_suggestion;
 use std::alloc::{AllocError, Global};
 use texts::is_name;
 
+/// What is meant where one file stands in the place of another.
+pub(crate) const SWAPPED: &str = "the board file comes first, and then the program";
+
 /// What a label looks like, where a word with a colon is none.
 fn label_rule(words: &[&str]) -> &'static str {
     match words {
         [_] => "a label has 1 to 32 of a to z, 0 to 9 and _, the first a letter, and then a colon",
         _ => "a label stands alone on its line, and its colon at its end",
+    }
+}
+
+/// Whether a line looks like one of a board file.
+fn is_of_board(words: &[&str]) -> bool {
+    match words {
+        [word, ..] if word.starts_with('[') => true,
+        [_, "=", ..] => true,
+        _ => false,
     }
 }
 
@@ -39,6 +51,7 @@ pub(crate) fn unknown_word(alloc: Global, words: &[&str]) -> Result<Remark, Allo
     };
     let help = match habit_in(words) {
         Some(habit) => help_of(alloc, Some(habit))?,
+        None if is_of_board(words) => help_of(alloc, Some(SWAPPED))?,
         None => word_help(alloc, word, words)?,
     };
     Sentence::one("unknown instruction {}", Word::Name(word)).helped_by(alloc, help)

@@ -1,22 +1,24 @@
 //! Warnings of boards and of runs.
 
-ghost use Rattle.std.specs.Prelude.{length, option_map, All, IfOk};
-ghost use Rattle.diagnostics.specs.Boards.{board_lines, IsBoardWarning};
+ghost use Rattle.std.specs.Prelude.{option_map, IfOk};
 ghost use Rattle.diagnostics.specs.ProgramPlaces.{IsWarningAt};
-ghost use Rattle.diagnostics.specs.Warnings.{HasEachLint, IsWarningOf};
+ghost use Rattle.diagnostics.specs.Warnings.{AreWarningsOf, WarnsOfBoard, WarnsOfBreach};
+ghost use Rattle.session.specs.Parts.{sections_view};
 
 use crate::board_warning::board_warnings;
 use crate::cause::Cause;
 use crate::detail::instr_cause;
+use crate::input::program_text;
 use crate::note::warning_note;
-use crate::refusal::{Refusal, blaming, page_of};
+use crate::refusal::{RefusalKind, blaming, page_of};
 use crate::remark::Remark;
 use board::Board;
+use bundles::Section;
 use facts::{Row, Rule};
 use notes::Note;
 use run_monitor::{Breach, Reached};
 use seq_program::Program;
-use session::{Seen, place_line, section_of};
+use session::{Case, Outcome, Scenario, Sequence, Trial, place_line};
 use std::alloc::{AllocError, Global};
 
 /// What breaks a rule, in a sentence.
@@ -60,38 +62,42 @@ fn remark_on(
     let cause = cause_of(alloc, board, program, breach, row)?;
     let sentence = sentence_of(rule);
     let sentence = format!(in alloc; "{sentence} (answer {index} of the run)")?;
-    blaming(alloc, &sentence, Refusal::Breaks(rule), cause.blame)
+    blaming(alloc, &sentence, RefusalKind::Breaks(rule), cause.blame)
 }
 
 /// The warning of a breach, on its place's line.
 fn breach_warning(
     alloc: Global,
-    text: &str,
+    sections: &[Section<'_>],
     board: &Board,
     program: &Program,
     breach: Breach,
     row: &Row,
 ) -> Result<Note, AllocError>
-    ensures { IfOk result (IsWarningAt text.now breach.place) }
+    ensures { IfOk result (IsWarningAt (sections_view sections.now) breach.place) }
 {
-    let section = section_of(alloc, text, 1)?.unwrap_or(String::new(alloc));
-    let number = place_line(alloc, &section, breach.place)?.unwrap_or(1);
+    let text = program_text(alloc, sections)?;
+    let number = place_line(alloc, &text, breach.place)?.unwrap_or(1);
     let remark = remark_on(alloc, board, program, breach, row)?;
-    let note = warning_note(alloc, "%program", &section, number, remark)?;
-    let page = page_of(Refusal::Breaks(breach.rule));
+    let note = warning_note(alloc, "%program", &text, number, remark)?;
+    let page = page_of(RefusalKind::Breaks(breach.rule));
     Ok(Note { page, ..note })
 }
 
 /// The warning of a run.
-fn run_warning(alloc: Global, text: &str, seen: &Seen) -> Result<Option<Note>, AllocError>
-    ensures { IfOk result
-        (IsWarningOf text.now (option_map (λ x. x.breach) seen.now.found)) }
+fn run_warning(
+    alloc: Global,
+    sections: &[Section<'_>],
+    board: &Board,
+    program: &Program,
+    found: Option<&Reached>,
+) -> Result<Option<Note>, AllocError>
+    ensures { IfOk result (WarnsOfBreach (sections_view sections.now)
+        (option_map (λ x. x.now.breach) found.entry)) }
 {
-    match &seen.found {
-        Some(found) => {
-            let (board, program) = (&seen.board, &seen.program);
-            let Reached { breach, row } = found;
-            Ok(Some(breach_warning(alloc, text, board, program, *breach, row)?))
+    match found {
+        Some(Reached { breach, row }) => {
+            Ok(Some(breach_warning(alloc, sections, board, program, *breach, row)?))
         }
         None => Ok(None),
     }
@@ -121,7 +127,25 @@ impl Warnings {
     }
 }
 
-/// What is warned of an input of which this was seen.
+/// What is warned of a board, a program on it, and its run, if that breaks a rule first here.
+fn warnings_of(
+    alloc: Global,
+    sections: &[Section<'_>],
+    board: &Board,
+    program: &Program,
+    found: Option<&Reached>,
+) -> Result<Warnings, AllocError>
+    ensures board { IfOk result (λ warnings. WarnsOfBoard (sections_view sections.now) board.now
+        program.now warnings.of_board.items) }
+    ensures run { IfOk result (λ warnings. WarnsOfBreach (sections_view sections.now)
+        (option_map (λ x. x.now.breach) found.entry) warnings.of_run) }
+{
+    let of_board = board_warnings(alloc, sections, board, program)?;
+    let of_run = run_warning(alloc, sections, board, program, found)?;
+    Ok(Warnings { of_board, of_run })
+}
+
+/// What is warned of an input, by what became of it.
 ///
 /// Of its board: needs that go round in a circle, a rail that no entry of its target can turn on, a
 /// limit that no voltage can break, and start values with which a target doesn't take what the
@@ -133,15 +157,28 @@ impl Warnings {
 /// fit. The run of a program that is accepted has no warning.
 ///
 /// Fails only for want of memory.
-pub fn warnings_on(alloc: Global, text: &str, seen: &Seen) -> Result<Warnings, AllocError>
-    ensures lines { IfOk result
-        (λ warnings. All (IsBoardWarning (board_lines text.now)) warnings.of_board.items) }
-    ensures lints { IfOk result (λ warnings.
-        HasEachLint seen.now.board seen.now.program (length warnings.of_board.items)) }
-    ensures run { IfOk result (λ warnings. IsWarningOf text.now
-        (option_map (λ x. x.breach) seen.now.found) warnings.of_run) }
+pub fn warnings_on(alloc: Global, case: &Case<'_>) -> Result<Warnings, AllocError>
+    ensures { IfOk result
+        (AreWarningsOf (sections_view case.now.sections.items) case.now.outcome) }
 {
-    let of_board = board_warnings(alloc, text, &seen.board, &seen.program)?;
-    let of_run = run_warning(alloc, text, seen)?;
-    Ok(Warnings { of_board, of_run })
+    let sections = &case.sections;
+    match &case.outcome {
+        Outcome::Unread(_) | Outcome::Framed(_) => Ok(Warnings::none(alloc)),
+        Outcome::Ran(ran) => {
+            let Scenario { board, program, .. } = &ran.scenario;
+            warnings_of(alloc, sections, board, program, ran.found.as_ref())
+        }
+        Outcome::Checked(checked) => {
+            let Trial { board, program, .. } = &checked.trial;
+            warnings_of(alloc, sections, board, program, None)
+        }
+        Outcome::Searched(searched) => {
+            let Sequence { board, program } = &searched.sequence;
+            warnings_of(alloc, sections, board, program, None)
+        }
+        Outcome::Verified(verified) => {
+            let Sequence { board, program } = &verified.sequence;
+            warnings_of(alloc, sections, board, program, None)
+        }
+    }
 }

@@ -83,6 +83,28 @@ pub(crate) fn way_to(
     Ok(None)
 }
 
+/// The places of a shortest way between two places, both included, where each leads to these.
+pub(crate) fn way_between(
+    alloc: Global,
+    all: &[Vec<usize>],
+    first: usize,
+    last: usize,
+) -> Result<Option<Vec<usize>>, AllocError> {
+    let mut search = Search::new(alloc, all.len(), first)?;
+    for turn in 0..all.len() {
+        let Some(here) = search.order.get(turn).copied() else {
+            break;
+        };
+        if here == last {
+            return Ok(Some(search.way_to(alloc, last)?));
+        }
+        if let Some(nexts) = all.get(here) {
+            search.reach_all(nexts, here)?;
+        }
+    }
+    Ok(None)
+}
+
 /// The places of a shortest loop that begins at a place, where there is one.
 pub(crate) fn loop_through(
     alloc: Global,

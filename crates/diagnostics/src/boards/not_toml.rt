@@ -1,7 +1,9 @@
 //! Texts that are no TOML document.
 
 use crate::boards::finding::Finding;
+use crate::operand::operands_of;
 use crate::remark::{Remark, help_of};
+use crate::unknown_word::SWAPPED;
 use notes::line_at;
 use std::alloc::{AllocError, Global};
 use texts::cut_at_space;
@@ -32,6 +34,10 @@ fn line_help(line: &str) -> Option<&'static str> {
     let line = line.trim();
     if line.starts_with('[') && !line.starts_with("[[") {
         return Some("each target begins with a line [[target]], each rail with [[rail]]");
+    }
+    let word = cut_at_space(line).map_or(line, |(word, _)| word);
+    if operands_of(word).is_some() || word.ends_with(':') {
+        return Some(SWAPPED);
     }
     None
 }

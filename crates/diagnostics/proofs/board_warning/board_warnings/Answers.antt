@@ -1,25 +1,28 @@
 use Rattle.std.proofs.Common.{◌≡◌, All, IfOk, List, ℕ, length, subst}
-use Rattle.std.proofs.lemmas.Result.{IfOk-weaker}
 use Rattle.texts.specs.Words.{lines_by_feed}
-use Rattle.diagnostics.specs.Boards.{IsBoardWarning}
 use Rattle.board_lints.specs.Lints.{Lints}
-use Rattle.diagnostics.specs.Warnings.{HasEachLint}
+use Rattle.session.specs.Parts.{sections_view}
+use Rattle.diagnostics.specs.Boards.{IsBoardWarning}
+use Rattle.diagnostics.specs.Warnings.{WarnsOfBoard}
+use Rattle.diagnostics.proofs.Results.{both_ok}
 use Rattle.diagnostics.proofs.board_warning.board_warnings.Goals as goal
 
-pub returns-clause-lines : goal.returns-clause-lines
-returns-clause-lines c =
-    let P : List ℕ → Type 0 = λ text. IfOk c.notes_of.result
-    (λ notes. All (IsBoardWarning (lines_by_feed text)) notes.items) in
-    subst P c.in_ok-text.ensures (subst P c.deref.ensures c.notes_of.ensures.lines)
-
-pub returns-clause-lints : goal.returns-clause-lints
-returns-clause-lints c =
-    let b = c.args.board.now in
-    let p = c.args.program.now in
-    let lints = c.in_ok-lints.lints.items in
-    let each =
-    subst (λ (told : Lints). IfOk c.notes_of.result (λ notes. length notes.items ≡ length told))
-    c.deref-2.ensures.value c.notes_of.ensures.each in
-    IfOk-weaker c.notes_of.result (λ notes. length notes.items ≡ length lints)
-    (λ notes. HasEachLint b p (length notes.items))
-    (λ notes count. (lints, c.in_ok-lints.ensures, count)) each
+pub returns : goal.returns
+returns c =
+    let found = c.in_ok-lints.lints.items in
+    let On : List (List ℕ) → Type 0 = λ lines. IfOk c.notes_of.result
+    (λ notes. All (IsBoardWarning lines) notes.items) in
+    let Each : Lints → Type 0 = λ lints. IfOk c.notes_of.result
+    (λ notes. length notes.items ≡ length lints) in
+    both_ok c.notes_of.result _ _
+    (λ notes. WarnsOfBoard (sections_view c.args.sections.now) c.args.board.now
+    c.args.program.now notes.items)
+    (subst On c.in_ok-text.ensures
+    (subst (λ text. On (lines_by_feed text)) c.deref.ensures c.notes_of.ensures.lines))
+    (subst Each c.deref-2.ensures.value c.notes_of.ensures.each)
+    (λ notes lines each. record {
+      lines = lines;
+      lints = found;
+      are_lints = c.in_ok-lints.ensures;
+      each = each;
+    })
