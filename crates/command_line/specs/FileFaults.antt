@@ -7,7 +7,7 @@ use Rattle.std.specs.List.{list_any, enumerate_from, starts_with}
 use Rattle.std.specs.Str.Lines.{lines}
 use Rattle.texts.specs.Ascii as ascii
 use Rattle.bundles.specs.Bundles.{Line, starts_section}
-use Rattle.diagnostics.specs.Told.{text_front}
+use Rattle.session.specs.Cases.{text_front}
 use Rattle.command_line.specs.declared.file_fault.FileFault.{FileFault}
 use Rattle.command_line.specs.declared.file_fault.FileFault.TheVariants as faults
 

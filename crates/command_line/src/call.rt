@@ -6,6 +6,7 @@ ghost use Rattle.bundles.specs.Bundles.{command_text};
 
 use crate::misuse::Misuse;
 use bundles::Command;
+use diagnostics::Beside;
 
 /// The commands, in the order in which a page of help has them.
 pub(crate) const COMMANDS: [Command; 6] = [
@@ -17,11 +18,28 @@ pub(crate) const COMMANDS: [Command; 6] = [
     Command::Frame,
 ];
 
+/// In which form notes are told.
+#[derive(Clone, Copy, PartialEq, Eq)]
+pub(crate) enum NoteForm {
+    /// As lines to be read.
+    Lines,
+    /// As a log of SARIF.
+    Sarif,
+}
+
+/// How notes are told, and what is told beside a verdict.
+#[derive(Clone, Copy)]
+pub(crate) struct Options {
+    pub form: NoteForm,
+    pub beside: Beside,
+}
+
 /// A command and the names of the files that it takes, one for each of its sections.
 #[derive(Clone, Copy)]
 pub(crate) struct Request<'a> {
     pub command: Command,
     pub names: &'a [String],
+    pub options: Options,
 }
 
 /// What a call asks for.
@@ -62,7 +80,11 @@ fn asks_for_help(word: &str) -> bool {
 }
 
 /// The request of a command for the files with these names.
-fn request_of(command: Command, names: &[String]) -> Result<Call<'_>, Misuse<'_>> {
+fn request_of(
+    command: Command,
+    names: &[String],
+    options: Options,
+) -> Result<Call<'_>, Misuse<'_>> {
     if names.len() != command.headers().len() {
         let count = names.len();
         return Err(Misuse::WrongCount { command, count });
@@ -70,17 +92,53 @@ fn request_of(command: Command, names: &[String]) -> Result<Call<'_>, Misuse<'_>
     if names.iter().filter(|name| name.as_str() == "-").count() > 1 {
         return Err(Misuse::TwoInputs);
     }
-    Ok(Call::Judge(Request { command, names }))
+    Ok(Call::Judge(Request {
+        command,
+        names,
+        options,
+    }))
 }
 
-/// What the words behind a command ask for: `--` ends the options.
-fn command_call(command: Command, words: &[String]) -> Result<Call<'_>, Misuse<'_>> {
+/// The options with the one that a word is, if it is one of the command.
+fn with_option(command: Command, options: Options, word: &str) -> Option<Options> {
+    match word {
+        "--sarif" => Some(Options {
+            form: NoteForm::Sarif,
+            ..options
+        }),
+        "--bound" if command == Command::Verify => Some(Options {
+            beside: Beside::Bound,
+            ..options
+        }),
+        _ => None,
+    }
+}
+
+/// What the words behind a command and its options ask for: `--` ends the options.
+fn call_with(command: Command, words: &[String], options: Options) -> Result<Call<'_>, Misuse<'_>> {
     match words.split_first() {
-        Some((word, names)) if word.as_str() == "--" => request_of(command, names),
+        Some((word, names)) if word.as_str() == "--" => request_of(command, names, options),
         Some((word, _)) if asks_for_help(word) => Ok(Call::HelpOn(command)),
         Some((word, _)) if word.starts_with("--") => Err(Misuse::UnknownOption(word)),
-        _ => request_of(command, words),
+        _ => request_of(command, words, options),
     }
+}
+
+/// What the words behind a command ask for.
+fn command_call(command: Command, words: &[String]) -> Result<Call<'_>, Misuse<'_>> {
+    let mut options = Options {
+        form: NoteForm::Lines,
+        beside: Beside::Nothing,
+    };
+    let mut rest = words;
+    while let Some((word, later)) = rest.split_first() {
+        let Some(more) = with_option(command, options, word) else {
+            break;
+        };
+        options = more;
+        rest = later;
+    }
+    call_with(command, rest, options)
 }
 
 /// The page of help on a command, or the whole.

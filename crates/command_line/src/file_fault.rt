@@ -6,8 +6,8 @@ ghost use Rattle.command_line.specs.FileFaults.{has_nul, is_refused, first_refus
 ghost use Rattle.command_line.specs.FileFaults.{file_fault};
 ghost use Rattle.bundles.specs.Bundles.{starts_section};
 
-use diagnostics::text_front;
 use notes::{Level, Note};
+use session::text_front;
 use std::alloc::{AllocError, Global};
 use texts::first_line;
 

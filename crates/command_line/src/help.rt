@@ -21,6 +21,8 @@ meet the board.
     pmseq frame MESSAGE                 sends one message, and prints its frame
     pmseq explain K5                    explains a rule, or a fault by its name
     pmseq COMMAND --help                explains a command
+    pmseq COMMAND --sarif FILES         tells its notes as a log of SARIF, for code scanning
+    pmseq verify --bound FILES          tells where the ticks of an accepted program's bound go
     pmseq --version                     tells which build this is
     pmseq -                             does what a bundle on standard input asks for
     pmseq build                         proves and builds pmseq itself
@@ -54,6 +56,9 @@ Finds what is known at each place of a program on a board, and judges the progra
 Prints `accepted bound N` (status 0), `refused place P rule K` or `gave up place P` (status 1).
 
     pmseq verify examples/boards/two_rails.toml examples/programs/bring_up.txt
+
+With --bound, standard error tells where the ticks of the bound go: the loops of the dearest way,
+with their turns.
 
 docs/BOARD.md and docs/PROGRAM.md say how the files are written, docs/RULES.md what the rules ask.
 ";

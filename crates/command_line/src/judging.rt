@@ -2,13 +2,13 @@
 
 ghost use Rattle.std.specs.Prelude.{◌≡◌, ◌≢◌, map, IfOk, IfErr, Some};
 ghost use Rattle.bundles.specs.Composed.{composed};
-ghost use Rattle.diagnostics.specs.Told.{IsErrorIn, WarnsOfInput};
+ghost use Rattle.diagnostics.specs.Told.{IsTold};
 ghost use Rattle.session.specs.Promises.{IsKeptPromise};
 ghost use Rattle.session.specs.Sessions.{IsAnswered, IsBegun};
 ghost use Rattle.session.specs.declared.answering.DeviceFault.TheVariants.{Writer};
 
 use bundles::{Command, compose};
-use diagnostics::{Answered, answer};
+use diagnostics::{Answered, Beside, answer};
 use session::DeviceFault;
 use std::alloc::Global;
 use std::io::Write;
@@ -21,6 +21,7 @@ pub(crate) fn judge<W: Write>(
     command: Command,
     files: &[Vec<u8>],
     writer: &mut W,
+    beside: Beside,
 ) -> Result<Answered, DeviceFault>
     ensures answered { IfOk result (λ answered.
         IsAnswered (composed command (map (λ f. f.items) files.now))
@@ -29,11 +30,10 @@ pub(crate) fn judge<W: Write>(
     ensures accepted { IfOk result (λ answered.
         IsKeptPromise (composed command (map (λ f. f.items) files.now))
         (W.contents writer.old) (W.contents writer.new) answered.status) }
-    ensures error { IfOk result (λ answered.
-        IsErrorIn (composed command (map (λ f. f.items) files.now))
-        answered.status answered.notes.error) }
-    ensures warnings { IfOk result (λ answered.
-        WarnsOfInput (composed command (map (λ f. f.items) files.now)) answered.notes.warnings) }
+    // The status and the notes tell one outcome, which is true of the input.
+    ensures told { IfOk result (λ answered.
+        IsTold (composed command (map (λ f. f.items) files.now))
+        beside answered.status answered.notes) }
     ensures begun { IfErr result (λ fault. fault ≡ Writer
         → IsBegun (composed command (map (λ f. f.items) files.now))
         (W.contents writer.old) (W.contents writer.new)) }
@@ -41,5 +41,5 @@ pub(crate) fn judge<W: Write>(
     ensures silent { IfErr result (λ fault. fault ≢ Writer → writer.new ≡ writer.old) }
 {
     let bundle = compose(alloc, command, files)?;
-    answer(alloc, &mut bundle.as_slice(), writer)
+    answer(alloc, &mut bundle.as_slice(), writer, beside)
 }

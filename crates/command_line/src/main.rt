@@ -16,7 +16,7 @@ mod stop;
 mod telling;
 mod version;
 
-use crate::call::{Call, Request, call_of};
+use crate::call::{Call, NoteForm, Options, Request, call_of};
 use crate::explaining::{page_on, unknown_topic};
 use crate::file_fault::{fault_in, fault_note};
 use crate::help::{HELP, SHORT_HELP, page_of};
@@ -25,9 +25,9 @@ use crate::misuse::misuse_text;
 use crate::named::{SectionFile, told_name};
 use crate::reading::read_file;
 use crate::stop::{MISUSED, Stop, unread};
-use crate::telling::{tell, tell_note, tell_text};
+use crate::telling::{tell, tell_alone, tell_text};
 use crate::version::version_text;
-use diagnostics::answer;
+use diagnostics::{Answered, Beside, answer};
 use session::{DeviceFault, Status};
 use std::env;
 use std::io::{IsTerminal, Write};
@@ -41,22 +41,38 @@ fn print_page(rt: &HostRuntime, page: &str) -> Result<u8, Stop> {
     }
 }
 
+/// The exit status of what was answered and told. It is dropped by a call, since the proof has a
+/// path for each part that may be there to drop.
+fn ended(answered: Answered) -> u8 {
+    let code = answered.status.code();
+    drop(answered);
+    code
+}
+
 /// Answers a bundle on standard input.
 fn answer_bundle(rt: &HostRuntime) -> Result<u8, Stop> {
-    let answered = answer(rt.alloc(), &mut rt.stdin(), &mut rt.stdout())?;
-    tell(&mut rt.stderr(), &[], &answered.notes);
-    Ok(answered.status.code())
+    let beside = Beside::Nothing;
+    let answered = answer(rt.alloc(), &mut rt.stdin(), &mut rt.stdout(), beside)?;
+    tell(
+        rt.alloc(),
+        &mut rt.stderr(),
+        &[],
+        &answered.notes,
+        NoteForm::Lines,
+    );
+    Ok(ended(answered))
 }
 
 /// Reads a file, and looks whether it may be judged.
-fn take_file(rt: &HostRuntime, name: &str, told: &str) -> Result<Vec<u8>, Stop> {
+fn take_file(rt: &HostRuntime, name: &str, told: &str, form: NoteForm) -> Result<Vec<u8>, Stop> {
     let bytes = match read_file(rt, name) {
         Ok(bytes) => bytes,
         Err(error) => return Err(unread(rt, told, error)),
     };
     match fault_in(&bytes) {
         Some(fault) => {
-            tell_note(&mut rt.stderr(), &[], &fault_note(rt.alloc(), told, fault)?);
+            let note = fault_note(rt.alloc(), told, fault)?;
+            tell_alone(rt.alloc(), &mut rt.stderr(), told, &note, form)?;
             Err(Stop::Told(MISUSED))
         }
         None => Ok(bytes),
@@ -73,7 +89,7 @@ fn take_files(
 ) -> Result<(), Stop> {
     for (header, name) in request.command.headers().iter().zip(request.names) {
         let told = told_name(rt.alloc(), name)?;
-        texts.push(take_file(rt, name, &told)?)?;
+        texts.push(take_file(rt, name, &told, request.options.form)?)?;
         files.push(SectionFile {
             header: *header,
             name: told,
@@ -88,9 +104,10 @@ fn judge_files(rt: &HostRuntime, request: Request<'_>) -> Result<u8, Stop> {
     let mut files = Vec::new(alloc);
     let mut texts = Vec::new(alloc);
     take_files(rt, request, &mut files, &mut texts)?;
-    let answered = judge(alloc, request.command, &texts, &mut rt.stdout())?;
-    tell(&mut rt.stderr(), &files, &answered.notes);
-    Ok(answered.status.code())
+    let Options { form, beside } = request.options;
+    let answered = judge(alloc, request.command, &texts, &mut rt.stdout(), beside)?;
+    tell(alloc, &mut rt.stderr(), &files, &answered.notes, form);
+    Ok(ended(answered))
 }
 
 /// Prints the page on a rule or on a fault.

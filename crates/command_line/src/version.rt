@@ -4,7 +4,7 @@ use std::alloc::{AllocError, Global};
 use std::{env, fs};
 
 /// The version of the commands, their inputs and their outputs.
-const VERSION: &str = "1.0";
+pub(crate) const VERSION: &str = "1.0";
 
 /// What stands beside the program, written when it was built: the toolchain and the commit.
 fn build_text(rt: &HostRuntime) -> Option<String> {

@@ -3,7 +3,7 @@
 //! suspicious, and where a run does what a checked program never does.
 #![tactic(auto)]
 
-use diagnostics::{Notes, answer};
+use diagnostics::{Beside, Notes, answer};
 use notes::{InFile, Note};
 use session::Status;
 use std::io::{Stderr, Write};
@@ -20,13 +20,21 @@ fn write_notes(errors: &mut Stderr, notes: &[Note]) {
 
 /// Tells a person what to mend, and then what is warned of.
 fn tell(errors: &mut Stderr, notes: &Notes) {
+    let untold = notes.others.untold;
     write_notes(errors, notes.error.as_slice());
+    write_notes(errors, &notes.others.notes);
+    let _written = write!(errors, "{untold}");
     write_notes(errors, &notes.warnings.of_board);
     write_notes(errors, notes.warnings.of_run.as_slice());
 }
 
 fn main(rt: HostRuntime) -> ExitCode {
-    let status = match answer(rt.alloc(), &mut rt.stdin(), &mut rt.stdout()) {
+    let status = match answer(
+        rt.alloc(),
+        &mut rt.stdin(),
+        &mut rt.stdout(),
+        Beside::Nothing,
+    ) {
         Ok(answered) => {
             tell(&mut rt.stderr(), &answered.notes);
             answered.status

@@ -1,0 +1,3 @@
+pub mod Uris
+pub mod Messages
+pub mod Logs
