@@ -7,10 +7,12 @@ mod warnings;
 
 use crate::boards::{TWO, two_board};
 use crate::expected::{Noted, begins, noted, notes, says, text_of};
+use crate::session_rows::input_of;
 use board::{BoardFault, read_board};
 use bundles::{BundleFault, Header};
 use diagnostics::{board_note, bundle_note, program_note};
 use seq_program::{ProgramFault, read_program};
+use session::judge;
 use std::alloc::{AllocError, Global};
 use std::process::Abort;
 use std::test::*;
@@ -185,7 +187,11 @@ static BUNDLES: [(&str, BundleFault, &str); 3] = [
 
 /// The note on a bundle, as it is printed.
 fn bundle_text(alloc: Global, text: &str, fault: BundleFault) -> Result<String, AllocError> {
-    text_of(alloc, &bundle_note(alloc, text, fault)?)
+    let input = input_of(alloc, text)?;
+    let case = judge(alloc, &input)?;
+    let note = bundle_note(alloc, text, &case.sections, fault);
+    drop(case);
+    text_of(alloc, &note?)
 }
 
 fn all_bundles_are_noted(rt: &impl Abort, alloc: Global, rows: &[(&str, BundleFault, &str)]) {

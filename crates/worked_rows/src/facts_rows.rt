@@ -6,6 +6,7 @@ mod edges;
 mod known;
 mod lost_edges;
 mod ticks;
+mod uncovered;
 mod violations;
 
 use crate::boards::two_board;

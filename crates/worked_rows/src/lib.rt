@@ -46,6 +46,8 @@ mod simulator_rows;
 #[cfg(test)]
 mod smbus_rows;
 #[cfg(test)]
+mod table_check_rows;
+#[cfg(test)]
 mod targets_rows;
 #[cfg(test)]
 mod texts_rows;

@@ -3,7 +3,8 @@ use crate::expected::same;
 use board::{Board, BoardFault};
 use seq_program::{
     Content, Instr, Program, ProgramFault, Request, Width, command_in, counter_of, direction_of,
-    label_in, message_of, number_within, read_program, register_of, sized_in, without_comment,
+    label_in, message_of, number_within, other_faults, read_program, register_of, sized_in,
+    without_comment,
 };
 use smbus::Form;
 use std::alloc::Global;
@@ -302,6 +303,58 @@ fn plain_lines(rt: HostRuntime) {
 fn fault_of(alloc: Global, text: &str) -> Result<Option<ProgramFault>, BoardFault> {
     let board = two_board(alloc)?;
     Ok(read_program(alloc, &board, text).err())
+}
+
+/// Five lines that can't be read, one of them twice a label.
+const FIVE_FAULTS: &str = "goo
+read a STATUS_WORD r0 else nowhere
+wait 5ms
+end
+x:
+x:
+set r9 1
+fail
+";
+
+/// The faults of the other lines than this: so many of them at most, and how many there are more.
+fn others_than(
+    alloc: Global,
+    line: usize,
+    most: usize,
+) -> Result<(Vec<ProgramFault>, usize), BoardFault> {
+    let board = two_board(alloc)?;
+    let faults = other_faults(alloc, &board, FIVE_FAULTS, line, most)?;
+    Ok((faults.first, faults.more))
+}
+
+fn others_are(
+    rt: &impl Abort,
+    alloc: Global,
+    (line, most): (usize, usize),
+    want: (&[ProgramFault], usize),
+) {
+    match others_than(alloc, line, most) {
+        Ok((first, more)) => same(rt, (first.as_slice(), more), want),
+        Err(_) => panic!(rt; "no memory"),
+    }
+}
+
+static BEHIND_THE_FIRST: [ProgramFault; 4] = [
+    ProgramFault::UnknownLabel(2),
+    ProgramFault::BadNumber(3),
+    ProgramFault::SameLabel(6),
+    ProgramFault::BadOperand(7),
+];
+
+#[test]
+fn faults_of_other_lines(rt: HostRuntime) {
+    let all = BEHIND_THE_FIRST.as_slice();
+    let first = Ok(Some(ProgramFault::UnknownWord(1)));
+    same(&rt, fault_of(rt.alloc(), FIVE_FAULTS), first);
+    others_are(&rt, rt.alloc(), (1, 19), (all, 0));
+    others_are(&rt, rt.alloc(), (1, 4), (all, 0));
+    others_are(&rt, rt.alloc(), (1, 3), (&all[..3], 1));
+    others_are(&rt, rt.alloc(), (4, 0), (&[], 5));
 }
 
 /// A carriage return is a character like any other.

@@ -8,26 +8,27 @@ mod judged;
 use crate::expected::{same, says};
 use crate::runs::answer_of;
 use bundles::BundleFault;
-use session::{Input, Received, Status, deliver, outcome_line, receive, text_of};
+use session::{Input, Status, deliver, judge, outcome_line, reply_of, text_of};
 use simulator::outcome_text;
 use smbus::{Form, Message};
 use std::alloc::{AllocError, Global};
 use std::test::*;
 use targets::Outcome;
 
-/// What becomes of the text of a bundle before anything is written.
-pub(crate) fn received(alloc: Global, text: &str) -> Result<Received, AllocError> {
-    match receive(alloc, &mut text.as_bytes()) {
-        Ok(received) => Ok(received),
-        Err(_) => Err(AllocError),
-    }
+/// A text as an input.
+pub(crate) fn input_of(alloc: Global, text: &str) -> Result<Input, AllocError> {
+    Ok(Input {
+        bytes: Vec::from_slice(alloc, text.as_bytes())?,
+        too_large: false,
+    })
 }
 
 /// How a text is answered, and what is printed.
 fn delivered(alloc: Global, text: &str) -> Result<(Status, Vec<u8>), AllocError> {
-    let received = received(alloc, text)?;
+    let input = input_of(alloc, text)?;
+    let reply = reply_of(alloc, judge(alloc, &input)?)?;
     let mut output = Vec::new(alloc);
-    match deliver(&mut output, &received.reply) {
+    match deliver(&mut output, &reply) {
         Ok(status) => Ok((status, output)),
         Err(_) => Err(AllocError),
     }
@@ -71,6 +72,28 @@ fn texts_of_inputs(rt: HostRuntime) {
         &rt,
         text_in(rt.alloc(), b"%run\xff", false),
         Ok(Err(BundleFault::NotText)),
+    );
+}
+
+/// An input as far as it is text.
+fn front_of(alloc: Global, bytes: &[u8]) -> Result<String, AllocError> {
+    let input = Input {
+        bytes: Vec::from_slice(alloc, bytes)?,
+        too_large: false,
+    };
+    let case = judge(alloc, &input)?;
+    let front = String::from_str(alloc, case.text);
+    drop(case);
+    front
+}
+
+#[test]
+fn what_stands_before_a_byte_that_is_no_text(rt: HostRuntime) {
+    says(&rt, front_of(rt.alloc(), b"gr\xFCn"), "gr");
+    says(
+        &rt,
+        front_of(rt.alloc(), "gr\u{FC}n".as_bytes()),
+        "gr\u{FC}n",
     );
 }
 

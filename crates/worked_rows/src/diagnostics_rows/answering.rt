@@ -1,20 +1,25 @@
 //! Whole inputs with the notes on them.
 
 use crate::boards::TWO;
-use crate::expected::same;
-use diagnostics::{Answered, answer, text_front};
+use crate::expected::{Noted, notes, same, says, text_of};
+use diagnostics::{Answered, Beside, Untold, answer};
+use notes::Note;
 use session::Status;
 use std::alloc::{AllocError, Global};
 use std::process::Abort;
 use std::test::*;
 
-fn answered(alloc: Global, input: &[u8]) -> Result<Answered, AllocError> {
+fn answered_beside(alloc: Global, input: &[u8], beside: Beside) -> Result<Answered, AllocError> {
     let mut reader = input;
     let mut output = Vec::new(alloc);
-    match answer(alloc, &mut reader, &mut output) {
+    match answer(alloc, &mut reader, &mut output, beside) {
         Ok(answered) => Ok(answered),
         Err(_) => Err(AllocError),
     }
+}
+
+fn answered(alloc: Global, input: &[u8]) -> Result<Answered, AllocError> {
+    answered_beside(alloc, input, Beside::Nothing)
 }
 
 /// Whether there is a note on what to mend, how many warnings of the board, and whether one of the
@@ -74,6 +79,69 @@ fn lints_and_breaches_are_told(rt: HostRuntime) {
     run_tells(&rt, rt.alloc(), "%check", "3300000", FAULT);
 }
 
+/// A program of so many lines of an unknown word: how many have a note beside the first, and how
+/// many are only counted.
+fn others_of(alloc: Global, count: usize) -> Result<(usize, Untold), AllocError> {
+    let lines = "goo\n".repeat(alloc, count)?;
+    let input = format!(in alloc; "%verify\n%board\n{TWO}%program\n{lines}")?;
+    let answered = answered(alloc, input.as_bytes())?;
+    let others = &answered.notes.others;
+    Ok((others.notes.len(), others.untold))
+}
+
+/// Twenty lines are told in all, the first of them with the reply.
+#[test]
+fn other_lines_are_told(rt: HostRuntime) {
+    same(&rt, others_of(rt.alloc(), 1), Ok((0, Untold(0))));
+    same(&rt, others_of(rt.alloc(), 20), Ok((19, Untold(0))));
+    same(&rt, others_of(rt.alloc(), 23), Ok((19, Untold(3))));
+    says(&rt, format!(in rt.alloc(); "{}", Untold(1)), ONE_MORE);
+    says(&rt, format!(in rt.alloc(); "{}", Untold(3)), THREE_MORE);
+}
+
+const ONE_MORE: &str = "1 more line of the program has a fault\n";
+
+const THREE_MORE: &str = "3 more lines of the program have faults\n";
+
+/// A note as it is printed, if there is one.
+fn told_note(alloc: Global, note: &Option<Note>) -> Noted {
+    match note {
+        Some(note) => Ok(Some(text_of(alloc, note)?)),
+        None => Ok(None),
+    }
+}
+
+/// The note on the bound of a program, as it is printed.
+fn bound_of(alloc: Global, program: &str, beside: Beside) -> Noted {
+    let input = format!(in alloc; "%verify\n%board\n{TWO}%program\n{program}")?;
+    let answered = answered_beside(alloc, input.as_bytes(), beside)?;
+    let told = told_note(alloc, &answered.notes.bound);
+    drop(answered);
+    told
+}
+
+/// Three turns of 402 ticks each, and 2 for `count` and `end`.
+const TURNS: &str = "count c0 2\nturn: # thrice\nwait 400\nagain c0 turn\nend\n";
+
+const TURNS_TOLD: &str = "%program:1: note: every run ends within 1208 ticks, 6.0 ms
+    count c0 2
+note: lines 3 to 4, 3 times: 6.0 ms
+note: all else on the dearest way: 2 ticks
+";
+
+#[test]
+fn bounds_are_told_where_asked_for(rt: HostRuntime) {
+    let one = "%program:1: note: every run ends within 1 tick\n    end\nnote: all else on the \
+               dearest way: 1 tick\n";
+    notes(&rt, bound_of(rt.alloc(), "end\n", Beside::Bound), Some(one));
+    notes(&rt, bound_of(rt.alloc(), "end\n", Beside::Nothing), None);
+    notes(
+        &rt,
+        bound_of(rt.alloc(), TURNS, Beside::Bound),
+        Some(TURNS_TOLD),
+    );
+}
+
 /// So many blank lines, which are no bundle.
 fn blank_tells(rt: &impl Abort, alloc: Global, count: usize, want: Told) {
     match "\n".repeat(alloc, count) {
@@ -82,16 +150,9 @@ fn blank_tells(rt: &impl Abort, alloc: Global, count: usize, want: Told) {
     }
 }
 
-/// Up to 1 MiB there are notes.
+/// However long an input is, its fault is told.
 #[test]
-fn long_inputs_have_no_notes(rt: HostRuntime) {
-    blank_tells(&rt, rt.alloc(), 1 << 20, FAULT);
-    let silent = (Status::InputFault, false, 0, false);
-    blank_tells(&rt, rt.alloc(), (1 << 20) + 1, silent);
-}
-
-#[test]
-fn what_stands_before_a_byte_that_is_no_text(rt: HostRuntime) {
-    same(&rt, text_front(b"gr\xFCn"), "gr");
-    same(&rt, text_front("gr\u{FC}n".as_bytes()), "gr\u{FC}n");
+fn long_inputs_have_notes(rt: HostRuntime) {
+    blank_tells(&rt, rt.alloc(), 1 << 24, FAULT);
+    blank_tells(&rt, rt.alloc(), (1 << 24) + 1, FAULT);
 }

@@ -2,8 +2,10 @@
 
 use crate::boards::TWO;
 use crate::expected::{Noted, begins, noted, notes};
-use diagnostics::{Refusal, note_on, refusal_note};
+use crate::session_rows::input_of;
+use diagnostics::{RefusalKind, note_on, refusal_note};
 use facts::Rule;
+use session::judge;
 use std::alloc::Global;
 use std::process::Abort;
 use std::test::*;
@@ -17,27 +19,27 @@ end
 ";
 
 /// A refusal of that program, its place, and the first lines of the note.
-static REFUSALS: [(Refusal, usize, &str); 4] = [
+static REFUSALS: [(RefusalKind, usize, &str); 4] = [
     (
-        Refusal::Breaks(Rule::K5),
+        RefusalKind::Breaks(Rule::K5),
         1,
         "%program:5: error: K5: this may turn on a rail while a rail that it needs isn't known to \
          be good\n    write vb OPERATION 0x80 else again   # too early\nhelp: ",
     ),
     (
-        Refusal::GaveUp,
+        RefusalKind::GaveUp,
         0,
         "%program:3: error: no facts are found: no counter bounds a loop through this line\n    \
          write va OPERATION 0x80 else again\nhelp: ",
     ),
     (
-        Refusal::Breaks(Rule::K9),
+        RefusalKind::Breaks(Rule::K9),
         0,
         "%program:3: error: K9: the table doesn't belong to this program on this board\n    write \
          va",
     ),
     (
-        Refusal::Breaks(Rule::K7),
+        RefusalKind::Breaks(Rule::K7),
         2,
         "%program:6: error: K7: this may take more ticks than the rows leave from here to where it \
          leads\n    end\n",
@@ -45,11 +47,11 @@ static REFUSALS: [(Refusal, usize, &str); 4] = [
 ];
 
 /// The note on a refusal at a place of PROGRAM.
-fn note_at(alloc: Global, place: usize, refusal: Refusal) -> Noted {
+fn note_at(alloc: Global, place: usize, refusal: RefusalKind) -> Noted {
     noted(alloc, refusal_note(alloc, PROGRAM, place, refusal)?)
 }
 
-fn all_are_refused(rt: &impl Abort, alloc: Global, rows: &[(Refusal, usize, &str)]) {
+fn all_are_refused(rt: &impl Abort, alloc: Global, rows: &[(RefusalKind, usize, &str)]) {
     for (refusal, place, want) in rows {
         begins(rt, note_at(alloc, *place, *refusal), want);
     }
@@ -59,7 +61,7 @@ fn all_are_refused(rt: &impl Abort, alloc: Global, rows: &[(Refusal, usize, &str
 #[test]
 fn refusals(rt: HostRuntime) {
     all_are_refused(&rt, rt.alloc(), &REFUSALS);
-    notes(&rt, note_at(rt.alloc(), 3, Refusal::GaveUp), None);
+    notes(&rt, note_at(rt.alloc(), 3, RefusalKind::GaveUp), None);
 }
 
 /// A program, and the beginning of the note where it is to be verified.
@@ -84,7 +86,11 @@ static INPUTS: [(&str, &str); 4] = [
 
 /// The note on an input.
 fn input_note(alloc: Global, text: &str) -> Noted {
-    noted(alloc, note_on(alloc, text)?)
+    let input = input_of(alloc, text)?;
+    let case = judge(alloc, &input)?;
+    let note = note_on(alloc, &case);
+    drop(case);
+    noted(alloc, note?)
 }
 
 /// The note on a program that is to be verified.

@@ -2,9 +2,9 @@
 
 use crate::boards::TWO;
 use crate::expected::{Noted, begins, noted, notes, same, text_of};
-use crate::session_rows::received;
+use crate::session_rows::input_of;
 use diagnostics::{Warnings, warnings_on};
-use session::Received;
+use session::judge;
 use std::alloc::{AllocError, Global};
 use std::process::Abort;
 use std::test::*;
@@ -52,11 +52,11 @@ static SPARED: [(&str, &str); 3] = [
 
 /// What is warned of a bundle.
 fn warnings_of(alloc: Global, text: &str) -> Result<Warnings, AllocError> {
-    let Received { seen, .. } = received(alloc, text)?;
-    match seen {
-        Some(seen) => warnings_on(alloc, text, &seen),
-        None => Ok(Warnings::none(alloc)),
-    }
+    let input = input_of(alloc, text)?;
+    let case = judge(alloc, &input)?;
+    let warnings = warnings_on(alloc, &case);
+    drop(case);
+    warnings
 }
 
 /// The warning of a run.

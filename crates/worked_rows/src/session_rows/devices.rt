@@ -3,7 +3,7 @@
 use super::{ASKED, ASKING};
 use crate::devices::SlowWriter;
 use crate::expected::same;
-use session::{DeviceFault, ReadFault, Status, receive, serve, session};
+use session::{DeviceFault, ReadFault, Status, read_input, serve, session};
 use std::alloc::Global;
 use std::io;
 use std::io::Read;
@@ -93,7 +93,7 @@ fn replies<R: Read>(rt: &impl Abort, alloc: Global, reader: &mut R, want: (Statu
 
 /// Tries that a reader is told to fail.
 fn fails<R: Read>(rt: &impl Abort, alloc: Global, reader: &mut R) {
-    match receive(alloc, reader) {
+    match read_input(alloc, reader) {
         Ok(_) => panic!(rt; "all was read"),
         Err(fault) => same(rt, fault, ReadFault::Reader),
     }

@@ -1,43 +1,48 @@
 //! What is found of an input beside the reply to it: what was read, where its sections and places
 //! stand, and the first breach of its run.
 
-ghost use Rattle.std.specs.Prelude.{length, All};
-ghost use Rattle.seq_program.specs.Valid.{IsOnBoard};
-ghost use Rattle.session.specs.Scenarios.{IsOnItsBoard};
-
-use crate::boards::{TWO, two_board};
-use crate::bundles_rows::answers_of;
+use crate::boards::TWO;
 use crate::expected::{holds, same};
-use crate::session_rows::received;
-use board::Board;
-use bundles::Answers;
+use crate::session_rows::input_of;
+use bundles::Section;
 use facts::Rule;
 use run_monitor::Breach;
-use seq_program::{Program, read_program};
-use session::{
-    Received, Scenario, Seen, part_at, place_line, place_lines, run_through, section_of,
-};
+use seq_program::ProgramFault;
+use session::{InputFault, Outcome, Ran, judge, place_line, place_lines, section_of};
 use std::alloc::{AllocError, Global};
 use std::process::Abort;
 use std::test::*;
 
 const BUNDLE: &str = "%check\n%board\n# none\n%program\nend\n\nfail\n%table\n";
 
-/// The text of a section, and how many lines stand above it.
-fn part_of(alloc: Global, index: usize) -> Result<Option<(String, usize)>, AllocError> {
-    match part_at(alloc, BUNDLE, index)? {
-        Some(part) => Ok(Some((part.text, part.above))),
-        None => Ok(None),
+/// The text of a section, and the number of its first line.
+fn part_in(
+    alloc: Global,
+    sections: &[Section<'_>],
+    index: usize,
+) -> Result<Option<(String, usize)>, AllocError> {
+    let text = section_of(alloc, sections, index)?;
+    match (text, sections.get(index)) {
+        (Some(text), Some(section)) => Ok(Some((text, section.first_line))),
+        _ => Ok(None),
     }
+}
+
+/// The same of a section of the bundle.
+fn part_of(alloc: Global, index: usize) -> Result<Option<(String, usize)>, AllocError> {
+    let input = input_of(alloc, BUNDLE)?;
+    let case = judge(alloc, &input)?;
+    let part = part_in(alloc, &case.sections, index);
+    // by a call, since the proof has a path for each part that may be there to drop
+    drop(case);
+    part
 }
 
 #[test]
 fn sections(rt: HostRuntime) {
-    let program = String::from_str(rt.alloc(), "end\n\nfail\n").map(|text| Some((text, 4)));
+    let program = String::from_str(rt.alloc(), "end\n\nfail\n").map(|text| Some((text, 5)));
     same(&rt, part_of(rt.alloc(), 1), program);
     same(&rt, part_of(rt.alloc(), 3), Ok(None));
-    let board = String::from_str(rt.alloc(), "# none\n").map(|text| Some(text));
-    same(&rt, section_of(rt.alloc(), BUNDLE, 0), board);
 }
 
 /// A place is an instruction: no label is one, and no line without words.
@@ -50,51 +55,24 @@ fn places(rt: HostRuntime) {
     same(&rt, place_line(rt.alloc(), PLACES, 2), Ok(None));
 }
 
-fn of_scenario(alloc: Global, scenario: &Scenario<'_>) -> bool
-    requires { IsOnItsBoard scenario.now }
-{
-    run_through(alloc, scenario).is_ok()
+/// The fault of an input of which nothing is done.
+fn unread(alloc: Global, text: &str) -> Result<Option<InputFault>, AllocError> {
+    let input = input_of(alloc, text)?;
+    let case = judge(alloc, &input)?;
+    let fault = match &case.outcome {
+        Outcome::Unread(unread) => Some(unread.fault()),
+        _ => None,
+    };
+    drop(case);
+    Ok(fault)
 }
 
-fn of_answers(alloc: Global, board: Board, program: Program, answers: Answers<'_>) -> bool
-    requires { All (λ i. IsOnBoard (length board.targets) i) program }
-{
-    of_scenario(
-        alloc,
-        &Scenario {
-            board,
-            program,
-            answers,
-        },
-    )
-}
-
-fn of_program(
-    alloc: Global,
-    board: Board,
-    program: Program,
-    answers: &str,
-) -> Result<bool, AllocError>
-    requires { All (λ i. IsOnBoard (length board.targets) i) program }
-{
-    match answers_of(alloc, answers) {
-        Ok(answers) => Ok(of_answers(alloc, board, program, answers)),
-        Err(_) => Err(AllocError),
-    }
-}
-
-/// Whether the run of a program on a board comes to the last answer; the answers are the last
-/// section of a bundle.
-fn is_whole_in(
-    alloc: Global,
-    board: Board,
-    program: &str,
-    answers: &str,
-) -> Result<bool, AllocError> {
-    match read_program(alloc, &board, program) {
-        Ok(program) => of_program(alloc, board, program, answers),
-        Err(_) => Err(AllocError),
-    }
+#[test]
+fn faults(rt: HostRuntime) {
+    let text = format!(in rt.alloc(); "%verify\n%board\n{TWO}%program\nfail\nstop\n");
+    let found = text.and_then(|text| unread(rt.alloc(), &text));
+    let fault = InputFault::Program(ProgramFault::UnknownWord(2));
+    same(&rt, found, Ok(Some(fault)));
 }
 
 /// The second rail needs the first, which wasn't turned on.
@@ -102,10 +80,10 @@ const EARLY: &str = "wait 1\nwrite b OPERATION 0x80 else bad\nend\nbad:\nfail\n"
 
 /// The answers to it, whether its run comes to the last of them, and what it breaks first: a read's
 /// value doesn't fit a write.
-static FOUND: [(&str, bool, Option<Breach>); 3] = [
-    ("-\n-\n", true, Some(K5)),
-    ("-\nvalue=7\n", false, Some(K5)),
-    ("-\n", true, None),
+static FOUND: [(&str, (bool, Option<Breach>)); 3] = [
+    ("-\n-\n", (true, Some(K5))),
+    ("-\nvalue=7\n", (false, Some(K5))),
+    ("-\n", (true, None)),
 ];
 
 const K5: Breach = Breach {
@@ -114,37 +92,32 @@ const K5: Breach = Breach {
     rule: Rule::K5,
 };
 
-fn early_is_whole(alloc: Global, answers: &str) -> Result<bool, AllocError> {
-    let start = "%run\n%board\n%program\n%answers\nstart 00,00 00,00\n";
-    let text = format!(in alloc; "{start}{answers}")?;
-    match two_board(alloc) {
-        Ok(board) => is_whole_in(alloc, board, EARLY, &text),
-        Err(_) => Err(AllocError),
-    }
-}
-
-/// What the run breaks first, as it is seen while its trace is printed.
-fn early_breach(alloc: Global, answers: &str) -> Result<Option<Breach>, AllocError> {
-    let run = format!(in alloc; "%program\n{EARLY}%answers\nstart 00,00 00,00\n{answers}")?;
-    let text = format!(in alloc; "%run\n%board\n{TWO}{run}")?;
-    let Received { seen, .. } = received(alloc, &text)?;
-    match seen {
-        Some(seen) => Ok(breach_of(&seen)),
-        None => Err(AllocError),
-    }
-}
-
-fn breach_of(seen: &Seen) -> Option<Breach> {
-    match &seen.found {
+/// Whether a run comes to its last answer, and what it breaks first.
+fn run_of(ran: &Ran<'_>) -> (bool, Option<Breach>) {
+    let breach = match &ran.found {
         Some(found) => Some(found.breach),
         None => None,
-    }
+    };
+    (ran.told.is_ok(), breach)
 }
 
-fn all_are_found(rt: &impl Abort, alloc: Global, rows: &[(&str, bool, Option<Breach>)]) {
-    for (answers, is_whole, breach) in rows {
-        same(rt, early_is_whole(alloc, answers), Ok(*is_whole));
-        same(rt, early_breach(alloc, answers), Ok(*breach));
+/// The same of the run of a bundle.
+fn early_run(alloc: Global, answers: &str) -> Result<(bool, Option<Breach>), AllocError> {
+    let run = format!(in alloc; "%program\n{EARLY}%answers\nstart 00,00 00,00\n{answers}")?;
+    let text = format!(in alloc; "%run\n%board\n{TWO}{run}")?;
+    let input = input_of(alloc, &text)?;
+    let case = judge(alloc, &input)?;
+    let run = match &case.outcome {
+        Outcome::Ran(ran) => Ok(run_of(ran)),
+        _ => Err(AllocError),
+    };
+    drop(case);
+    run
+}
+
+fn all_are_found(rt: &impl Abort, alloc: Global, rows: &[(&str, (bool, Option<Breach>))]) {
+    for (answers, want) in rows {
+        same(rt, early_run(alloc, answers), Ok(*want));
     }
 }
 
