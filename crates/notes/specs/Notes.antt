@@ -66,13 +66,17 @@ printed_in name n =
     saying_in name n ++ flat_map noted (map string_bytes n.facts.items)
     ++ helped (option_map string_bytes n.help) ++ paged (option_copied n.page)
 
--- a note of a level on the line of a section with this number, which it shows
-pub record IsOn (level : Level) (section : List ℕ) (number : ℕ) (lines : List (List ℕ)) (n : Note)
-    : Type 0 where
+-- a note of a level on a line of a section, which has this number, and which it shows
+pub record IsQuoting (level : Level) (section : List ℕ) (number : ℕ) (line : Option (List ℕ))
+    (n : Note) : Type 0 where
   pub of_level : n.level ≡ level
   pub in_section : string_bytes n.section ≡ section
   pub on_line : n.line ≡ number
-  pub shows : IsShown (line_at number lines) (option_map string_bytes n.source)
+  pub shows : IsShown line (option_map string_bytes n.source)
+
+-- the same on the line that has this number among all lines of the section
+abbrev pub IsOn : Level → List ℕ → ℕ → List (List ℕ) → Note → Type 0
+IsOn level section number lines n = IsQuoting level section number (line_at number lines) n
 
 -- the mark below a word, where its line is shown as it is
 abbrev pub mark_if_plain : List ℕ → List ℕ → Option (List ℕ)
@@ -82,8 +86,8 @@ mark_if_plain before word =
 -- the second note is on each line that the first is on
 abbrev pub StaysOn : Note → Note → Type 0
 StaysOn old new =
-    (level : Level) (section : List ℕ) (number : ℕ) (lines : List (List ℕ))
-    → IsOn level section number lines old → IsOn level section number lines new
+    (level : Level) (section : List ℕ) (number : ℕ) (line : Option (List ℕ))
+    → IsQuoting level section number line old → IsQuoting level section number line new
 
 -- the same note with the column of a word and a mark below it
 pub record IsMarked (before word : List ℕ) (old new : Note) : Type 0 where

@@ -13,7 +13,7 @@ mod shown;
 mod spelling;
 
 pub use level::Level;
-pub use lines::line_at;
+pub use lines::{LineFinder, line_at};
 pub use note::Note;
 pub use print::InFile;
 pub use proposing::{lowercase_suggestion, suggestion};

@@ -1,8 +1,8 @@
 //! A note: where in an input something is wrong or suspicious, what, and what may help.
 
-ghost use Rattle.std.specs.Prelude.{IfOk};
+ghost use Rattle.std.specs.Prelude.{IfOk, option_copied};
 ghost use Rattle.texts.specs.Words.{lines_by_feed};
-ghost use Rattle.notes.specs.Notes.{IsMarked, IsOn, StaysOn};
+ghost use Rattle.notes.specs.Notes.{IsMarked, IsOn, IsQuoting, StaysOn};
 
 use crate::level::Level;
 use crate::lines::line_at;
@@ -35,6 +35,31 @@ pub struct Note {
 }
 
 impl Note {
+    /// A note on a line of a section, which has this number, and so far without a word. Fails only
+    /// for want of memory.
+    pub fn quoting(
+        alloc: Global,
+        level: Level,
+        section: &str,
+        number: usize,
+        line: Option<&str>,
+    ) -> Result<Note, AllocError>
+        ensures { IfOk result (IsQuoting level section.now number (option_copied line.entry)) }
+    {
+        Ok(Note {
+            level,
+            section: String::from_str(alloc, section)?,
+            line: number,
+            column: None,
+            source: shown_line(alloc, line)?,
+            mark: None,
+            message: String::new(alloc),
+            facts: Vec::new(alloc),
+            help: None,
+            page: None,
+        })
+    }
+
     /// A note on the line of a section with this text that has this number, and so far without a
     /// word. Fails only for want of memory.
     pub fn on(
@@ -46,18 +71,7 @@ impl Note {
     ) -> Result<Note, AllocError>
         ensures { IfOk result (IsOn level section.now number (lines_by_feed text.now)) }
     {
-        Ok(Note {
-            level,
-            section: String::from_str(alloc, section)?,
-            line: number,
-            column: None,
-            source: shown_line(alloc, line_at(text, number))?,
-            mark: None,
-            message: String::new(alloc),
-            facts: Vec::new(alloc),
-            help: None,
-            page: None,
-        })
+        Note::quoting(alloc, level, section, number, line_at(text, number))
     }
 
     /// The same with the column of a word, which stands in its line behind this, and with a mark

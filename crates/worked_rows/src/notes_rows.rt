@@ -1,7 +1,9 @@
 //! Notes by their calls. What they say is tried with the cases of `examples/cases`.
 
 use crate::expected::{same, says, text_of};
-use notes::{Level, Note, beginning_of, line_at, lowercase_suggestion, nearest, suggestion};
+use notes::{
+    Level, LineFinder, Note, beginning_of, line_at, lowercase_suggestion, nearest, suggestion,
+};
 use std::alloc::{AllocError, Global};
 use std::test::*;
 
@@ -46,4 +48,30 @@ fn names_are_proposed(rt: HostRuntime) {
     same(&rt, proposals(rt.alloc()), Ok((Some("acb"), true)));
     same(&rt, line_at(PROGRAM, 3), Some("end"));
     same(&rt, beginning_of("short"), None);
+}
+
+#[test]
+fn lines_are_found_in_any_order(rt: HostRuntime) {
+    let mut lines = LineFinder::of(PROGRAM);
+    same(&rt, lines.line_at(1), Some("try:"));
+    same(&rt, lines.line_at(3), Some("end"));
+    same(&rt, lines.line_at(4), None);
+    same(&rt, lines.line_at(1), Some("try:"));
+    same(&rt, lines.line_at(0), None);
+}
+
+/// A note that quotes a line which is known.
+fn quoting_text(alloc: Global) -> Result<String, AllocError> {
+    let mut note = Note::quoting(alloc, Level::Warning, "up.txt", 3, Some("end"))?;
+    note.message.push_str("no rail is on")?;
+    text_of(alloc, &note)
+}
+
+#[test]
+fn known_lines_are_quoted(rt: HostRuntime) {
+    says(
+        &rt,
+        quoting_text(rt.alloc()),
+        "up.txt:3: warning: no rail is on\n    end\n",
+    );
 }
