@@ -3,3 +3,4 @@ pub mod FoundAnswers
 pub mod CountedLines
 pub mod Results
 pub mod FaultNotes
+pub mod NumberedLines

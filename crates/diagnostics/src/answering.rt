@@ -1,9 +1,12 @@
 //! Answers an input, and says what a person has to mend in it or may have meant otherwise.
 
-ghost use Rattle.std.specs.Prelude.{◌≡◌, ◌≢◌, IfOk, IfErr, IfSome};
+ghost use Rattle.std.specs.Prelude.{◌≡◌, ◌≢◌, ℕ, List, IfOk, IfErr, IfSome};
+ghost use Rattle.session.specs.Cases.{IsCaseIn};
+ghost use Rattle.session.specs.Outcomes.{IsTrue, status_of};
+ghost use Rattle.session.specs.Replies.{reply_view};
 ghost use Rattle.diagnostics.specs.Told.{AreNotesOf, IsTold};
 ghost use Rattle.session.specs.Promises.{GivesUpOnLoopsAlone, IsKeptPromise};
-ghost use Rattle.session.specs.Sessions.{IsAnswered, IsCutShort};
+ghost use Rattle.session.specs.Sessions.{IsAnswered, IsCutShort, IsReplyTo};
 ghost use Rattle.session.specs.declared.answering.DeviceFault.TheVariants.{Writer};
 
 use crate::bound::{Beside, bound_on};
@@ -11,7 +14,7 @@ use crate::input::note_on;
 use crate::other_errors::{OtherErrors, other_errors_on};
 use crate::warning::{Warnings, warnings_on};
 use notes::Note;
-use session::{Case, DeviceFault, Status, deliver, judge, read_input, reply_of};
+use session::{Case, DeviceFault, Reply, Status, deliver, judge, read_input, reply_of};
 use std::alloc::{AllocError, Global};
 use std::io::{Read, Write};
 
@@ -41,6 +44,50 @@ fn notes_on(alloc: Global, case: &Case<'_>, beside: Beside) -> Result<Notes, All
         warnings,
         bound,
     })
+}
+
+/// What a person is told of an input, and the reply to it.
+#[derive(Drop)]
+struct Told {
+    notes: Notes,
+    reply: Reply,
+}
+
+/// The reply to a case, beside these notes.
+fn with_reply(alloc: Global, case: Case<'_>, notes: Notes) -> Result<Told, AllocError>
+    requires { IsTrue case.outcome }
+    ensures notes { IfOk result (λ told. told.notes ≡ notes) }
+    ensures whole { IfOk result (λ told. told.reply.status ≢ Status.DeviceFault) }
+    ensures status { IfOk result (λ told. told.reply.status ≡ status_of case.entry.outcome) }
+    ensures replies { IfOk result (λ told. (input : List ℕ) → IsCaseIn input case.entry
+        → IsReplyTo input (reply_view told.reply)) }
+{
+    match reply_of(alloc, case) {
+        Ok(reply) => Ok(Told { notes, reply }),
+        Err(error) => {
+            // by a call, since the proof has a path for each part that may be there to drop
+            drop(notes);
+            Err(error)
+        }
+    }
+}
+
+/// What a person is told of a case, and the reply to it.
+fn told_of(alloc: Global, case: Case<'_>, beside: Beside) -> Result<Told, AllocError>
+    requires { IsTrue case.outcome }
+    ensures notes { IfOk result (λ told. AreNotesOf beside case.entry told.notes) }
+    ensures whole { IfOk result (λ told. told.reply.status ≢ Status.DeviceFault) }
+    ensures status { IfOk result (λ told. told.reply.status ≡ status_of case.entry.outcome) }
+    ensures replies { IfOk result (λ told. (input : List ℕ) → IsCaseIn input case.entry
+        → IsReplyTo input (reply_view told.reply)) }
+{
+    match notes_on(alloc, &case, beside) {
+        Ok(notes) => with_reply(alloc, case, notes),
+        Err(error) => {
+            drop(case);
+            Err(error)
+        }
+    }
 }
 
 /// How an input was answered, and what a person is told of it.
@@ -84,8 +131,12 @@ pub fn answer<R: Read, W: Write>(
 {
     let input = read_input(alloc, reader)?;
     let case = judge(alloc, &input)?;
-    let notes = notes_on(alloc, &case, beside)?;
-    let reply = reply_of(alloc, case)?;
-    let status = deliver(writer, &reply)?;
-    Ok(Answered { status, notes })
+    let Told { notes, reply } = told_of(alloc, case, beside)?;
+    match deliver(writer, &reply) {
+        Ok(status) => Ok(Answered { status, notes }),
+        Err(fault) => {
+            drop(notes);
+            Err(fault)
+        }
+    }
 }

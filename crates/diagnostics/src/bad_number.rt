@@ -32,10 +32,11 @@ fn range_of(operand: Operand, command: Option<&str>) -> Option<(u32, u32)> {
     }
 }
 
-/// A word in the place of a number, and the range of that place.
+/// A word in the place of a number, the number of that place, and its range.
 #[derive(Clone, Copy)]
 struct Misplaced<'a> {
     word: &'a str,
+    at: usize,
     low: u32,
     high: u32,
 }
@@ -43,10 +44,15 @@ struct Misplaced<'a> {
 /// The first word that is no number of its range.
 fn first_misplaced<'a>(operands: &[Operand], words: &[&'a str]) -> Option<Misplaced<'a>> {
     let command = words.get(1).copied();
-    for (operand, word) in operands.iter().zip(words) {
+    for (at, (operand, word)) in operands.iter().zip(words).enumerate() {
         match range_of(*operand, command) {
             Some((low, high)) if number_within(low, high, word).is_none() => {
-                return Some(Misplaced { word, low, high });
+                return Some(Misplaced {
+                    word,
+                    at,
+                    low,
+                    high,
+                });
             }
             _ => {}
         }
@@ -58,6 +64,11 @@ fn first_misplaced<'a>(operands: &[Operand], words: &[&'a str]) -> Option<Mispla
 fn misplaced_in<'a>(words: &[&'a str]) -> Option<Misplaced<'a>> {
     let (instruction, words) = words.split_first()?;
     first_misplaced(operands_of(instruction)?, words)
+}
+
+/// The number of that word in its line.
+pub(crate) fn misplaced_at(words: &[&str]) -> Option<usize> {
+    misplaced_in(words)?.at.checked_add(1)
 }
 
 /// How a command of the instruction `write` is written, where that is the word's.

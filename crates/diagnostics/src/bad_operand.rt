@@ -28,18 +28,48 @@ fn fits(alloc: Global, operand: Operand, word: &str) -> Result<bool, AllocError>
     })
 }
 
+/// A word that hasn't the shape of its operand, with the number of its place.
+#[derive(Clone, Copy)]
+struct Misfit<'a> {
+    at: usize,
+    operand: Operand,
+    word: &'a str,
+}
+
 /// The first word that hasn't the shape of its operand.
 fn first_misfit<'a>(
     alloc: Global,
     operands: &[Operand],
     words: &[&'a str],
-) -> Result<Option<(Operand, &'a str)>, AllocError> {
-    for (operand, word) in operands.iter().zip(words) {
+) -> Result<Option<Misfit<'a>>, AllocError> {
+    for (at, (operand, word)) in operands.iter().zip(words).enumerate() {
         if !fits(alloc, *operand, word)? {
-            return Ok(Some((*operand, *word)));
+            let operand = *operand;
+            return Ok(Some(Misfit { at, operand, word }));
         }
     }
     Ok(None)
+}
+
+/// The number of the word in its line that is one too many, or that hasn't the shape of its
+/// operand.
+pub(crate) fn misfit_at(alloc: Global, words: &[&str]) -> Result<Option<usize>, AllocError> {
+    let [word, words @ ..] = words else {
+        return Ok(None);
+    };
+    let Some(operands) = operands_of(word) else {
+        return Ok(None);
+    };
+    if words.len() < operands.len() {
+        return Ok(None);
+    }
+    if words.len() > operands.len() {
+        return Ok(operands.len().checked_add(1));
+    }
+    match first_misfit(alloc, operands, words)? {
+        Some(misfit) => Ok(misfit.at.checked_add(1)),
+        None => Ok(None),
+    }
 }
 
 /// What was found in the place of an operand.
@@ -91,7 +121,7 @@ fn operand_message<'a>(
         return Ok(Sentence::one("too many words behind \"{}\"", Word::Text(word)));
     }
     match first_misfit(alloc, operands, words)? {
-        Some((operand, misfit)) => Ok(misplaced(operand, misfit)),
+        Some(misfit) => Ok(misplaced(misfit.operand, misfit.word)),
         None => Ok(whole_line(word, words)),
     }
 }

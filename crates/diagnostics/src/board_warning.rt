@@ -1,13 +1,15 @@
 //! Warnings of boards.
 
 ghost use Rattle.std.specs.Prelude.{◌≡◌, All, IfOk, length, string_bytes};
-ghost use Rattle.diagnostics.specs.Boards.{board_lines, IsBoardWarning};
+ghost use Rattle.diagnostics.specs.Boards.{board_lines, IsBoardWarning, IsNumbered};
 ghost use Rattle.diagnostics.specs.Warnings.{WarnsOfBoard};
 ghost use Rattle.session.specs.Parts.{sections_view};
 ghost use Rattle.texts.specs.Words.{lines_by_feed};
 
-use crate::boards::{lines_of, number_of, number_within, remark_of, site_of};
-use crate::note::warning_note;
+use crate::boards::{
+    NamedLine, SayingLine, line_or_first, place_of, remark_of, saying_lines, site_of,
+};
+use crate::note::board_warning;
 use board::Board;
 use board_lints::{Lint, lints_on};
 use bundles::Section;
@@ -20,16 +22,18 @@ use std::alloc::{AllocError, Global};
 fn warning_on(
     alloc: Global,
     text: &str,
-    lines: &[&str],
+    lines: &[SayingLine<'_>],
     board: &Board,
     lint: &Lint,
 ) -> Result<Note, AllocError>
+    requires { All (IsNumbered (lines_by_feed text.now)) lines.now }
     ensures { IfOk result (IsBoardWarning (lines_by_feed text.now)) }
 {
     let (site, key) = site_of(lint);
-    let number = number_within(text, number_of(lines, site, Some(key)));
+    let place = place_of(lines, site, Some(key));
+    let NamedLine { number, line } = line_or_first(text, lines, place);
     let remark = remark_of(alloc, board, lint)?;
-    warning_note(alloc, "%board", text, number, remark)
+    board_warning(alloc, number, line, remark)
 }
 
 /// The warnings of lints of a board file, each on a line of it.
@@ -43,7 +47,7 @@ fn notes_of(
         (λ notes. All (IsBoardWarning (lines_by_feed text.now)) notes.items) }
     ensures each { IfOk result (λ notes. length notes.items ≡ length lints.now) }
 {
-    let lines = lines_of(alloc, text)?;
+    let lines = saying_lines(alloc, text)?;
     let mut notes = Vec::new(alloc);
     for lint in lints {
         notes.push(warning_on(alloc, text, &lines, board, lint)?)?;

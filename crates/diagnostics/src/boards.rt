@@ -12,6 +12,7 @@ mod finding;
 mod foreign;
 mod key_words;
 mod keys;
+mod lines;
 mod lint;
 mod not_toml;
 mod scan;
@@ -22,12 +23,12 @@ mod words;
 use crate::note::{error_note, marked};
 use board::{BoardFault, FaultKind};
 use draft::Draft;
-pub(crate) use draft::lines_of;
 use finding::{Finding, finding_in};
+pub(crate) use lines::{NamedLine, SayingLine, line_or_first, saying_lines};
 pub(crate) use lint::{remark_of, site_of};
 use not_toml::not_toml;
 use notes::{Note, line_at};
-pub(crate) use scan::number_of;
+pub(crate) use scan::place_of;
 use std::alloc::{AllocError, Global};
 use toml::Table;
 use toml::de::Error;
@@ -68,7 +69,7 @@ fn finding_on<'a>(
 }
 
 /// The number of a line, or 1 where the text hasn't that many.
-pub(crate) fn number_within(text: &str, number: usize) -> usize
+fn number_within(text: &str, number: usize) -> usize
     ensures { IsLineNumber (lines_by_feed text.now) result }
 {
     match line_at(text, number) {

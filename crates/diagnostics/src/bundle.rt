@@ -6,10 +6,11 @@ ghost use Rattle.diagnostics.specs.BundlePlaces.{IsOnFault, IsOnBundleLine, IsOn
 ghost use Rattle.diagnostics.specs.BundlePlaces.{IsOnPart};
 ghost use Rattle.session.specs.Parts.{sections_view};
 
+use crate::field::Flaw;
 use crate::header::{missing_section, unexpected_line, unknown_command};
-use crate::note::error_note;
+use crate::note::{error_note, marked};
 use crate::remark::{Remark, help_of};
-use crate::spot::{Spot, spot_remark};
+use crate::spot::{Spot, flawed_word, spot_flaw};
 use bundles::{BundleFault, Header, Section};
 use notes::{Note, line_at};
 use session::section_text;
@@ -27,6 +28,24 @@ fn bundle_line_note(
     error_note(alloc, "bundle", text, line, remark)
 }
 
+/// A line from its beginning on, as a word, if it begins with `%`.
+fn whole_word(line: Option<&str>) -> Option<(&str, &str)> {
+    let word = line?.trim_end();
+    if word.starts_with('%') {
+        Some(("", word))
+    } else {
+        None
+    }
+}
+
+/// The same with a mark below the line, if it is a command or a header.
+fn header_note(alloc: Global, text: &str, line: usize, remark: Remark) -> Result<Note, AllocError>
+    ensures { IfOk result (IsOnBundleLine text.now line) }
+{
+    let note = bundle_line_note(alloc, text, line, remark)?;
+    marked(alloc, note, whole_word(line_at(text, line)))
+}
+
 /// The note on the line of a section that has this number in the bundle.
 fn part_note(
     alloc: Global,
@@ -42,8 +61,9 @@ fn part_note(
         text: &text,
         number,
     };
-    let remark = spot_remark(alloc, header, spot)?;
-    error_note(alloc, header.text(), &text, number, remark)
+    let Flaw { remark, at } = spot_flaw(alloc, header, spot)?;
+    let note = error_note(alloc, header.text(), &text, number, remark)?;
+    marked(alloc, note, flawed_word(spot, at))
 }
 
 /// The note on the line of the section of an index that has this number in the bundle.
@@ -120,10 +140,13 @@ pub fn bundle_note(
         }
         BundleFault::Unexpected(line) => {
             let remark = unexpected_line(alloc, text, line)?;
-            return bundle_line_note(alloc, text, line, remark);
+            return header_note(alloc, text, line, remark);
+        }
+        BundleFault::UnknownCommand => {
+            let remark = unknown_command(alloc, line_at(text, 1).unwrap_or(""))?;
+            return header_note(alloc, text, 1, remark);
         }
         BundleFault::NoCommand => no_command(alloc)?,
-        BundleFault::UnknownCommand => unknown_command(alloc, line_at(text, 1).unwrap_or(""))?,
         BundleFault::MissingSection(header) => missing_section(alloc, text, header)?,
         BundleFault::NotText | BundleFault::TooLarge => no_text(alloc, text, fault)?,
     };

@@ -202,26 +202,62 @@ fn bad_value(alloc: Global, field: Field, value: &str) -> Result<Remark, AllocEr
     message.helped_by(alloc, help)
 }
 
-/// What is said of the first word that is no field, or one that can't stand in its place.
+/// What is wrong with a line, and the number of the word that is to blame among its words.
+#[derive(Drop)]
+pub(crate) struct Flaw {
+    pub remark: Remark,
+    pub at: Option<usize>,
+}
+
+impl Flaw {
+    /// A flaw of a word.
+    pub(crate) fn of_word(at: usize, remark: Remark) -> Flaw {
+        Flaw {
+            remark,
+            at: Some(at),
+        }
+    }
+
+    /// A flaw of a whole line.
+    pub(crate) fn of_line(remark: Remark) -> Flaw {
+        Flaw { remark, at: None }
+    }
+}
+
+/// What is wrong with a field, which stands below these.
+fn field_flaw(
+    alloc: Global,
+    fields: &[Field],
+    found: Option<usize>,
+    next: usize,
+    word: &str,
+) -> Result<Option<Remark>, AllocError> {
+    let Some((place, field)) = found.and_then(|place| Some((place, *fields.get(place)?))) else {
+        return Ok(Some(unknown_field(alloc, fields, word)?));
+    };
+    if place < next {
+        return Ok(Some(late_field(alloc, fields, field)?));
+    }
+    let value = word.strip_prefix(field.key).unwrap_or("");
+    if takes(alloc, field.key, value)? {
+        return Ok(None);
+    }
+    Ok(Some(bad_value(alloc, field, value)?))
+}
+
+/// The first word that is no field, or one that can't stand in its place.
 pub(crate) fn first_flaw(
     alloc: Global,
     fields: &[Field],
     words: &[&str],
-) -> Result<Option<Remark>, AllocError> {
+) -> Result<Option<Flaw>, AllocError> {
     let mut next = 0;
-    for word in words {
+    for (at, word) in words.iter().enumerate() {
         let found = fields.iter().position(|field| word.starts_with(field.key));
-        let Some((place, field)) = found.and_then(|place| Some((place, *fields.get(place)?))) else {
-            return Ok(Some(unknown_field(alloc, fields, word)?));
-        };
-        if place < next {
-            return Ok(Some(late_field(alloc, fields, field)?));
+        if let Some(remark) = field_flaw(alloc, fields, found, next, word)? {
+            return Ok(Some(Flaw::of_word(at, remark)));
         }
-        let value = word.strip_prefix(field.key).unwrap_or("");
-        if !takes(alloc, field.key, value)? {
-            return Ok(Some(bad_value(alloc, field, value)?));
-        }
-        next = place + 1;
+        next = found.unwrap_or(0).saturating_add(1);
     }
     Ok(None)
 }

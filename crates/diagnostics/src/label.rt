@@ -2,71 +2,96 @@
 
 use crate::remark::Remark;
 use crate::sentence::{Advice, Sentence, Word};
+use indexmap::IndexMap;
 use notes::lowercase_suggestion;
-use seq_program::{label_in, without_comment};
+use seq_program::{ProgramFault, label_in, without_comment};
 use std::alloc::{AllocError, Global};
 use texts::{first_by_feed, words_of};
 
 /// How many labels are compared with one that stands nowhere, at most.
 const MOST_COMPARED: usize = 1024;
 
+/// The labels of a text, each with the number of the first line that has it.
+pub(crate) type LabelLines<'a> = IndexMap<&'a str, usize>;
+
+/// Whether a fault is one of a label.
+fn is_of_label(fault: ProgramFault) -> bool {
+    matches!(
+        fault,
+        ProgramFault::UnknownLabel(_) | ProgramFault::SameLabel(_)
+    )
+}
+
 /// The label that a line is.
-pub(crate) fn label_on<'a>(alloc: Global, line: &'a str) -> Result<Option<&'a str>, AllocError> {
+fn label_on<'a>(alloc: Global, line: &'a str) -> Result<Option<&'a str>, AllocError> {
     let words = words_of(alloc, without_comment(line))?;
     Ok(label_in(&words))
 }
 
-/// The first labels of a text.
-fn first_labels<'a>(alloc: Global, text: &'a str) -> Result<Vec<&'a str>, AllocError> {
-    let mut labels = Vec::new(alloc);
+/// The labels of a text.
+fn labels_of<'a>(alloc: Global, text: &'a str) -> Result<LabelLines<'a>, AllocError> {
+    let mut labels = IndexMap::new(alloc);
+    let mut number = 1;
     let mut rest = text;
     while let Some((line, below)) = first_by_feed(rest) {
-        if labels.len() >= MOST_COMPARED {
-            return Ok(labels);
-        }
         if let Some(label) = label_on(alloc, line)? {
-            labels.push(label)?;
+            if !labels.contains_key(label) {
+                labels.insert(label, number)?;
+            }
         }
+        number += 1;
         rest = below;
     }
     Ok(labels)
 }
 
+/// The labels of a text, where one of its faults is of a label, and else none.
+pub(crate) fn labels_for<'a>(
+    alloc: Global,
+    text: &'a str,
+    faults: &[ProgramFault],
+) -> Result<LabelLines<'a>, AllocError> {
+    if faults.iter().any(|fault| is_of_label(*fault)) {
+        labels_of(alloc, text)
+    } else {
+        Ok(IndexMap::new(alloc))
+    }
+}
+
+/// The first labels, as many as are compared.
+fn first_names<'a>(alloc: Global, labels: &LabelLines<'a>) -> Result<Vec<&'a str>, AllocError> {
+    let mut names = Vec::new(alloc);
+    for name in labels.keys().take(MOST_COMPARED) {
+        names.push(*name)?;
+    }
+    Ok(names)
+}
+
 /// What is said of a line that jumps to no label.
 pub(crate) fn unknown_label(
     alloc: Global,
-    text: &str,
+    labels: &LabelLines<'_>,
     words: &[&str],
 ) -> Result<Remark, AllocError> {
     let Some(word) = words.last() else {
         return Remark::plain(alloc, "unknown label");
     };
-    let labels = first_labels(alloc, text)?;
-    let help = lowercase_suggestion(alloc, word, &labels)?;
+    let names = first_names(alloc, labels)?;
+    let help = lowercase_suggestion(alloc, word, &names)?;
     Sentence::one("no line has the label {}", Word::Name(word)).helped_by(alloc, help)
 }
 
-/// The number of the first line that has the label.
-fn line_of(alloc: Global, text: &str, label: &str) -> Result<Option<usize>, AllocError> {
-    let mut number = 1;
-    let mut rest = text;
-    while let Some((line, below)) = first_by_feed(rest) {
-        if label_on(alloc, line)? == Some(label) {
-            return Ok(Some(number));
-        }
-        number += 1;
-        rest = below;
-    }
-    Ok(None)
-}
-
 /// What is said of a line whose label stands before.
-pub(crate) fn same_label(alloc: Global, text: &str, words: &[&str]) -> Result<Remark, AllocError> {
+pub(crate) fn same_label(
+    alloc: Global,
+    labels: &LabelLines<'_>,
+    words: &[&str],
+) -> Result<Remark, AllocError> {
     let Some(label) = label_in(words) else {
         return Remark::plain(alloc, "the same label once more");
     };
-    let help = match line_of(alloc, text, label)? {
-        Some(first) => Some(Sentence::one("it stands first in line {}", Word::Count(first))),
+    let help = match labels.get(label) {
+        Some(first) => Some(Sentence::one("it stands first in line {}", Word::Count(*first))),
         None => None,
     };
     let message = Sentence::one("the label \"{}\" stands twice", Word::Text(label));

@@ -12,6 +12,7 @@ mod bound;
 mod branch;
 mod bundle;
 mod cause;
+mod column;
 mod contended;
 mod counted;
 mod dearest;

@@ -1,31 +1,57 @@
 //! Notes on lines of sections.
 
-ghost use Rattle.std.specs.Prelude.{IfOk, codes};
+ghost use Rattle.std.specs.Prelude.{IfOk, codes, option_copied};
 ghost use Rattle.texts.specs.Words.{lines_by_feed};
-ghost use Rattle.notes.specs.Notes.{IsOn, StaysOn};
+ghost use Rattle.notes.specs.Notes.{IsOn, IsQuoting, StaysOn};
 
 use crate::remark::Remark;
-use notes::{Level, Note};
+use notes::{Level, Note, line_at};
 use std::alloc::{AllocError, Global};
 
-/// The note of a level on the line of a section with this number.
+/// The note of a level on a line of a section, which has this number.
 fn note_on(
     alloc: Global,
     level: Level,
     section: &str,
-    text: &str,
     number: usize,
+    line: Option<&str>,
     remark: Remark,
 ) -> Result<Note, AllocError>
-    ensures { IfOk result (IsOn level section.now number (lines_by_feed text.now)) }
+    ensures { IfOk result (IsQuoting level section.now number (option_copied line.entry)) }
 {
-    let note = Note::on(alloc, level, section, text, number)?;
+    let note = Note::quoting(alloc, level, section, number, line)?;
     let Remark { message, help } = remark;
     Ok(Note {
         message,
         help,
         ..note
     })
+}
+
+/// The note on an error in this line of a program.
+pub(crate) fn program_error(
+    alloc: Global,
+    number: usize,
+    line: Option<&str>,
+    remark: Remark,
+) -> Result<Note, AllocError>
+    ensures { IfOk result
+        (IsQuoting Level.Error (codes "%program") number (option_copied line.entry)) }
+{
+    note_on(alloc, Level::Error, "%program", number, line, remark)
+}
+
+/// The note on what is no error in this line of a board file, and may become one.
+pub(crate) fn board_warning(
+    alloc: Global,
+    number: usize,
+    line: Option<&str>,
+    remark: Remark,
+) -> Result<Note, AllocError>
+    ensures { IfOk result
+        (IsQuoting Level.Warning (codes "%board") number (option_copied line.entry)) }
+{
+    note_on(alloc, Level::Warning, "%board", number, line, remark)
 }
 
 /// The note on an error.
@@ -38,7 +64,14 @@ pub(crate) fn error_note(
 ) -> Result<Note, AllocError>
     ensures { IfOk result (IsOn Level.Error section.now number (lines_by_feed text.now)) }
 {
-    note_on(alloc, Level::Error, section, text, number, remark)
+    note_on(
+        alloc,
+        Level::Error,
+        section,
+        number,
+        line_at(text, number),
+        remark,
+    )
 }
 
 /// The note on what is no error, and may become one.
@@ -51,7 +84,14 @@ pub(crate) fn warning_note(
 ) -> Result<Note, AllocError>
     ensures { IfOk result (IsOn Level.Warning section.now number (lines_by_feed text.now)) }
 {
-    note_on(alloc, Level::Warning, section, text, number, remark)
+    note_on(
+        alloc,
+        Level::Warning,
+        section,
+        number,
+        line_at(text, number),
+        remark,
+    )
 }
 
 /// The note on a line of a program of which nothing is wrong.
@@ -63,7 +103,14 @@ pub(crate) fn told_note(
 ) -> Result<Note, AllocError>
     ensures { IfOk result (IsOn Level.Info (codes "%program") number (lines_by_feed text.now)) }
 {
-    note_on(alloc, Level::Info, "%program", text, number, remark)
+    note_on(
+        alloc,
+        Level::Info,
+        "%program",
+        number,
+        line_at(text, number),
+        remark,
+    )
 }
 
 /// The same note with a mark below a word, which stands behind this in its line, if one is known.

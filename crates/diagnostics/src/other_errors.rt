@@ -9,10 +9,10 @@ ghost use Rattle.session.specs.Parts.{sections_view};
 ghost use Rattle.texts.specs.Words.{lines_by_feed};
 
 use crate::input::program_text;
-use crate::program::program_note;
+use crate::program::{Written, note_at};
 use board::Board;
 use bundles::Section;
-use notes::Note;
+use notes::{LineFinder, Note};
 use seq_program::{LineFaults, ProgramFault, other_faults};
 use session::{Case, Outcome, Unread};
 use std::alloc::{AllocError, Global};
@@ -68,10 +68,13 @@ fn notes_of(
     ensures lines { IfOk result
         (λ notes. map (λ n. n.line) notes.items ≡ filter_map line_of faults.now) }
 {
+    let written = Written::new(alloc, board, text, faults)?;
+    let mut lines = LineFinder::of(text);
     let mut notes = Vec::new(alloc);
     for fault in faults {
-        if let Some(note) = program_note(alloc, board, text, *fault)? {
-            notes.push(note)?;
+        if let Some(number) = fault.line() {
+            let line = lines.line_at(number);
+            notes.push(note_at(alloc, &written, number, line, *fault)?)?;
         }
     }
     Ok(notes)

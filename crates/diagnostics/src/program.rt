@@ -1,16 +1,17 @@
 //! Notes on programs.
 
-ghost use Rattle.std.specs.Prelude.{◌≡◌, codes, IfOk, None, IsSomeAnd};
+ghost use Rattle.std.specs.Prelude.{◌≡◌, codes, option_copied, IfOk, None, IsSomeAnd};
 ghost use Rattle.std.specs.Prelude.{MatchOption};
 ghost use Rattle.texts.specs.Words.{lines_by_feed};
 ghost use Rattle.seq_program.specs.Faults.{line_of};
-ghost use Rattle.notes.specs.Notes.{IsOn};
+ghost use Rattle.notes.specs.Notes.{IsOn, IsQuoting};
 
 use crate::bad_number::bad_number;
 use crate::bad_operand::bad_operand;
+use crate::column::blamed_word;
 use crate::ending::{no_end, too_long};
-use crate::label::{same_label, unknown_label};
-use crate::note::error_note;
+use crate::label::{LabelLines, labels_for, same_label, unknown_label};
+use crate::note::{marked, program_error};
 use crate::remark::Remark;
 use crate::unknown_command::unknown_command;
 use crate::unknown_target::unknown_target;
@@ -21,28 +22,74 @@ use seq_program::{ProgramFault, without_comment};
 use std::alloc::{AllocError, Global};
 use texts::words_of;
 
-/// What is said of a fault.
+/// A program's text, for a board, and its labels, which notes on some of its faults name.
+#[derive(Drop)]
+pub(crate) struct Written<'a> {
+    board: &'a Board,
+    text: &'a str,
+    labels: LabelLines<'a>,
+}
+
+impl<'a> Written<'a> {
+    /// A program's text with what notes on these of its faults need.
+    pub(crate) fn new(
+        alloc: Global,
+        board: &'a Board,
+        text: &'a str,
+        faults: &[ProgramFault],
+    ) -> Result<Written<'a>, AllocError> {
+        let labels = labels_for(alloc, text, faults)?;
+        Ok(Written {
+            board,
+            text,
+            labels,
+        })
+    }
+}
+
+/// What is said of a fault on a line of these words.
 fn remark_on(
     alloc: Global,
-    board: &Board,
-    text: &str,
-    number: usize,
+    written: &Written<'_>,
+    words: &[&str],
     fault: ProgramFault,
 ) -> Result<Remark, AllocError> {
-    let line = line_at(text, number).unwrap_or("");
-    let words = words_of(alloc, without_comment(line))?;
+    let Written {
+        board,
+        text,
+        labels,
+    } = written;
     match fault {
         ProgramFault::Memory => Remark::plain(alloc, "out of memory"),
-        ProgramFault::UnknownWord(_) => unknown_word(alloc, &words),
-        ProgramFault::BadNumber(_) => bad_number(alloc, board, &words),
-        ProgramFault::UnknownTarget(_) => unknown_target(alloc, board, &words),
-        ProgramFault::UnknownCommand(_) => unknown_command(alloc, &words),
-        ProgramFault::UnknownLabel(_) => unknown_label(alloc, text, &words),
-        ProgramFault::SameLabel(_) => same_label(alloc, text, &words),
+        ProgramFault::UnknownWord(_) => unknown_word(alloc, words),
+        ProgramFault::BadNumber(_) => bad_number(alloc, board, words),
+        ProgramFault::UnknownTarget(_) => unknown_target(alloc, board, words),
+        ProgramFault::UnknownCommand(_) => unknown_command(alloc, words),
+        ProgramFault::UnknownLabel(_) => unknown_label(alloc, labels, words),
+        ProgramFault::SameLabel(_) => same_label(alloc, labels, words),
         ProgramFault::NoEnd(_) => no_end(alloc, text),
         ProgramFault::TooLong(_) => too_long(alloc),
-        ProgramFault::BadOperand(_) => bad_operand(alloc, &words),
+        ProgramFault::BadOperand(_) => bad_operand(alloc, words),
     }
+}
+
+/// The note on a fault of a line, with a mark below the word that is to blame.
+pub(crate) fn note_at(
+    alloc: Global,
+    written: &Written<'_>,
+    number: usize,
+    line: Option<&str>,
+    fault: ProgramFault,
+) -> Result<Note, AllocError>
+    ensures { IfOk result
+        (IsQuoting Level.Error (codes "%program") number (option_copied line.entry)) }
+{
+    let said = line.unwrap_or("");
+    let words = words_of(alloc, without_comment(said))?;
+    let remark = remark_on(alloc, written, &words, fault)?;
+    let at = blamed_word(alloc, said, &words, fault)?;
+    let note = program_error(alloc, number, line, remark)?;
+    marked(alloc, note, at)
 }
 
 /// What a person needs to mend a text that is no program for a board: the fault's line with its
@@ -64,6 +111,6 @@ pub fn program_note(
     let Some(number) = fault.line() else {
         return Ok(None);
     };
-    let remark = remark_on(alloc, board, text, number, fault)?;
-    Ok(Some(error_note(alloc, "%program", text, number, remark)?))
+    let written = Written::new(alloc, board, text, &[fault])?;
+    Ok(Some(note_at(alloc, &written, number, line_at(text, number), fault)?))
 }

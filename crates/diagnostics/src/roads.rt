@@ -62,8 +62,8 @@ impl<'a> Judged<'a> {
         edges(alloc, self.board, self.program, place, row)
     }
 
-    /// The first of the rules K1 to K5 that a place's instruction breaks at a row, or else its edges
-    /// there.
+    /// The first of the rules K1 to K5 that a place's instruction breaks at a row, or else its
+    /// edges there.
     pub(crate) fn step_at(
         self,
         alloc: Global,

@@ -37,7 +37,10 @@ fn main(rt: HostRuntime) -> ExitCode {
     ) {
         Ok(answered) => {
             tell(&mut rt.stderr(), &answered.notes);
-            answered.status
+            let status = answered.status;
+            // by a call, since the proof has a path for each part that may be there to drop
+            drop(answered);
+            status
         }
         Err(fault) => {
             let _told = eprintln!(rt; "pmseq: {fault}");

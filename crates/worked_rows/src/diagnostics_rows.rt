@@ -39,14 +39,14 @@ fn all_are_noted(rt: &impl Abort, alloc: Global, rows: &[(&str, &str)]) {
 static CARRIAGE_RETURNS: [(&str, &str); 2] = [
     (
         "end\r\n",
-        "%program:1: error: unknown instruction \"end\\r\"
+        "%program:1:1: error: unknown instruction \"end\\r\"
     end\\u{d}
 help: lines end with LF alone, and a CR is a character like any other
 ",
     ),
     (
         "goto x\r",
-        "%program:1: error: expected a label, found \"x\\r\"
+        "%program:1:6: error: expected a label, found \"x\\r\"
     goto x\\u{d}
 help: lines end with LF alone, and a CR is a character like any other
 ",
@@ -96,12 +96,20 @@ fn note_on_line(alloc: Global, line: &str, more: &str) -> Noted {
     note_on_program(alloc, &format!(in alloc; "x:\n{line}{more}\nend")?)
 }
 
+/// Tries that a line isn't read with a word more, which has the mark.
+fn ends_there(rt: &impl Abort, alloc: Global, line: &str) {
+    let column = line.len().saturating_add(2);
+    match format!(in alloc; "%program:2:{column}: error: too many words behind") {
+        Ok(want) => begins(rt, note_on_line(alloc, line, " more"), &want),
+        Err(_) => panic!(rt; "no memory"),
+    }
+}
+
 /// Tries that each line is read, and that none is with a word more.
 fn all_end_there(rt: &impl Abort, alloc: Global, lines: &[&str]) {
     for line in lines {
         notes(rt, note_on_line(alloc, line, ""), None);
-        let note = note_on_line(alloc, line, " more");
-        begins(rt, note, "%program:2: error: too many words behind");
+        ends_there(rt, alloc, line);
     }
 }
 
@@ -174,7 +182,7 @@ static BUNDLES: [(&str, BundleFault, &str); 3] = [
     (
         BUNDLE,
         BundleFault::BadAnswer(8),
-        "%answers:2: error: unknown field \"vale=1\"\n    vale=1\nhelp: did you mean \
+        "%answers:2:1: error: unknown field \"vale=1\"\n    vale=1\n    ^^^^^^\nhelp: did you mean \
          \"value=\"?\n",
     ),
     (

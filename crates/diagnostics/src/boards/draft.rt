@@ -1,5 +1,6 @@
 //! A board file that has a fault, and its tables.
 
+use crate::boards::lines::{SayingLine, saying_lines};
 use board::{BoardFault, Place};
 use std::alloc::{AllocError, Global};
 use toml::{Table, Value};
@@ -7,20 +8,11 @@ use toml::{Table, Value};
 /// A board file with its fault.
 #[derive(Drop)]
 pub(crate) struct Draft<'a> {
-    pub lines: Vec<&'a str>,
+    pub lines: Vec<SayingLine<'a>>,
     pub tree: &'a Table,
     pub targets: &'a [Value],
     pub rails: &'a [Value],
     pub fault: BoardFault,
-}
-
-/// The lines of a text. A growth that is refused isn't tried again with less, as by `collect`.
-pub(crate) fn lines_of(alloc: Global, text: &str) -> Result<Vec<&str>, AllocError> {
-    let mut lines = Vec::new(alloc);
-    for line in text.lines() {
-        lines.push(line)?;
-    }
-    Ok(lines)
 }
 
 /// The items of the list at a key, none where there is no list.
@@ -43,7 +35,7 @@ impl<'a> Draft<'a> {
         fault: BoardFault,
     ) -> Result<Draft<'a>, AllocError> {
         Ok(Draft {
-            lines: lines_of(alloc, text)?,
+            lines: saying_lines(alloc, text)?,
             tree,
             targets: items_at(tree, "target"),
             rails: items_at(tree, "rail"),

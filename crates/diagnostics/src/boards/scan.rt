@@ -1,48 +1,12 @@
 //! The lines of a board file at which its tables and keys stand. They are found by their looks, not
 //! by TOML's rules: where a file is written in another way, a line above is named.
 
+use crate::boards::lines::{Quotes, SayingLine, without_comment};
 use board::Place;
-
-/// Which quotation mark a text began with, while it lasts.
-#[derive(Clone, Copy)]
-struct Quotes {
-    open: Option<u8>,
-}
-
-impl Quotes {
-    /// Goes over a byte, and says whether it belongs to a text.
-    fn take_in(&mut self, byte: u8) -> bool {
-        match self.open {
-            Some(mark) => {
-                if byte == mark {
-                    self.open = None;
-                }
-                true
-            }
-            None => {
-                if byte == b'"' || byte == b'\'' {
-                    self.open = Some(byte);
-                }
-                self.open.is_some()
-            }
-        }
-    }
-}
-
-/// A line without its comment and the spaces around it.
-fn without_comment(line: &str) -> &str {
-    let mut quotes = Quotes { open: None };
-    for (index, byte) in line.bytes().enumerate() {
-        if !quotes.take_in(byte) && byte == b'#' {
-            return line.get(..index).unwrap_or(line).trim();
-        }
-    }
-    line.trim()
-}
 
 /// How many inline tables begin on a line.
 fn opening_braces(line: &str) -> usize {
-    let mut quotes = Quotes { open: None };
+    let mut quotes = Quotes::none();
     let mut count = 0usize;
     for byte in without_comment(line).bytes() {
         if !quotes.take_in(byte) && byte == b'{' {
@@ -77,10 +41,10 @@ fn key_on(line: &str) -> Option<&str> {
 }
 
 /// The place of a table's header.
-fn header_line(lines: &[&str], name: &str, index: usize) -> Option<usize> {
+fn header_line(lines: &[SayingLine<'_>], name: &str, index: usize) -> Option<usize> {
     let mut left = index;
     for (place, line) in lines.iter().enumerate() {
-        if header_on(line) == Some(name) {
+        if header_on(line.line) == Some(name) {
             if left == 0 {
                 return Some(place);
             }
@@ -91,12 +55,12 @@ fn header_line(lines: &[&str], name: &str, index: usize) -> Option<usize> {
 }
 
 /// The place of a key of the table whose lines begin here.
-fn key_line(lines: &[&str], key: &str) -> Option<usize> {
+fn key_line(lines: &[SayingLine<'_>], key: &str) -> Option<usize> {
     for (place, line) in lines.iter().enumerate() {
-        if place > 0 && begins_anything(line) {
+        if place > 0 && begins_anything(line.line) {
             return None;
         }
-        if key_on(line) == Some(key) {
+        if key_on(line.line) == Some(key) {
             return Some(place);
         }
     }
@@ -104,13 +68,13 @@ fn key_line(lines: &[&str], key: &str) -> Option<usize> {
 }
 
 /// The place of the entry of an index that has a header, below the header of its target.
-fn entry_header(lines: &[&str], index: usize) -> Option<usize> {
+fn entry_header(lines: &[SayingLine<'_>], index: usize) -> Option<usize> {
     let mut left = index;
     for (place, line) in lines.iter().enumerate() {
-        if place > 0 && begins_table(line) {
+        if place > 0 && begins_table(line.line) {
             return None;
         }
-        if header_on(line) == Some("target.allow") {
+        if header_on(line.line) == Some("target.allow") {
             if left == 0 {
                 return Some(place);
             }
@@ -121,13 +85,13 @@ fn entry_header(lines: &[&str], index: usize) -> Option<usize> {
 }
 
 /// The place of the entry of an index that stands in braces, in a list that begins here.
-fn entry_in_braces(lines: &[&str], index: usize) -> Option<usize> {
+fn entry_in_braces(lines: &[SayingLine<'_>], index: usize) -> Option<usize> {
     let mut above = 0usize;
     for (place, line) in lines.iter().enumerate() {
-        if begins_anything(line) {
+        if begins_anything(line.line) {
             return None;
         }
-        above = above.saturating_add(opening_braces(line));
+        above = above.saturating_add(opening_braces(line.line));
         if above > index {
             return Some(place);
         }
@@ -136,12 +100,12 @@ fn entry_in_braces(lines: &[&str], index: usize) -> Option<usize> {
 }
 
 /// The lines from a place on.
-fn from_place<'a>(lines: &'a [&'a str], place: usize) -> &'a [&'a str] {
+fn from_place<'a>(lines: &'a [SayingLine<'a>], place: usize) -> &'a [SayingLine<'a>] {
     lines.get(place..).unwrap_or(&[])
 }
 
 /// The place of an entry below the header of its target.
-fn entry_line(lines: &[&str], index: usize) -> Option<usize> {
+fn entry_line(lines: &[SayingLine<'_>], index: usize) -> Option<usize> {
     if let Some(place) = entry_header(lines, index) {
         return Some(place);
     }
@@ -151,7 +115,7 @@ fn entry_line(lines: &[&str], index: usize) -> Option<usize> {
 }
 
 /// The place of a target or a rail, or of the list of them.
-fn item_line(lines: &[&str], name: &str, index: usize) -> Option<usize> {
+fn item_line(lines: &[SayingLine<'_>], name: &str, index: usize) -> Option<usize> {
     match header_line(lines, name, index) {
         Some(place) => Some(place),
         None => key_line(lines, name),
@@ -159,9 +123,9 @@ fn item_line(lines: &[&str], name: &str, index: usize) -> Option<usize> {
 }
 
 /// The place of a table, or of what it stands in.
-fn table_line(lines: &[&str], table: Place) -> Option<usize> {
+fn table_line(lines: &[SayingLine<'_>], table: Place) -> Option<usize> {
     match table {
-        Place::Board => Some(0),
+        Place::Board => None,
         Place::Target(index) => item_line(lines, "target", index),
         Place::Rail(index) => item_line(lines, "rail", index),
         Place::Entry { target, entry } => {
@@ -172,20 +136,39 @@ fn table_line(lines: &[&str], table: Place) -> Option<usize> {
     }
 }
 
+/// The place of a key of the board's own, or of the first table of that name.
+fn board_key_line(lines: &[SayingLine<'_>], key: &str) -> Option<usize> {
+    let first = lines.first()?;
+    if begins_anything(first.line) {
+        return header_line(lines, key, 0);
+    }
+    match key_line(lines, key) {
+        Some(place) => Some(place),
+        None => header_line(lines, key, 0),
+    }
+}
+
+/// The place of a table, or of a key in it. Where that isn't found, it is one above, if any is.
+pub(crate) fn place_of(lines: &[SayingLine<'_>], table: Place, key: Option<&str>) -> Option<usize> {
+    match (table, key) {
+        (Place::Board, Some(key)) => board_key_line(lines, key),
+        (_, None) => table_line(lines, table),
+        (_, Some(key)) => {
+            let above = table_line(lines, table)?;
+            let within = key_line(from_place(lines, above), key).unwrap_or(0);
+            Some(above.saturating_add(within))
+        }
+    }
+}
+
 /// The number of the line of a table, or of a key in it, counted from 1. Where that isn't found, it
 /// is a line above.
-pub(crate) fn number_of(lines: &[&str], table: Place, key: Option<&str>) -> usize {
-    let Some(above) = table_line(lines, table) else {
-        return 1;
-    };
-    let Some(key) = key else {
-        return above.saturating_add(1);
-    };
-    match key_line(from_place(lines, above), key) {
-        Some(within) => above.saturating_add(within).saturating_add(1),
-        None => match header_line(lines, key, 0) {
-            Some(header) if table == Place::Board => header.saturating_add(1),
-            _ => above.saturating_add(1),
+pub(crate) fn number_of(lines: &[SayingLine<'_>], table: Place, key: Option<&str>) -> usize {
+    match place_of(lines, table, key) {
+        Some(place) => match lines.get(place) {
+            Some(line) => line.number,
+            None => 1,
         },
+        None => 1,
     }
 }

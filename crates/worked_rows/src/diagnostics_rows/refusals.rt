@@ -68,7 +68,7 @@ fn refusals(rt: HostRuntime) {
 static INPUTS: [(&str, &str); 4] = [
     (
         "write a OPERATION 0 else go\ngo: end\n",
-        "%program:2: error: unknown instruction \"go:\"",
+        "%program:2:1: error: unknown instruction \"go:\"",
     ),
     (
         "end\n\nfail\nx:",

@@ -1,5 +1,6 @@
 use Rattle.std.specs.Prelude.{codes}
 use Rattle.texts.specs.Words.{lines_by_feed}
+use Rattle.notes.specs.Lines.{line_at}
 use Rattle.notes.specs.declared.level.Level.TheVariants.{Error}
 use Rattle.diagnostics.proofs.boards.board_note.Goals as goal
 
@@ -7,7 +8,8 @@ pub returns : goal.returns
 returns c =
     let number = c.number_within-number.result in
     let lines = lines_by_feed c.args.text.now in
-    let on = c.in_ok-marked.ensures Error (codes "%board") number lines c.in_ok-note.ensures in
+    let on = c.in_ok-marked.ensures Error (codes "%board") number (line_at number lines)
+    c.in_ok-note.ensures in
     record {
       memory = λ is. absurd (c.in_default.not-Memory is);
       line = λ not. (number, (c.number_within-number.ensures, on));
