@@ -1,0 +1,14 @@
+pub mod Places
+pub mod Writes
+pub mod Done
+pub mod Steps
+pub mod Gained
+pub mod Along
+pub mod Touched
+pub mod MetDuties
+pub mod Runs
+pub mod Selected
+pub mod Changed
+pub mod Pushed
+pub mod Leaning
+pub mod Needing

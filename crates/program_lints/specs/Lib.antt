@@ -1,0 +1,10 @@
+pub mod Power
+pub mod Changes
+pub mod Closed
+pub mod Flows
+pub mod PowerStates
+pub mod Law
+pub mod LintNames
+pub mod Lints
+pub mod Telling
+pub mod Needing
