@@ -50,6 +50,7 @@ fn tell_lines<W: Write>(errors: &mut W, files: &[SectionFile], notes: &Notes) {
     tell_notes(errors, files, &notes.others.notes);
     let _written = write!(errors, "{untold}");
     tell_notes(errors, files, &notes.warnings.of_board);
+    tell_notes(errors, files, &notes.warnings.of_program);
     tell_notes(errors, files, notes.warnings.of_run.as_slice());
     tell_notes(errors, files, notes.bound.as_slice());
 }
@@ -76,7 +77,8 @@ fn log_of<'a>(
     let first = with_named(Vec::new(alloc), files, notes.error.as_slice())?;
     let errors = with_named(first, files, &notes.others.notes)?;
     let boards = with_named(errors, files, &notes.warnings.of_board)?;
-    let warned = with_named(boards, files, notes.warnings.of_run.as_slice())?;
+    let programs = with_named(boards, files, &notes.warnings.of_program)?;
+    let warned = with_named(programs, files, notes.warnings.of_run.as_slice())?;
     let named = with_named(warned, files, notes.bound.as_slice())?;
     sarif_log(alloc, VERSION, &named)
 }

@@ -2,5 +2,6 @@ pub mod CountedNames
 pub mod FoundAnswers
 pub mod CountedLines
 pub mod Results
-pub mod FaultNotes
+pub mod ToldLines
 pub mod NumberedLines
+pub mod Allowing

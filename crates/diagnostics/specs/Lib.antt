@@ -4,6 +4,7 @@ pub mod AnswerLaws
 pub mod BundlePlaces
 pub mod Inputs
 pub mod Boards
+pub mod ProgramWarnings
 pub mod Warnings
 pub mod OtherErrors
 pub mod Bounds

@@ -42,7 +42,11 @@ pub(crate) fn has_rail(good: GoodSet, index: usize) -> bool {
 }
 
 /// The names of the rails in a set.
-fn rails_text(alloc: Global, board: &Board, good: GoodSet) -> Result<String, AllocError> {
+pub(crate) fn rails_text(
+    alloc: Global,
+    board: &Board,
+    good: GoodSet,
+) -> Result<String, AllocError> {
     let mut text = String::new(alloc);
     for index in 0..board.rails().len() {
         if has_rail(good, index) {

@@ -2,6 +2,7 @@
 #![tactic(auto)]
 
 mod alert;
+mod allowed;
 mod answering;
 mod bad_number;
 mod bad_operand;
@@ -37,6 +38,8 @@ mod operand;
 mod origin;
 mod other_errors;
 mod program;
+mod program_lint;
+mod program_warning;
 mod reason;
 mod refusal;
 mod remark;

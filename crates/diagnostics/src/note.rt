@@ -41,6 +41,19 @@ pub(crate) fn program_error(
     note_on(alloc, Level::Error, "%program", number, line, remark)
 }
 
+/// The note on what is no error in this line of a program, and may become one.
+pub(crate) fn program_warning(
+    alloc: Global,
+    number: usize,
+    line: Option<&str>,
+    remark: Remark,
+) -> Result<Note, AllocError>
+    ensures { IfOk result
+        (IsQuoting Level.Warning (codes "%program") number (option_copied line.entry)) }
+{
+    note_on(alloc, Level::Warning, "%program", number, line, remark)
+}
+
 /// The note on what is no error in this line of a board file, and may become one.
 pub(crate) fn board_warning(
     alloc: Global,

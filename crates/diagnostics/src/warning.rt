@@ -1,8 +1,9 @@
-//! Warnings of boards and of runs.
+//! Warnings of boards, of accepted programs and of runs.
 
-ghost use Rattle.std.specs.Prelude.{option_map, IfOk};
+ghost use Rattle.std.specs.Prelude.{◌≡◌, option_map, IfOk};
 ghost use Rattle.diagnostics.specs.ProgramPlaces.{IsWarningAt};
-ghost use Rattle.diagnostics.specs.Warnings.{AreWarningsOf, WarnsOfBoard, WarnsOfBreach};
+ghost use Rattle.diagnostics.specs.ProgramWarnings.{WarnsOfJudged};
+ghost use Rattle.diagnostics.specs.Warnings.{AreWarningsOf, WarnsOfBoard, WarnsOfBreach, judged_in};
 ghost use Rattle.session.specs.Parts.{sections_view};
 
 use crate::board_warning::board_warnings;
@@ -10,6 +11,7 @@ use crate::cause::Cause;
 use crate::detail::instr_cause;
 use crate::input::program_text;
 use crate::note::warning_note;
+use crate::program_warning::program_warnings;
 use crate::refusal::{RefusalKind, blaming, page_of};
 use crate::remark::Remark;
 use board::Board;
@@ -18,7 +20,7 @@ use facts::{Row, Rule};
 use notes::Note;
 use run_monitor::{Breach, Reached};
 use seq_program::Program;
-use session::{Case, Outcome, Scenario, Sequence, Trial, place_line};
+use session::{Case, Judged, Outcome, Scenario, Sequence, Trial, place_line};
 use std::alloc::{AllocError, Global};
 
 /// What breaks a rule, in a sentence.
@@ -108,41 +110,79 @@ fn run_warning(
 pub struct Warnings {
     /// What of a board may be meant otherwise.
     pub of_board: Vec<Note>,
+    /// What of an accepted program may be meant otherwise.
+    pub of_program: Vec<Note>,
     /// The first step of a run that breaks a rule.
     pub of_run: Option<Note>,
 }
 
 impl Warnings {
-    ghost use Rattle.std.specs.Prelude.{◌≡◌, [], None};
+    ghost use Rattle.diagnostics.specs.Warnings.{WarnsOfNothing};
 
     /// Nothing is warned of.
     pub fn none(alloc: Global) -> Warnings
-        ensures board { result.of_board.items ≡ [] }
-        ensures run { result.of_run ≡ None }
+        ensures { WarnsOfNothing result }
     {
         Warnings {
             of_board: Vec::new(alloc),
+            of_program: Vec::new(alloc),
             of_run: None,
         }
     }
 }
 
-/// What is warned of a board, a program on it, and its run, if that breaks a rule first here.
+/// What is warned of a program, if there is a judgement on it.
+fn judged_warnings(
+    alloc: Global,
+    sections: &[Section<'_>],
+    board: &Board,
+    program: &Program,
+    judged: Option<&Judged>,
+) -> Result<Vec<Note>, AllocError>
+    ensures { IfOk result (λ warnings. WarnsOfJudged (sections_view sections.now) board.now
+        program.now (option_map (λ x. x.now) judged.entry) warnings.items) }
+{
+    match judged {
+        Some(judged) => program_warnings(alloc, sections, board, program, judged),
+        None => Ok(Vec::new(alloc)),
+    }
+}
+
+/// What is warned of a board, a program on it, the judgement on that, and its run, if that breaks a
+/// rule first here.
 fn warnings_of(
     alloc: Global,
     sections: &[Section<'_>],
     board: &Board,
     program: &Program,
+    judged: Option<&Judged>,
     found: Option<&Reached>,
 ) -> Result<Warnings, AllocError>
     ensures board { IfOk result (λ warnings. WarnsOfBoard (sections_view sections.now) board.now
         program.now warnings.of_board.items) }
+    ensures program { IfOk result (λ warnings. WarnsOfJudged (sections_view sections.now) board.now
+        program.now (option_map (λ x. x.now) judged.entry) warnings.of_program.items) }
     ensures run { IfOk result (λ warnings. WarnsOfBreach (sections_view sections.now)
         (option_map (λ x. x.now.breach) found.entry) warnings.of_run) }
 {
     let of_board = board_warnings(alloc, sections, board, program)?;
+    let of_program = judged_warnings(alloc, sections, board, program, judged)?;
     let of_run = run_warning(alloc, sections, board, program, found)?;
-    Ok(Warnings { of_board, of_run })
+    Ok(Warnings {
+        of_board,
+        of_program,
+        of_run,
+    })
+}
+
+/// The judgement on a table, if it is one.
+fn judged_in(judged: &Result<Judged, usize>) -> Option<&Judged>
+    ensures { option_map (λ x. x.now) result ≡ judged_in judged.now }
+{
+    match judged {
+        Ok(judged) => Some(judged),
+        Err(_) => None,
+    }
 }
 
 /// What is warned of an input, by what became of it.
@@ -150,6 +190,10 @@ fn warnings_of(
 /// Of its board: needs that go round in a circle, a rail that no entry of its target can turn on, a
 /// limit that no voltage can break, and start values with which a target doesn't take what the
 /// program sends it. Each of them has a warning, on a line of the board.
+///
+/// Of a program that is accepted: `fail` where rails may be on, a rail that may be turned on before
+/// a voltage was written to it, and one that may be turned off while another may be on that needs
+/// it. Each is on the line of its place, and a comment there allows it: `# allow on-at-fail`.
 ///
 /// Of a run: the first step that breaks what programs are checked by, a message that no entry
 /// allows, a write that is protected, a voltage over its limit, a rail that is turned on before its
@@ -166,19 +210,21 @@ pub fn warnings_on(alloc: Global, case: &Case<'_>) -> Result<Warnings, AllocErro
         Outcome::Unread(_) | Outcome::Framed(_) => Ok(Warnings::none(alloc)),
         Outcome::Ran(ran) => {
             let Scenario { board, program, .. } = &ran.scenario;
-            warnings_of(alloc, sections, board, program, ran.found.as_ref())
+            warnings_of(alloc, sections, board, program, None, ran.found.as_ref())
         }
         Outcome::Checked(checked) => {
             let Trial { board, program, .. } = &checked.trial;
-            warnings_of(alloc, sections, board, program, None)
+            let judged = judged_in(&checked.judged);
+            warnings_of(alloc, sections, board, program, judged, None)
         }
         Outcome::Searched(searched) => {
             let Sequence { board, program } = &searched.sequence;
-            warnings_of(alloc, sections, board, program, None)
+            warnings_of(alloc, sections, board, program, None, None)
         }
         Outcome::Verified(verified) => {
             let Sequence { board, program } = &verified.sequence;
-            warnings_of(alloc, sections, board, program, None)
+            let judged = judged_in(&verified.judged);
+            warnings_of(alloc, sections, board, program, judged, None)
         }
     }
 }

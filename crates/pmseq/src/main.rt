@@ -1,6 +1,6 @@
 //! Reads a bundle from standard input and answers it on standard output. Where it is refused or has
-//! a fault, a note on standard error says what to mend; warnings say where a board is
-//! suspicious, and where a run does what a checked program never does.
+//! a fault, a note on standard error says what to mend; warnings say where a board or an accepted
+//! program is suspicious, and where a run does what a checked program never does.
 #![tactic(auto)]
 
 use diagnostics::{Beside, Notes, answer};
@@ -25,6 +25,7 @@ fn tell(errors: &mut Stderr, notes: &Notes) {
     write_notes(errors, &notes.others.notes);
     let _written = write!(errors, "{untold}");
     write_notes(errors, &notes.warnings.of_board);
+    write_notes(errors, &notes.warnings.of_program);
     write_notes(errors, notes.warnings.of_run.as_slice());
 }
 

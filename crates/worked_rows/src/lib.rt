@@ -32,6 +32,8 @@ mod outcome_rows;
 #[cfg(test)]
 mod pmbus_table_rows;
 #[cfg(test)]
+mod program_lints_rows;
+#[cfg(test)]
 mod run_monitor_rows;
 #[cfg(test)]
 mod runs;

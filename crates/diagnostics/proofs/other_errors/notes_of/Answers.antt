@@ -10,7 +10,7 @@ use Rattle.notes.specs.Notes.{IsQuoting}
 use Rattle.seq_program.specs.declared.fault.ProgramFault.{ProgramFault}
 use Rattle.seq_program.specs.Faults.{line_of}
 use Rattle.texts.specs.Words.{lines_by_feed}
-use Rattle.diagnostics.proofs.FaultNotes.{AreNoted, IsNoteOn, next_is, one_noted, none_noted}
+use Rattle.diagnostics.proofs.ToldLines.{AreNoted, IsNoteOn, next_is, one_noted, none_noted}
 use Rattle.diagnostics.proofs.other_errors.notes_of.Goals as goal
 use Rattle.diagnostics.proofs.other_errors.notes_of.Goals.{in-Some+in_ok-note_at+in_ok-push}
 use Rattle.diagnostics.proofs.other_errors.notes_of.Goals.{in_default}
@@ -33,26 +33,26 @@ loop-fault-preserved c =
           let number = w.in-Some.number in
           let on = subst (λ (line : Option (List ℕ)).
           IsQuoting Error (codes "%program") number line note) found.1 w.in_ok-note_at.ensures in
-          let noted = subst (λ (line : Option ℕ). IsNoteOn lines line (Some note))
+          let noted = subst (λ (line : Option ℕ). IsNoteOn Error lines line (Some note))
           (sym w.in-Some.is ∙ c.line.ensures) on in
           let items = ap (λ (v : Vec Note Global). v.items) w.notes-is
           ∙ w.in_ok-push.ensures.items in
-          let now = subst (AreNoted lines all rest) (sym items)
-          (one_noted lines all rest old note _ inv.errors are noted) in
+          let now = subst (AreNoted Error line_of lines all rest) (sym items)
+          (one_noted Error line_of lines all rest old note _ inv.errors are noted) in
           record {
             finds = subst (λ (f : LineFinder). FindsIn lines f) (sym w.lines-is) found.0;
-            errors = now.errors;
+            errors = now.each;
             told = now.lines_are;
           }
       | in_default w ↦
-          let noted = subst (λ (line : Option ℕ). IsNoteOn lines line None)
+          let noted = subst (λ (line : Option ℕ). IsNoteOn Error lines line None)
           (sym w.in_default.is ∙ c.line.ensures) refl in
           let items = ap (λ (v : Vec Note Global). v.items) w.notes-is in
-          let now = subst (AreNoted lines all rest) (sym items)
-          (none_noted lines all rest old _ inv.errors are noted) in
+          let now = subst (AreNoted Error line_of lines all rest) (sym items)
+          (none_noted Error line_of lines all rest old _ inv.errors are noted) in
           record {
             finds = subst (λ (f : LineFinder). FindsIn lines f) (sym w.lines-is) inv.finds;
-            errors = now.errors;
+            errors = now.each;
             told = now.lines_are;
           }
     ]

@@ -1,0 +1,45 @@
+//! Comments that allow what would be warned of.
+
+ghost use Rattle.std.specs.Prelude.{◌≡◌, map, IfOk};
+ghost use Rattle.std.specs.List.{list_any};
+ghost use Rattle.std.specs.Str.{bytes_eq};
+ghost use Rattle.diagnostics.specs.ProgramWarnings.{allows, comment_in, is_allowed};
+
+use std::alloc::{AllocError, Global};
+use texts::words_of;
+
+/// What stands behind the first `#` of a line.
+fn comment_in(line: &str) -> &str
+    ensures { result.now ≡ comment_in line.now }
+{
+    match line.split_once('#') {
+        Some((_, comment)) => comment,
+        None => "",
+    }
+}
+
+/// Whether a name is among words.
+fn is_among(words: &[&str], name: &str) -> bool
+    ensures { result ≡ list_any (λ w. bytes_eq name.now w.now) words.now }
+{
+    words.iter().any(|word| name == *word)
+}
+
+/// Whether a comment of these words allows what has the name.
+#[tactic(auto, using(crate::proofs::Allowing::named_among))]
+fn allows(words: &[&str], name: &str) -> bool
+    ensures { result ≡ allows (map (λ w. w.now) words.now) name.now }
+{
+    match words.split_first() {
+        Some((first, names)) => *first == "allow" && is_among(names, name),
+        None => false,
+    }
+}
+
+/// Whether the comment of a line allows what has the name: `# allow NAME ..`.
+pub(crate) fn is_allowed(alloc: Global, line: &str, name: &str) -> Result<bool, AllocError>
+    ensures { IfOk result (λ allowed. allowed ≡ is_allowed line.now name.now) }
+{
+    let words = words_of(alloc, comment_in(line))?;
+    Ok(allows(&words, name))
+}
