@@ -1,6 +1,6 @@
 //! Labels that stand nowhere, or twice.
 
-use crate::remark::Remark;
+use crate::remark::{Remark, help_of};
 use crate::sentence::{Advice, Sentence, Word};
 use indexmap::IndexMap;
 use notes::lowercase_suggestion;
@@ -10,6 +10,11 @@ use texts::{first_by_feed, words_of};
 
 /// How many labels are compared with one that stands nowhere, at most.
 const MOST_COMPARED: usize = 1024;
+
+/// How a label stands.
+const LABEL: &str =
+    "a label stands alone on a line, with a colon, as \"good:\", above the instruction that it \
+     names";
 
 /// The labels of a text, each with the number of the first line that has it.
 pub(crate) type LabelLines<'a> = IndexMap<&'a str, usize>;
@@ -24,6 +29,10 @@ fn is_of_label(fault: ProgramFault) -> bool {
 
 /// The label that a line is.
 fn label_on<'a>(alloc: Global, line: &'a str) -> Result<Option<&'a str>, AllocError> {
+    // there may be millions of them
+    if line.is_empty() {
+        return Ok(None);
+    }
     let words = words_of(alloc, without_comment(line))?;
     Ok(label_in(&words))
 }
@@ -77,7 +86,10 @@ pub(crate) fn unknown_label(
         return Remark::plain(alloc, "unknown label");
     };
     let names = first_names(alloc, labels)?;
-    let help = lowercase_suggestion(alloc, word, &names)?;
+    let help = match lowercase_suggestion(alloc, word, &names)? {
+        Some(help) => Some(help),
+        None => help_of(alloc, Some(LABEL))?,
+    };
     Sentence::one("no line has the label {}", Word::Name(word)).helped_by(alloc, help)
 }
 

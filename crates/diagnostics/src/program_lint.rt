@@ -1,6 +1,6 @@
 //! What is said of a lint of a program.
 
-use crate::facts_here::{rail_word, rails_text};
+use crate::facts_here::{rail_word, rails_text, target_word};
 use crate::remark::Remark;
 use crate::sentence::{Advice, Sentence, Word};
 use board::Board;
@@ -19,6 +19,21 @@ const VOLTAGE: &str =
 const NEED: &str =
     "turn off first what needs it, or say with a comment `# allow need-off` on this line that it \
      is meant";
+
+const UNREACHED: &str =
+    "take it out, or say with a comment `# allow unreached` on this line that it is meant";
+
+const PROTECT: &str =
+    "write the first value before, or say with a comment `# allow protect-left` on this line that \
+     it is meant";
+
+const RAIL: &str =
+    "add the rail to the board file, or say with a comment `# allow no-rail` on this line that it \
+     is meant";
+
+const ALERT: &str =
+    "`alert rN else LABEL` asks, or say with a comment `# allow unserved-alert` on this line that \
+     it is meant";
 
 /// What is said of rails that may be on where the program fails.
 fn on_at_fail(alloc: Global, board: &Board, rails: GoodSet) -> Result<Remark, AllocError> {
@@ -54,6 +69,47 @@ fn need_off(board: &Board, need: usize, rail: usize) -> Advice<'_> {
     }
 }
 
+/// What is said of instructions to which nothing leads.
+fn unreached() -> Advice<'static> {
+    Advice {
+        message: Sentence::plain("nothing leads here"),
+        help: Some(Sentence::plain(UNREACHED)),
+    }
+}
+
+/// What is said of a target whose WRITE_PROTECT may be left otherwise than it began.
+fn protect_left(board: &Board, target: usize) -> Advice<'_> {
+    Advice {
+        message: Sentence::one(
+            "the program ends here and may leave WRITE_PROTECT of {} otherwise than it began",
+            target_word(board, target),
+        ),
+        help: Some(Sentence::plain(PROTECT)),
+    }
+}
+
+/// What is said of power for a page that no rail of the board has.
+fn no_rail(board: &Board, target: usize) -> Advice<'_> {
+    Advice {
+        message: Sentence::one(
+            "this may reach a page of {} that has no [[rail]], so no limit and no need is known of \
+             it",
+            target_word(board, target),
+        ),
+        help: Some(Sentence::plain(RAIL)),
+    }
+}
+
+/// What is said of a look at SMBALERT# in a program that never asks who pulls it low.
+fn unserved_alert() -> Advice<'static> {
+    Advice {
+        message: Sentence::plain(
+            "SMBALERT# is looked at here, and nothing in the program asks who pulls it low",
+        ),
+        help: Some(Sentence::plain(ALERT)),
+    }
+}
+
 /// What is said of a lint of a program.
 pub(crate) fn lint_remark(
     alloc: Global,
@@ -64,5 +120,9 @@ pub(crate) fn lint_remark(
         ProgramLint::OnAtFail { rails, .. } => on_at_fail(alloc, board, *rails),
         ProgramLint::BeforeVoltage { rail, .. } => before_voltage(board, *rail).told(alloc),
         ProgramLint::NeedOff { need, rail, .. } => need_off(board, *need, *rail).told(alloc),
+        ProgramLint::Unreached { .. } => unreached().told(alloc),
+        ProgramLint::ProtectLeft { target, .. } => protect_left(board, *target).told(alloc),
+        ProgramLint::NoRail { target, .. } => no_rail(board, *target).told(alloc),
+        ProgramLint::UnservedAlert { .. } => unserved_alert().told(alloc),
     }
 }

@@ -61,11 +61,17 @@ fn row_detail<'a>(board: &'a Board, row: &Row, misfit: Misfit) -> Option<Sentenc
 pub(crate) fn length_detail(judged: Judged<'_>) -> Sentence<'static> {
     let (rows, places) = (judged.table.rows.len(), judged.program.places());
     let unit = if rows == 1 { "row" } else { "rows" };
-    Sentence::three(
-        "it has {} {}, and the program has {} instructions",
+    let sort = if places == 1 {
+        "instruction"
+    } else {
+        "instructions"
+    };
+    Sentence::four(
+        "it has {} {}, and the program has {} {}",
         Word::Count(rows),
         Word::Text(unit),
         Word::Count(places),
+        Word::Text(sort),
     )
 }
 

@@ -9,6 +9,7 @@ pub mod MetDuties
 pub mod Runs
 pub mod Selected
 pub mod Changed
+pub mod Below
 pub mod Pushed
 pub mod Leaning
 pub mod Needing

@@ -5,6 +5,10 @@ pub mod Flows
 pub mod PowerStates
 pub mod Law
 pub mod LintNames
+pub mod Reached
+pub mod ProtectLeft
+pub mod NoRail
+pub mod UnservedAlert
 pub mod Lints
 pub mod Telling
 pub mod Needing

@@ -1,4 +1,4 @@
--- The lints of a program, told from what is sure of the power of its rails.
+-- The lints of a program, told from its table of facts and what is sure of the power of its rails.
 use Rattle.std.specs.Prelude.{◌≡◌, ◌↔◌, ◌++◌, ◌&&◌, ◌||◌, ◌==◌, ℕ, zero, suc, Bool, true, false}
 use Rattle.std.specs.Prelude.{not, if◌then◌else◌, nat_lt, List, [], ◌∷◌, length, slice_get, Option}
 use Rattle.std.specs.Prelude.{Some, None, IsTrue, flat_map}
@@ -9,7 +9,7 @@ use Rattle.smbus.specs.declared.message.Form.TheVariants as form
 use Rattle.pmbus_table.specs.Codes.{operation_code}
 use Rattle.pmbus_table.specs.Operation.{enables}
 use Rattle.pmbus_table.specs.Voltage.{carries_voltage}
-use Rattle.board.specs.Boards.{Allow, Rail, Board}
+use Rattle.board.specs.Boards.{Allow, Target, Rail, Board}
 use Rattle.seq_program.specs.declared.instr.Instr.{Instr}
 use Rattle.seq_program.specs.declared.instr.Instr.TheVariants as instr
 use Rattle.seq_program.specs.declared.instr.Written.TheVariants as written
@@ -21,6 +21,10 @@ use Rattle.table_check.specs.checker.Obligations.{IsInductive}
 use Rattle.program_lints.specs.declared.lint.ProgramLint.{ProgramLint}
 use Rattle.program_lints.specs.declared.lint.ProgramLint.TheVariants as lint
 use Rattle.program_lints.specs.declared.power.PowerStates.{PowerStates}
+use Rattle.program_lints.specs.Reached.{begins_stretch}
+use Rattle.program_lints.specs.ProtectLeft.{is_protect_left}
+use Rattle.program_lints.specs.NoRail.{powered_target, may_reach_bare}
+use Rattle.program_lints.specs.UnservedAlert.{is_unserved}
 use Rattle.program_lints.specs.PowerStates.{may_be_on, has_voltage, IsWide, IsSure}
 
 abbrev pub Lints : Type 0
@@ -124,19 +128,52 @@ abbrev pub AreFailLints : Board → Instr → Set → ℕ → Lints → Type 0
 AreFailLints b instr.Fail on place lints = TellsOn b on place lints
 AreFailLints b i on place lints = lints ≡ []
 
+-- nothing leads to a place, and it is the first of such a stretch
+abbrev pub unreached : Table → ℕ → Lints
+unreached t place = only_if (begins_stretch t place) (lint.Unreached place)
+
+-- a lint for each target whose WRITE_PROTECT may be left otherwise than it began
+abbrev pub protect_lints : List Instr → Table → Row → Instr → ℕ → ℕ × Target → Lints
+protect_lints p t row i place target =
+    only_if (is_protect_left p t row i target) (lint.ProtectLeft place target.0)
+
+abbrev pub protects_left : Board → List Instr → Table → Row → Instr → ℕ → Lints
+protects_left b p t row i place =
+    flat_map (protect_lints p t row i place) (enumerate_from 0 b.targets)
+
+-- an instruction may give power to a page that no rail of the board has
+abbrev pub no_rail_of : Board → Row → ℕ → Option ℕ → Lints
+no_rail_of b row place None = []
+no_rail_of b row place (Some target) =
+    only_if (may_reach_bare b row target) (lint.NoRail place target)
+
+abbrev pub no_rail : Board → Row → Instr → ℕ → Lints
+no_rail b row i place = no_rail_of b row place (powered_target i)
+
+-- an instruction looks at SMBALERT#, and none asks who pulls it low
+abbrev pub unserved_alert : List Instr → Table → Instr → ℕ → Lints
+unserved_alert p t i place = only_if (is_unserved p t i) (lint.UnservedAlert place)
+
+-- the lints of an instruction at its row that its table tells
+abbrev pub table_lints : Board → List Instr → Table → Row → Instr → ℕ → Lints
+table_lints b p t row i place =
+    protects_left b p t row i place ++ (no_rail b row i place ++ unserved_alert p t i place)
+
 -- the lints of an instruction at its row
-pub record AreLintsOf (b : Board) (row : Row) (i : Instr) (on has : Set) (place : ℕ)
-    (lints : Lints) : Type 0 where
+pub record AreLintsOf (b : Board) (p : List Instr) (t : Table) (row : Row) (i : Instr)
+    (on has : Set) (place : ℕ) (lints : Lints) : Type 0 where
   pub fails : Lints
   pub at_fail : AreFailLints b i on place fails
-  pub told : lints ≡ fails ++ (before_voltages b row i has place ++ need_offs b row i on place)
+  pub told : lints ≡ fails ++ (before_voltages b row i has place
+      ++ (need_offs b row i on place ++ table_lints b p t row i place))
 
--- those of a place; there are none where the place isn't reached
-abbrev pub AreLintsAt : Board → PowerStates → ℕ → Option Instr → Option Row → Lints → Type 0
-AreLintsAt b s place None row lints = lints ≡ []
-AreLintsAt b s place (Some i) None lints = lints ≡ []
-AreLintsAt b s place (Some i) (Some row) lints =
-    AreLintsOf b row i (may_be_on s place) (has_voltage s place) place lints
+-- those of a place
+abbrev pub AreLintsAt : Board → List Instr → Table → PowerStates → ℕ → Option Instr → Option Row
+    → Lints → Type 0
+AreLintsAt b p t s place None row lints = lints ≡ []
+AreLintsAt b p t s place (Some i) None lints = lints ≡ unreached t place
+AreLintsAt b p t s place (Some i) (Some row) lints =
+    AreLintsOf b p t row i (may_be_on s place) (has_voltage s place) place lints
 
 -- those of the first so many places, in their order
 abbrev pub AreLintsBelow : Board → List Instr → Table → PowerStates → ℕ → Lints → Type 0
@@ -144,7 +181,7 @@ AreLintsBelow b p t s zero lints = lints ≡ []
 AreLintsBelow b p t s (suc place) lints =
     (before : Lints) × (own : Lints) × (lints ≡ before ++ own)
     × AreLintsBelow b p t s place before
-    × AreLintsAt b s place (slice_get p place) (row_of t place) own
+    × AreLintsAt b p t s place (slice_get p place) (row_of t place) own
 
 -- the lints of a program with a table, from what is sure of its rails
 pub record AreLints (b : Board) (p : List Instr) (t : Table) (lints : Lints) : Type 0 where

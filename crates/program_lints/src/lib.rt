@@ -13,9 +13,13 @@ mod lint;
 mod lint_names;
 mod lints;
 mod need_off;
+mod no_rail;
 mod power;
+mod protect_left;
 mod selecting;
 mod settling;
+mod unreached;
+mod unserved_alert;
 
 pub use law::{closed_sets_are_sure, leaning_is_needing};
 pub use lint::ProgramLint;

@@ -6,7 +6,8 @@ ghost use Rattle.program_lints.specs.Lints.{only_if};
 use facts::GoodSet;
 use std::alloc::AllocError;
 
-/// What is suspicious at a place of a program, counted from 0. Rails are numbered as on the board.
+/// What is suspicious at a place of a program, counted from 0. Rails and targets are numbered as on
+/// the board.
 #[derive(Debug, PartialEq, Eq, Drop)]
 pub enum ProgramLint {
     /// The program fails here, and these rails may be on.
@@ -26,6 +27,26 @@ pub enum ProgramLint {
         place: usize,
         need: usize,
         rail: usize,
+    },
+    /// Nothing leads here, nor to the places after it up to the next that has a row.
+    Unreached {
+        place: usize,
+    },
+    /// The program ends here, writes WRITE_PROTECT of the target somewhere, and may leave it
+    /// otherwise than it began.
+    ProtectLeft {
+        place: usize,
+        target: usize,
+    },
+    /// A rail may be turned on here, or its voltage set, at a page of the target that no rail of
+    /// the board has.
+    NoRail {
+        place: usize,
+        target: usize,
+    },
+    /// SMBALERT# is looked at here, and nothing in the program asks who pulls it low.
+    UnservedAlert {
+        place: usize,
     },
 }
 

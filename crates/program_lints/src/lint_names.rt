@@ -13,7 +13,11 @@ impl ProgramLint {
         match self {
             ProgramLint::OnAtFail { place, .. }
             | ProgramLint::BeforeVoltage { place, .. }
-            | ProgramLint::NeedOff { place, .. } => *place,
+            | ProgramLint::NeedOff { place, .. }
+            | ProgramLint::Unreached { place }
+            | ProgramLint::ProtectLeft { place, .. }
+            | ProgramLint::NoRail { place, .. }
+            | ProgramLint::UnservedAlert { place } => *place,
         }
     }
 
@@ -25,6 +29,10 @@ impl ProgramLint {
             ProgramLint::OnAtFail { .. } => "on-at-fail",
             ProgramLint::BeforeVoltage { .. } => "before-voltage",
             ProgramLint::NeedOff { .. } => "need-off",
+            ProgramLint::Unreached { .. } => "unreached",
+            ProgramLint::ProtectLeft { .. } => "protect-left",
+            ProgramLint::NoRail { .. } => "no-rail",
+            ProgramLint::UnservedAlert { .. } => "unserved-alert",
         }
     }
 }

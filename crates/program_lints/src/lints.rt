@@ -1,16 +1,21 @@
 //! All lints of a program.
 
-ghost use Rattle.std.specs.Prelude.{◌≡◌, ℕ, IfOk, OnOk, slice_get};
+ghost use Rattle.std.specs.Prelude.{◌≡◌, ◌++◌, ℕ, IfOk, OnOk, slice_get};
+ghost use Rattle.facts.specs.domain.Rows.{row_view};
 ghost use Rattle.facts.specs.domain.Sets.{rails_in};
 ghost use Rattle.table_check.specs.Tables.{row_of, table_view};
-ghost use Rattle.program_lints.specs.Lints.{AreLints, on_board};
+ghost use Rattle.program_lints.specs.Lints.{AreLints, on_board, table_lints};
 ghost use Rattle.program_lints.specs.Telling.{TellsFails, TellsPlace};
 
 use crate::before_voltage::push_before_voltages;
 use crate::flow::with_rail;
 use crate::lint::ProgramLint;
 use crate::need_off::push_need_offs;
+use crate::no_rail::push_no_rail;
 use crate::power::{PowerStates, power_states};
+use crate::protect_left::push_protects_left;
+use crate::unreached::push_unreached;
+use crate::unserved_alert::push_unserved_alert;
 use board::Board;
 use facts::{GoodSet, Row};
 use seq_program::{Instr, Program};
@@ -57,7 +62,25 @@ fn push_on_at_fail(
     Ok(())
 }
 
-/// The lints of a place; none where it isn't reached.
+/// The lints that the table tells of an instruction at its row.
+fn push_table_lints(
+    lints: &mut Vec<ProgramLint>,
+    board: &Board,
+    program: &Program,
+    table: &Table,
+    row: &Row,
+    instr: &Instr,
+    place: usize,
+) -> Result<(), AllocError>
+    ensures { OnOk result (lints.new.items ≡ lints.old.items ++ table_lints board.now program.now
+        (table_view table.now) (row_view row.now) instr.now place) }
+{
+    push_protects_left(lints, board, program, table, row, instr, place)?;
+    push_no_rail(lints, board, row, instr, place)?;
+    push_unserved_alert(lints, program, table, instr, place)
+}
+
+/// The lints of a place.
 fn push_place_lints(
     lints: &mut Vec<ProgramLint>,
     board: &Board,
@@ -66,25 +89,29 @@ fn push_place_lints(
     states: &PowerStates,
     place: usize,
 ) -> Result<(), AllocError>
-    ensures { OnOk result (TellsPlace board.now states.now place (slice_get program.now place)
-        (row_of (table_view table.now) place) lints.old.items lints.new.items) }
+    ensures { OnOk result (TellsPlace board.now program.now (table_view table.now) states.now
+        place (slice_get program.now place) (row_of (table_view table.now) place)
+        lints.old.items lints.new.items) }
 {
-    let Some(row) = row_at(&table.rows, place) else {
-        return Ok(());
-    };
     let Some(instr) = program.at(place) else {
         return Ok(());
+    };
+    let Some(row) = row_at(&table.rows, place) else {
+        return push_unreached(lints, table, place);
     };
     let on = states.may_be_on(place);
     push_on_at_fail(lints, board, instr, on, place)?;
     push_before_voltages(lints, board, row, instr, states.has_voltage(place), place)?;
-    push_need_offs(lints, board, row, instr, on, place)
+    push_need_offs(lints, board, row, instr, on, place)?;
+    push_table_lints(lints, board, program, table, row, instr, place)
 }
 
 /// The lints of a program with an accepted table of facts, place by place: `fail` while rails may
 /// be on, rails that may be turned on before a voltage was surely written to them, and rails that
-/// may be turned off while others may be on that need them. A table that isn't accepted says
-/// nothing of runs. Fails only for want of memory.
+/// may be turned off while others may be on that need them; then endings that may leave
+/// WRITE_PROTECT otherwise than it began, power for pages without a rail, and looks at SMBALERT#
+/// where nothing asks who pulls it low; and stretches to which nothing leads. A table that isn't
+/// accepted says nothing of runs. Fails only for want of memory.
 pub fn program_lints(
     alloc: Global,
     board: &Board,

@@ -13,7 +13,7 @@ use facts::{GoodSet, PageSet, Part, Row};
 use pmbus_table::code::ALL_PAGES;
 
 /// What a target may store in PAGE.
-fn pages_at(row: &Row, target: usize) -> PageSet
+pub(crate) fn pages_at(row: &Row, target: usize) -> PageSet
     ensures { pages_in result ≡ set_at (row_view row.now).pages target }
 {
     match row.pages.get(target) {
@@ -23,7 +23,7 @@ fn pages_at(row: &Row, target: usize) -> PageSet
 }
 
 /// Whether some page of a set selects a page.
-fn may_select(pages: PageSet, page: u8) -> bool
+pub(crate) fn may_select(pages: PageSet, page: u8) -> bool
     ensures { result ≡ may_select (pages_in pages) page }
 {
     pages.contains(page) || pages.contains(ALL_PAGES)

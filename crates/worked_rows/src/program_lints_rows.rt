@@ -69,13 +69,15 @@ fn states_of_rails(rt: HostRuntime) {
     same(&rt, state(rt.alloc(), 8, 0), Some((true, false)));
 }
 
-/// The name of a lint, its place, and a rail that it is about.
+/// The name of a lint, its place, and a rail or a target that it is about.
 type Told = (&'static str, usize, usize);
 
 fn told_of(lint: &ProgramLint) -> Told {
     let rail = match lint {
         ProgramLint::OnAtFail { rails, .. } => usize::from(rails.contains(1)),
         ProgramLint::BeforeVoltage { rail, .. } | ProgramLint::NeedOff { rail, .. } => *rail,
+        ProgramLint::ProtectLeft { target, .. } | ProgramLint::NoRail { target, .. } => *target,
+        ProgramLint::Unreached { .. } | ProgramLint::UnservedAlert { .. } => 0,
     };
     (lint.name(), lint.place(), rail)
 }
