@@ -1,7 +1,6 @@
 //! The search for the facts of a program: a table that `check` accepts, if it accepts any.
 #![tactic(auto)]
 
-mod carrying;
 mod components;
 mod fault;
 mod finding;
@@ -11,13 +10,14 @@ mod joining;
 mod known;
 mod laws;
 mod leading;
+mod longest_paths;
+mod loop_forest;
 mod loops;
 mod lost;
-mod nest;
+mod potentials;
 mod searching;
 mod starting;
 mod ticking;
-mod turning;
 mod widening;
 
 pub use fault::FindFault;

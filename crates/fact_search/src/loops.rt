@@ -7,12 +7,12 @@
 ghost use Rattle.table_check.specs.checker.Looking.{HasRowsOf};
 ghost use Rattle.table_check.specs.Tables.{rows_view};
 
-use crate::carrying::carry;
 use crate::fault::FindFault;
 use crate::graph::{Cut, Graph, graph_of};
+use crate::longest_paths::{Destination, LongestPaths, TURN, value_at};
+use crate::loop_forest::{Loop, LoopForest, forest_of, loop_at};
 use crate::lost::{bound, dearest_loss, lesser, paid};
-use crate::nest::{Loop, Nest, loop_at, nest_of};
-use crate::turning::{Aim, Measure, TURN, value_at};
+use crate::potentials::carry_potentials;
 use board::Board;
 use facts::Row;
 use seq_program::Program;
@@ -48,26 +48,26 @@ fn zeros(alloc: Global, places: usize) -> Result<Vec<u64>, AllocError> {
 fn left_to_turn(
     alloc: Global,
     graph: &Graph,
-    nest: &Nest,
+    forest: &LoopForest,
     ticks: &[Ticks],
     depth: usize,
 ) -> Result<Vec<u64>, AllocError> {
     let mut left = zeros(alloc, graph.nodes.len())?;
-    if let Some(inside) = nest.depths.get(depth) {
-        let aim = Aim::Turn { depth, inside };
-        Measure { graph, ticks, aim }.settle(&mut left, &nest.order);
+    if let Some(inside) = forest.depths.get(depth) {
+        let to = Destination::Turn { depth, inside };
+        LongestPaths { graph, ticks, to }.relax(&mut left, &forest.order);
     }
     Ok(left)
 }
 
 /// What the dearest turns of the loops at a depth cost.
-fn measure_turns(graph: &Graph, nest: &mut Nest, left: &[u64], depth: usize) {
-    if let Some(inside) = nest.depths.get(depth) {
+fn measure_turns(graph: &Graph, forest: &mut LoopForest, left: &[u64], depth: usize) {
+    if let Some(inside) = forest.depths.get(depth) {
         for way in &graph.ways {
             if way.cut == Cut::Paid(depth) {
                 if let Some(number) = loop_at(inside, way.from) {
                     let turn = value_at(left, way.to).saturating_sub(TURN);
-                    if let Some(found) = nest.loops.get_mut(number) {
+                    if let Some(found) = forest.loops.get_mut(number) {
                         found.turn = found.turn.max(turn);
                     }
                 }
@@ -100,13 +100,13 @@ fn pay_all(ticks: &mut [Ticks], loops: &[Loop], inside: &[Option<usize>]) {
 fn pay_turns(
     alloc: Global,
     graph: &Graph,
-    nest: &Nest,
+    forest: &LoopForest,
     ticks: &mut [Ticks],
     depth: usize,
 ) -> Result<(), AllocError> {
-    if let Some(inside) = nest.depths.get(depth) {
-        pay_all(ticks, &nest.loops, inside);
-        carry(alloc, graph, nest, inside, ticks)?;
+    if let Some(inside) = forest.depths.get(depth) {
+        pay_all(ticks, &forest.loops, inside);
+        carry_potentials(alloc, graph, forest, inside, ticks)?;
     }
     Ok(())
 }
@@ -128,18 +128,22 @@ fn left_to_end<'a>(
     order: &[usize],
 ) -> Result<Vec<u64>, AllocError> {
     let mut left = end_ticks(alloc, graph)?;
-    let aim = Aim::End;
-    Measure { graph, ticks, aim }.settle(&mut left, order);
+    let to = Destination::End;
+    LongestPaths { graph, ticks, to }.relax(&mut left, order);
     Ok(left)
 }
 
 /// The coefficients at all places: what the turns of the loops around them cost, inner loops first.
-fn coefficients(alloc: Global, graph: &Graph, nest: &mut Nest) -> Result<Vec<Ticks>, AllocError> {
+fn coefficients(
+    alloc: Global,
+    graph: &Graph,
+    forest: &mut LoopForest,
+) -> Result<Vec<Ticks>, AllocError> {
     let mut ticks = no_ticks(alloc, graph.nodes.len())?;
-    for depth in (0..nest.depths.len()).rev() {
-        let left = left_to_turn(alloc, graph, nest, &ticks, depth)?;
-        measure_turns(graph, nest, &left, depth);
-        pay_turns(alloc, graph, nest, &mut ticks, depth)?;
+    for depth in (0..forest.depths.len()).rev() {
+        let left = left_to_turn(alloc, graph, forest, &ticks, depth)?;
+        measure_turns(graph, forest, &left, depth);
+        pay_turns(alloc, graph, forest, &mut ticks, depth)?;
     }
     Ok(ticks)
 }
@@ -153,10 +157,14 @@ fn within_most(ticks: &Ticks, base: u64) -> Ticks {
     }
 }
 
-/// The ticks that are left at each place, with the loops of a nest.
-fn ticks_in(alloc: Global, graph: &Graph, nest: &mut Nest) -> Result<Vec<Ticks>, AllocError> {
-    let mut ticks = coefficients(alloc, graph, nest)?;
-    let left = left_to_end(alloc, graph, &ticks, &nest.order)?;
+/// The ticks that are left at each place, with the loops of a forest.
+fn ticks_in(
+    alloc: Global,
+    graph: &Graph,
+    forest: &mut LoopForest,
+) -> Result<Vec<Ticks>, AllocError> {
+    let mut ticks = coefficients(alloc, graph, forest)?;
+    let left = left_to_end(alloc, graph, &ticks, &forest.order)?;
     for (ticks, base) in ticks.iter_mut().zip(left.iter()) {
         *ticks = within_most(ticks, *base);
     }
@@ -167,12 +175,12 @@ fn ticks_in(alloc: Global, graph: &Graph, nest: &mut Nest) -> Result<Vec<Ticks>,
 fn least_ticks(
     alloc: Global,
     graph: &mut Graph,
-    nest: &mut Nest,
+    forest: &mut LoopForest,
 ) -> Result<Vec<Ticks>, AllocError> {
-    let mut least = ticks_in(alloc, graph, nest)?;
+    let mut least = ticks_in(alloc, graph, forest)?;
     for counter in 0..4 {
-        if nest.has_choice(counter) {
-            let mut other = nest_of(alloc, graph, counter)?;
+        if forest.has_choice(counter) {
+            let mut other = forest_of(alloc, graph, counter)?;
             let ticks = ticks_in(alloc, graph, &mut other)?;
             if bound(&ticks) < bound(&least) {
                 least = ticks;
@@ -191,8 +199,8 @@ fn counted_ticks(
     lost: u64,
 ) -> Result<Vec<Ticks>, AllocError> {
     graph.cost_less(board, program, lost);
-    let mut nest = nest_of(alloc, graph, 0)?;
-    let least = least_ticks(alloc, graph, &mut nest)?;
+    let mut forest = forest_of(alloc, graph, 0)?;
+    let least = least_ticks(alloc, graph, &mut forest)?;
     paid(alloc, &least, lost, board.contentions())
 }
 
@@ -203,9 +211,9 @@ fn ticks_of(
     board: &Board,
     program: &Program,
     graph: &mut Graph,
-    nest: &mut Nest,
+    forest: &mut LoopForest,
 ) -> Result<Vec<Ticks>, AllocError> {
-    let each = least_ticks(alloc, graph, nest)?;
+    let each = least_ticks(alloc, graph, forest)?;
     let lost = dearest_loss(board, program);
     if lost == 0 || board.contentions() == 0 {
         return Ok(each);
@@ -228,9 +236,9 @@ pub(crate) fn ticks_with_loops(
     requires rows { HasRowsOf board.now (rows_view rows.now) }
 {
     let mut graph = graph_of(alloc, board, program, rows)?;
-    let mut nest = nest_of(alloc, &mut graph, 0)?;
-    match nest.unbounded() {
+    let mut forest = forest_of(alloc, &mut graph, 0)?;
+    match forest.unbounded() {
         Some(place) if !graph.breaks_duty => Err(FindFault::GaveUp(place)),
-        _ => Ok(ticks_of(alloc, board, program, &mut graph, &mut nest)?),
+        _ => Ok(ticks_of(alloc, board, program, &mut graph, &mut forest)?),
     }
 }

@@ -5,16 +5,16 @@
 //! 1, the loop's next turn is 346 ticks away from the read, and that is what a turn costs.
 
 use crate::graph::{Cut, Graph, Way};
+use crate::loop_forest::loop_of;
 use crate::loops::Ticks;
-use crate::nest::loop_of;
 
 /// What is left at a turn counts from here on, since before it less may be left than after it. 0 is
 /// left at a place that isn't known to lead to a turn.
 pub(crate) const TURN: u64 = 1 << 62;
 
-/// Where the ways lead that are measured.
+/// Where paths lead that are measured.
 #[derive(Drop)]
-pub(crate) enum Aim<'a> {
+pub(crate) enum Destination<'a> {
     /// To an end of the program.
     End,
     /// To the next turn of the loop at this depth that a place is in.
@@ -24,12 +24,12 @@ pub(crate) enum Aim<'a> {
     },
 }
 
-/// Ways through a graph at whose places the coefficients are known.
+/// The longest paths of a graph at whose places the coefficients are known.
 #[derive(Drop)]
-pub(crate) struct Measure<'a> {
+pub(crate) struct LongestPaths<'a> {
     pub(crate) graph: &'a Graph,
     pub(crate) ticks: &'a [Ticks],
-    pub(crate) aim: Aim<'a>,
+    pub(crate) to: Destination<'a>,
 }
 
 /// What is left at a place.
@@ -79,19 +79,19 @@ fn rest_to_turn(cut: Cut, depth: usize, there: u64) -> Option<u64> {
     }
 }
 
-impl Measure<'_> {
+impl LongestPaths<'_> {
     /// What is left after a way, if it is measured.
     fn rest(&self, values: &[u64], way: &Way) -> Option<u64> {
         let there = value_at(values, way.to);
-        match &self.aim {
-            Aim::End => {
+        match &self.to {
+            Destination::End => {
                 if way.cut == Cut::Unpaid {
                     None
                 } else {
                     Some(there)
                 }
             }
-            Aim::Turn { depth, inside } => {
+            Destination::Turn { depth, inside } => {
                 let _stays = loop_of(inside, way)?;
                 rest_to_turn(way.cut, *depth, there).filter(|rest| *rest > 0)
             }
@@ -120,7 +120,7 @@ impl Measure<'_> {
     }
 
     /// What is left grows at each place to what its ways owe. False where nothing grows.
-    fn pass(&self, values: &mut [u64], order: &[usize]) -> bool {
+    fn relax_once(&self, values: &mut [u64], order: &[usize]) -> bool {
         let mut grew = false;
         for place in order {
             let owed = self.owed_at(values, *place);
@@ -137,9 +137,9 @@ impl Measure<'_> {
     /// What is left grows until each place has what its ways owe. The order has the places after
     /// those to which they lead but for turns, and a dearest way takes a turn at a place once at
     /// most, so there are no more passes than places.
-    pub(crate) fn settle(&self, values: &mut [u64], order: &[usize]) {
+    pub(crate) fn relax(&self, values: &mut [u64], order: &[usize]) {
         for _ in 0..order.len() {
-            if !self.pass(values, order) {
+            if !self.relax_once(values, order) {
                 break;
             }
         }

@@ -50,7 +50,7 @@ impl Loop {
 
 /// The loops of a program.
 #[derive(Drop)]
-pub(crate) struct Nest {
+pub(crate) struct LoopForest {
     pub(crate) loops: Vec<Loop>,
     /// At each depth the loop of each place.
     pub(crate) depths: Vec<Vec<Option<usize>>>,
@@ -97,7 +97,7 @@ fn mark(marks: &mut [bool; 4], counter: Option<usize>) {
     }
 }
 
-impl Nest {
+impl LoopForest {
     /// A loop joins the others, with one way inside.
     fn push_loop(&mut self, way: &Way) -> Result<usize, AllocError> {
         let number = self.loops.len();
@@ -238,22 +238,22 @@ fn open_ways(graph: &mut Graph) {
 
 /// The loops of a graph, whose ways back are cut. Where several counters can pay for a loop's turns
 /// it is the favored one, or the least.
-pub(crate) fn nest_of(
+pub(crate) fn forest_of(
     alloc: Global,
     graph: &mut Graph,
     favored: usize,
-) -> Result<Nest, AllocError> {
+) -> Result<LoopForest, AllocError> {
     open_ways(graph);
-    let mut nest = Nest {
+    let mut forest = LoopForest {
         loops: Vec::new(alloc),
         depths: Vec::new(alloc),
         order: Vec::new(alloc),
         favored,
     };
     for _ in 0..MOST_DEPTHS {
-        if !nest.deepen(alloc, graph)? {
+        if !forest.deepen(alloc, graph)? {
             break;
         }
     }
-    Ok(nest)
+    Ok(forest)
 }
