@@ -51,6 +51,7 @@ fn tell_lines<W: Write>(errors: &mut W, files: &[SectionFile], notes: &Notes) {
     let _written = write!(errors, "{untold}");
     tell_notes(errors, files, &notes.warnings.of_board);
     tell_notes(errors, files, &notes.warnings.of_program);
+    tell_notes(errors, files, &notes.warnings.of_labels);
     tell_notes(errors, files, notes.warnings.of_run.as_slice());
     tell_notes(errors, files, notes.bound.as_slice());
 }
@@ -78,7 +79,8 @@ fn log_of<'a>(
     let errors = with_named(first, files, &notes.others.notes)?;
     let boards = with_named(errors, files, &notes.warnings.of_board)?;
     let programs = with_named(boards, files, &notes.warnings.of_program)?;
-    let warned = with_named(programs, files, notes.warnings.of_run.as_slice())?;
+    let labels = with_named(programs, files, &notes.warnings.of_labels)?;
+    let warned = with_named(labels, files, notes.warnings.of_run.as_slice())?;
     let named = with_named(warned, files, notes.bound.as_slice())?;
     sarif_log(alloc, VERSION, &named)
 }

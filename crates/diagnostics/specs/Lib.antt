@@ -5,6 +5,7 @@ pub mod BundlePlaces
 pub mod Inputs
 pub mod Boards
 pub mod ProgramWarnings
+pub mod LabelWarnings
 pub mod Warnings
 pub mod OtherErrors
 pub mod Bounds

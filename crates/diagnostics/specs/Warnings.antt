@@ -13,6 +13,7 @@ use Rattle.session.specs.declared.outcome.Outcome.{Outcome}
 use Rattle.session.specs.declared.outcome.Outcome.TheVariants as outcomes
 use Rattle.notes.specs.declared.note.Note.{Note}
 use Rattle.diagnostics.specs.Boards.{board_lines, IsBoardWarning}
+use Rattle.diagnostics.specs.LabelWarnings.{WarnsOfLabels}
 use Rattle.diagnostics.specs.ProgramPlaces.{IsWarningAt}
 use Rattle.diagnostics.specs.ProgramWarnings.{WarnsOfJudged}
 use Rattle.diagnostics.specs.declared.warning.Warnings.{Warnings}
@@ -36,12 +37,14 @@ pub record WarnsOf (sections : List Section) (b : Board) (p : List Instr) (judge
     (found : Option Reached) (warnings : Warnings) : Type 0 where
   pub board : WarnsOfBoard sections b p warnings.of_board.items
   pub program : WarnsOfJudged sections b p judged warnings.of_program.items
+  pub labels : WarnsOfLabels sections judged warnings.of_labels.items
   pub run : WarnsOfBreach sections (option_map (λ x. x.breach) found) warnings.of_run
 
 -- nothing is warned of
 pub record WarnsOfNothing (warnings : Warnings) : Type 0 where
   pub board : warnings.of_board.items ≡ []
   pub program : warnings.of_program.items ≡ []
+  pub labels : warnings.of_labels.items ≡ []
   pub run : warnings.of_run ≡ None
 
 -- the judgement on a table, if it is one

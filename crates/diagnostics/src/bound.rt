@@ -6,11 +6,13 @@ ghost use Rattle.diagnostics.specs.Bounds.{IsBoundOf, IsBoundOfJudgement};
 ghost use Rattle.diagnostics.specs.ProgramPlaces.{IsOnPlace};
 ghost use Rattle.session.specs.Parts.{sections_view};
 
-use crate::dearest::{Dearest, Turns, dearest_way};
+mod dearest;
+
+use crate::bound::dearest::{Dearest, Turns, dearest_way};
 use crate::input::{as_found, program_text};
 use crate::note::told_note;
+use crate::refusal::roads::Judged as Judging;
 use crate::remark::Remark;
-use crate::roads::Judged as Judging;
 use bundles::Section;
 use notes::{Level, Note};
 use session::{Case, Judged, Outcome, Sequence, place_line, place_lines};

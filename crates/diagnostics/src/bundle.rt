@@ -6,11 +6,15 @@ ghost use Rattle.diagnostics.specs.BundlePlaces.{IsOnFault, IsOnBundleLine, IsOn
 ghost use Rattle.diagnostics.specs.BundlePlaces.{IsOnPart};
 ghost use Rattle.session.specs.Parts.{sections_view};
 
-use crate::field::Flaw;
-use crate::header::{missing_section, unexpected_line, unknown_command};
+mod field;
+mod header;
+mod spot;
+
+use crate::bundle::field::Flaw;
+use crate::bundle::header::{missing_section, unexpected_line, unknown_command};
+use crate::bundle::spot::{Spot, flawed_word, spot_flaw};
 use crate::note::{error_note, marked};
 use crate::remark::{Remark, help_of};
-use crate::spot::{Spot, flawed_word, spot_flaw};
 use bundles::{BundleFault, Header, Section};
 use notes::{Note, line_at};
 use session::section_text;

@@ -5,9 +5,10 @@ ghost use Rattle.diagnostics.specs.Inputs.{IsOnMessage};
 ghost use Rattle.session.specs.Parts.{sections_view};
 
 use crate::counted::counted_line;
-use crate::misfit::refuse_misfit;
 use crate::note::error_note;
-use crate::sentence::{Advice, Sentence, Word};
+use crate::run::misfit::refuse_misfit;
+use crate::sentence::Word::{Count, Text};
+use crate::sentence::{Advice, say};
 use bundles::{Exchange, Section};
 use notes::Note;
 use session::section_of;
@@ -30,42 +31,34 @@ fn bad_data(exchange: &Exchange) -> Advice<'static> {
     let found = message.out.len();
     match data_count(message.form) {
         Some(count) if count != found => Advice {
-            message: Sentence::two(
-                "data bytes in \"out=\": expected {}, found {}",
-                Word::Count(count),
-                Word::Count(found),
-            ),
-            help: Some(Sentence::plain("the code stands in \"code=\", and words low byte first")),
+            message: say![
+                "data bytes in \"out=\": expected " {Count(count)} ", found " {Count(found)}
+            ],
+            help: Some(say!["the code stands in \"code=\", and words low byte first"]),
         },
         _ => Advice {
             message: refuse_misfit(message, answer),
-            help: Some(Sentence::plain("addresses, code, count and data are counted")),
+            help: Some(say!["addresses, code, count and data are counted"]),
         },
     }
 }
 
 /// What is said of a block that can't be counted.
 fn bad_block(message: &Message, returned: usize) -> Advice<'static> {
-    let written = Word::Count(message.out.len());
+    let written = Count(message.out.len());
     let message = match message.form {
-        Form::BlockWrite => Sentence::one("a block of {} bytes in \"out=\"", written),
+        Form::BlockWrite => say!["a block of " {written} " bytes in \"out=\""],
         Form::BlockRead if returned == 0 => {
-            Sentence::plain("\"bytes=\" is missing, the block that comes back")
+            say!["\"bytes=\" is missing, the block that comes back"]
         }
-        Form::BlockRead => {
-            Sentence::one("a block of {} bytes in \"bytes=\"", Word::Count(returned))
-        }
-        _ => Sentence::two(
-            "{} bytes in \"out=\" and {} in \"bytes=\"",
-            written,
-            Word::Count(returned),
-        ),
+        Form::BlockRead => { say!["a block of " {Count(returned)} " bytes in \"bytes=\""] }
+        _ => say![{written} " bytes in \"out=\" and " {Count(returned)} " in \"bytes=\""],
     };
     let help = "a block has 1 to 255 bytes of two digits each, as in \"bytes=4143\", and both of a \
                 block call have at most 255 together";
     Advice {
         message,
-        help: Some(Sentence::plain(help)),
+        help: Some(say![{ Text(help) }]),
     }
 }
 
@@ -76,7 +69,7 @@ fn advice_on(exchange: &Exchange, fault: SmbusFault) -> Advice<'static> {
         SmbusFault::BadData => bad_data(exchange),
         SmbusFault::BadBlock => bad_block(message, answer.bytes.len()),
         SmbusFault::Memory => Advice {
-            message: Sentence::plain("out of memory"),
+            message: say!["out of memory"],
             help: None,
         },
     }

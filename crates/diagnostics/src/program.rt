@@ -6,16 +6,28 @@ ghost use Rattle.texts.specs.Words.{lines_by_feed};
 ghost use Rattle.seq_program.specs.Faults.{line_of};
 ghost use Rattle.notes.specs.Notes.{IsOn, IsQuoting};
 
-use crate::bad_number::bad_number;
-use crate::bad_operand::bad_operand;
-use crate::column::blamed_word;
-use crate::ending::{no_end, too_long};
-use crate::label::{LabelLines, labels_for, same_label, unknown_label};
+mod bad_number;
+mod bad_operand;
+pub(crate) mod column;
+mod ending;
+mod habit;
+mod label;
+pub(crate) mod operand;
+mod units;
+pub(crate) mod unknown_command;
+mod unknown_target;
+pub(crate) mod unknown_word;
+
 use crate::note::{marked, program_error};
+use crate::program::bad_number::bad_number;
+use crate::program::bad_operand::bad_operand;
+use crate::program::column::blamed_word;
+use crate::program::ending::{no_end, too_long};
+use crate::program::label::{LabelLines, labels_for, same_label, unknown_label};
+use crate::program::unknown_command::unknown_command;
+use crate::program::unknown_target::unknown_target;
+use crate::program::unknown_word::unknown_word;
 use crate::remark::Remark;
-use crate::unknown_command::unknown_command;
-use crate::unknown_target::unknown_target;
-use crate::unknown_word::unknown_word;
 use board::Board;
 use notes::{Level, Note, line_at};
 use seq_program::{ProgramFault, without_comment};
@@ -68,7 +80,7 @@ fn remark_on(
         ProgramFault::UnknownLabel(_) => unknown_label(alloc, labels, words),
         ProgramFault::SameLabel(_) => same_label(alloc, labels, words),
         ProgramFault::NoEnd(_) => no_end(alloc, text),
-        ProgramFault::TooLong(_) => too_long(alloc),
+        ProgramFault::TooLong(_) => too_long(alloc, text),
         ProgramFault::BadOperand(_) => bad_operand(alloc, words),
     }
 }

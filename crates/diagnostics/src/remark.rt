@@ -1,5 +1,6 @@
 //! What is said of a fault.
 
+use crate::sentence::{Sentence, told};
 use std::alloc::{AllocError, Global};
 
 /// What is said of a fault, and what may help.
@@ -13,6 +14,17 @@ impl Remark {
     /// What is said, and what may help.
     pub(crate) fn new(message: String, help: Option<String>) -> Remark {
         Remark { message, help }
+    }
+
+    /// What a sentence says, and what may help.
+    pub(crate) fn told(
+        alloc: Global,
+        message: Sentence<'_>,
+        help: Option<Sentence<'_>>,
+    ) -> Result<Remark, AllocError> {
+        let message = message.told(alloc)?;
+        let help = told(alloc, help)?;
+        Ok(Remark::new(message, help))
     }
 
     /// A message without help.

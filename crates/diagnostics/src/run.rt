@@ -4,7 +4,15 @@ ghost use Rattle.std.specs.Prelude.{IfOk};
 ghost use Rattle.diagnostics.specs.Inputs.{IsOnRunFault};
 ghost use Rattle.session.specs.Parts.{sections_view};
 
-use crate::run_answer::answer_note;
+mod alert;
+mod bad_start;
+mod contended;
+pub(crate) mod misfit;
+mod returned;
+mod run_answer;
+mod step;
+
+use crate::run::run_answer::answer_note;
 use bundles::Section;
 use notes::Note;
 use session::{Ran, section_of};

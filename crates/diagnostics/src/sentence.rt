@@ -1,16 +1,16 @@
-//! What is said, before it is written: a sentence with gaps, and the words that go into them.
+//! What is said, before it is written: a sentence of words.
 
-use crate::facts_here::{push_pages, push_protects};
+use crate::refusal::facts_here::{push_pages, push_permitting, push_protects};
 use crate::remark::Remark;
 use facts::{PageSet, ProtectSet};
 use notes::Quoted;
 use pmbus_table::{by_code, name_of};
 use std::alloc::{AllocError, Global};
 
-/// What goes into a gap.
+/// A part of a sentence.
 #[derive(Clone, Copy)]
 pub(crate) enum Word<'a> {
-    /// There is no such gap.
+    /// Nothing is said.
     Nothing,
     /// A text as it stands.
     Text(&'a str),
@@ -30,6 +30,12 @@ pub(crate) enum Word<'a> {
     Command(u8),
     /// What is read by it from the target of this name, or what that sends by itself.
     Read(Option<u8>, &'a str),
+    /// An entry of `allow` with this form, and with the command of this code if it has one.
+    Entry(&'a str, Option<u8>),
+    /// The values of WRITE_PROTECT that permit a write of the command with this code.
+    Permitting(u8),
+    /// A voltage by its mantissa, and in microvolts.
+    Voltage(u64, u64),
 }
 
 /// Adds the name of a command.
@@ -77,6 +83,22 @@ fn push_read(
     }
 }
 
+/// Adds an entry of `allow`.
+fn push_entry(
+    alloc: Global,
+    text: &mut String,
+    form: &str,
+    code: Option<u8>,
+) -> Result<(), AllocError> {
+    write!(text, "{{form = \"{form}\"")?;
+    if let Some(code) = code {
+        text.push_str(", command = \"")?;
+        push_command(alloc, text, code)?;
+        text.push_str("\"")?;
+    }
+    text.push_str("}")
+}
+
 /// Adds a word.
 fn push_word(alloc: Global, text: &mut String, word: Word) -> Result<(), AllocError> {
     match word {
@@ -91,6 +113,9 @@ fn push_word(alloc: Global, text: &mut String, word: Word) -> Result<(), AllocEr
         Word::Protects(protects) => push_protects(text, protects),
         Word::Command(code) => push_command(alloc, text, code),
         Word::Read(code, name) => push_read(alloc, text, code, name),
+        Word::Entry(form, code) => push_entry(alloc, text, form, code),
+        Word::Permitting(code) => push_permitting(text, code),
+        Word::Voltage(mantissa, microvolts) => write!(text, "{mantissa}, {microvolts} uV"),
     }
 }
 
@@ -98,15 +123,45 @@ fn push_word(alloc: Global, text: &mut String, word: Word) -> Result<(), AllocEr
 #[derive(Clone, Copy)]
 pub(crate) struct Sentence<'a> {
     template: &'static str,
-    words: [Word<'a>; 6],
+    words: [Word<'a>; 5],
 }
+
+/// A sentence: its texts as literals, and between them its words in braces, at most four. The gaps
+/// of its template are made from them, so none can lack its word. The quotes around a name are the
+/// name's own.
+macro_rules! say {
+    (@ [$($text:literal)*] [$($word:expr,)*] {$said:expr} $($rest:tt)*) => {
+        say!(@ [$($text)* "{}"] [$($word,)* $said,] $($rest)*)
+    };
+    (@ [$($text:literal)*] [$($word:expr,)*] $next:literal $($rest:tt)*) => {
+        say!(@ [$($text)* $next] [$($word,)*] $($rest)*)
+    };
+    (@ [$($text:literal)*] []) => {
+        $crate::sentence::Sentence::plain(concat!($($text),*))
+    };
+    (@ [$($text:literal)*] [$one:expr,]) => {
+        $crate::sentence::Sentence::one(concat!($($text),*), $one)
+    };
+    (@ [$($text:literal)*] [$one:expr, $two:expr,]) => {
+        $crate::sentence::Sentence::two(concat!($($text),*), $one, $two)
+    };
+    (@ [$($text:literal)*] [$one:expr, $two:expr, $three:expr,]) => {
+        $crate::sentence::Sentence::three(concat!($($text),*), $one, $two, $three)
+    };
+    (@ [$($text:literal)*] [$one:expr, $two:expr, $three:expr, $four:expr,]) => {
+        $crate::sentence::Sentence::four(concat!($($text),*), $one, $two, $three, $four)
+    };
+    ($($said:tt)+) => { say!(@ [] [] $($said)+) };
+}
+
+pub(crate) use say;
 
 impl<'a> Sentence<'a> {
     /// A sentence without gaps.
     pub(crate) fn plain(template: &'static str) -> Sentence<'a> {
         Sentence {
             template,
-            words: [Word::Nothing; 6],
+            words: [Word::Nothing; 5],
         }
     }
 
@@ -138,21 +193,9 @@ impl<'a> Sentence<'a> {
         three: Word<'a>,
         four: Word<'a>,
     ) -> Sentence<'a> {
-        Sentence::five(template, one, two, three, four, Word::Nothing)
-    }
-
-    /// A sentence with five gaps.
-    pub(crate) fn five(
-        template: &'static str,
-        one: Word<'a>,
-        two: Word<'a>,
-        three: Word<'a>,
-        four: Word<'a>,
-        five: Word<'a>,
-    ) -> Sentence<'a> {
         Sentence {
             template,
-            words: [one, two, three, four, five, Word::Nothing],
+            words: [one, two, three, four, Word::Nothing],
         }
     }
 
@@ -166,7 +209,7 @@ impl<'a> Sentence<'a> {
         Ok(Remark::new(message, help))
     }
 
-    /// The sentence with its words in its gaps.
+    /// The sentence as a text.
     pub(crate) fn told(&self, alloc: Global) -> Result<String, AllocError> {
         let mut text = String::new(alloc);
         for (piece, word) in self.template.split("{}").zip(&self.words) {
@@ -177,7 +220,7 @@ impl<'a> Sentence<'a> {
     }
 }
 
-/// A sentence with its words in its gaps, if there is one.
+/// The text of a sentence, if there is one.
 pub(crate) fn told(
     alloc: Global,
     sentence: Option<Sentence>,
@@ -196,11 +239,9 @@ pub(crate) struct Advice<'a> {
 }
 
 impl Advice<'_> {
-    /// The sentences with their words in their gaps.
+    /// The sentences as texts.
     pub(crate) fn told(&self, alloc: Global) -> Result<Remark, AllocError> {
-        let message = self.message.told(alloc)?;
-        let help = told(alloc, self.help)?;
-        Ok(Remark::new(message, help))
+        Remark::told(alloc, self.message, self.help)
     }
 }
 

@@ -1,19 +1,27 @@
 //! Warnings of boards, of accepted programs and of runs.
 
 ghost use Rattle.std.specs.Prelude.{◌≡◌, option_map, IfOk};
+ghost use Rattle.diagnostics.specs.LabelWarnings.{WarnsOfLabels};
 ghost use Rattle.diagnostics.specs.ProgramPlaces.{IsWarningAt};
 ghost use Rattle.diagnostics.specs.ProgramWarnings.{WarnsOfJudged};
 ghost use Rattle.diagnostics.specs.Warnings.{AreWarningsOf, WarnsOfBoard, WarnsOfBreach, judged_in};
 ghost use Rattle.session.specs.Parts.{sections_view};
 
-use crate::board_warning::board_warnings;
-use crate::cause::Cause;
-use crate::detail::instr_cause;
+mod allowed;
+mod board_warning;
+mod label_warning;
+mod program_lint;
+mod program_warning;
+
 use crate::input::program_text;
 use crate::note::warning_note;
-use crate::program_warning::program_warnings;
+use crate::refusal::cause::Cause;
+use crate::refusal::detail::instr_cause;
 use crate::refusal::{RefusalKind, blaming, page_of};
 use crate::remark::Remark;
+use crate::warning::board_warning::board_warnings;
+use crate::warning::label_warning::label_warnings;
+use crate::warning::program_warning::program_warnings;
 use board::Board;
 use bundles::Section;
 use facts::{Row, Rule};
@@ -22,6 +30,7 @@ use run_monitor::{Breach, Reached};
 use seq_program::Program;
 use session::{Case, Judged, Outcome, Scenario, Sequence, Trial, place_line};
 use std::alloc::{AllocError, Global};
+use table_check::Judgement;
 
 /// What breaks a rule, in a sentence.
 fn sentence_of(rule: Rule) -> &'static str {
@@ -112,6 +121,8 @@ pub struct Warnings {
     pub of_board: Vec<Note>,
     /// What of an accepted program may be meant otherwise.
     pub of_program: Vec<Note>,
+    /// The labels of an accepted program to which no line jumps.
+    pub of_labels: Vec<Note>,
     /// The first step of a run that breaks a rule.
     pub of_run: Option<Note>,
 }
@@ -126,6 +137,7 @@ impl Warnings {
         Warnings {
             of_board: Vec::new(alloc),
             of_program: Vec::new(alloc),
+            of_labels: Vec::new(alloc),
             of_run: None,
         }
     }
@@ -148,6 +160,24 @@ fn judged_warnings(
     }
 }
 
+/// What is warned of a program's labels, if there is a judgement that accepts it.
+fn labels_judged(
+    alloc: Global,
+    sections: &[Section<'_>],
+    judged: Option<&Judged>,
+) -> Result<Vec<Note>, AllocError>
+    ensures { IfOk result (λ warnings. WarnsOfLabels (sections_view sections.now)
+        (option_map (λ x. x.now) judged.entry) warnings.items) }
+{
+    match judged {
+        Some(judged) if matches!(judged.judgement, Judgement::Accepted { .. }) => {
+            let text = program_text(alloc, sections)?;
+            label_warnings(alloc, &text)
+        }
+        _ => Ok(Vec::new(alloc)),
+    }
+}
+
 /// What is warned of a board, a program on it, the judgement on that, and its run, if that breaks a
 /// rule first here.
 fn warnings_of(
@@ -162,15 +192,19 @@ fn warnings_of(
         program.now warnings.of_board.items) }
     ensures program { IfOk result (λ warnings. WarnsOfJudged (sections_view sections.now) board.now
         program.now (option_map (λ x. x.now) judged.entry) warnings.of_program.items) }
+    ensures labels { IfOk result (λ warnings. WarnsOfLabels (sections_view sections.now)
+        (option_map (λ x. x.now) judged.entry) warnings.of_labels.items) }
     ensures run { IfOk result (λ warnings. WarnsOfBreach (sections_view sections.now)
         (option_map (λ x. x.now.breach) found.entry) warnings.of_run) }
 {
     let of_board = board_warnings(alloc, sections, board, program)?;
     let of_program = judged_warnings(alloc, sections, board, program, judged)?;
+    let of_labels = labels_judged(alloc, sections, judged)?;
     let of_run = run_warning(alloc, sections, board, program, found)?;
     Ok(Warnings {
         of_board,
         of_program,
+        of_labels,
         of_run,
     })
 }
@@ -193,7 +227,8 @@ fn judged_in(judged: &Result<Judged, usize>) -> Option<&Judged>
 ///
 /// Of a program that is accepted: `fail` where rails may be on, a rail that may be turned on before
 /// a voltage was written to it, and one that may be turned off while another may be on that needs
-/// it. Each is on the line of its place, and a comment there allows it: `# allow on-at-fail`.
+/// it, and what else `program_lints` finds. Each is on the line of its place, and a comment there
+/// allows it: `# allow on-at-fail`. So has each label to which no line jumps, on its own line.
 ///
 /// Of a run: the first step that breaks what programs are checked by, a message that no entry
 /// allows, a write that is protected, a voltage over its limit, a rail that is turned on before its

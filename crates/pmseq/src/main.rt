@@ -26,6 +26,7 @@ fn tell(errors: &mut Stderr, notes: &Notes) {
     let _written = write!(errors, "{untold}");
     write_notes(errors, &notes.warnings.of_board);
     write_notes(errors, &notes.warnings.of_program);
+    write_notes(errors, &notes.warnings.of_labels);
     write_notes(errors, notes.warnings.of_run.as_slice());
 }
 

@@ -11,8 +11,8 @@ use Rattle.board.specs.Valid.{IsBoard}
 use Rattle.seq_program.specs.declared.instr.Instr.{Instr}
 use Rattle.facts.specs.domain.Rows.{Row}
 use Rattle.facts.specs.domain.Sets.{Set, rails_in}
-use Rattle.program_lints.specs.Lints.{Lints, next_leaning, leaning, leans_on, may_turn_off}
-use Rattle.program_lints.specs.Lints.{need_lints_in, need_off}
+use Rattle.program_lints.specs.Lints.{Lints, next_leaning, leaning, leans_on, may_be_lost}
+use Rattle.program_lints.specs.Lints.{need_lints_in, need_loss}
 use Rattle.program_lints.proofs.Gained.{no_rail}
 use Rattle.program_lints.proofs.Places.{found, index_at, within}
 
@@ -72,12 +72,12 @@ one_more_lint f rails k old new all lt pushed before =
     split : flat_map f (enumerate_from k (drop k rails)) ≡ f (k, x.0) ++ later
     split = ap (λ (rs : List Rail). flat_map f (enumerate_from k rs)) cut
 
--- the lints of a rail that may be turned off
+-- the lints of a rail that may be lost
 pub of_need : (b : Board) (row : Row) (i : Instr) (on leaning : Set) (place need : ℕ)
     (rail : Rail) (turns : Bool) (old new : Lints) → turns ≡ true
-    → turns ≡ may_turn_off b row i need → leaning ≡ leans_on b need
+    → turns ≡ may_be_lost b row on i need → leaning ≡ leans_on b need
     → new ≡ old ++ need_lints_in b leaning on place need
-    → new ≡ old ++ need_off b row i on place (need, rail)
+    → new ≡ old ++ need_loss b row i on place (need, rail)
 of_need b row i on leaning place need rail turns old new turned is leans told =
     told ∙ (ap (λ (s : Set). old ++ need_lints_in b s on place need) leans
     ∙ ap (λ (t : Bool). old ++ (if t then need_lints_in b (leans_on b need) on place need else []))

@@ -13,3 +13,4 @@ pub mod Below
 pub mod Pushed
 pub mod Leaning
 pub mod Needing
+pub mod LineEnds

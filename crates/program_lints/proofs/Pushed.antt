@@ -8,7 +8,7 @@ use Rattle.facts.specs.domain.Sets.{Set}
 use Rattle.table_check.specs.Tables.{Table, row_of}
 use Rattle.program_lints.specs.declared.power.PowerStates.{PowerStates}
 use Rattle.program_lints.specs.Lints.{Lints, AreFailLints, AreLintsBelow, before_voltages}
-use Rattle.program_lints.specs.Lints.{need_offs, table_lints}
+use Rattle.program_lints.specs.Lints.{need_losses, table_lints}
 use Rattle.program_lints.specs.PowerStates.{may_be_on, has_voltage}
 use Rattle.program_lints.specs.Telling.{TellsFails, TellsPlace}
 
@@ -17,7 +17,7 @@ pub of_place : (b : Board) (p : List Instr) (t : Table) (s : PowerStates) (place
     (on has : Set)
     → Some i ≡ at → Some row ≡ there → on ≡ may_be_on s place → has ≡ has_voltage s place
     → TellsFails b i on place old mid → more ≡ mid ++ before_voltages b row i has place
-    → most ≡ more ++ need_offs b row i on place
+    → most ≡ more ++ need_losses b row i on place
     → new ≡ most ++ table_lints b p t row i place → TellsPlace b p t s place at there old new
 of_place b p t s place i row at there old mid more most new on has here row_here on_is has_is
     fails volts needs tables =
@@ -30,7 +30,7 @@ of_place b p t s place i row at there old mid more most new on has here row_here
         told = ap (λ xs. fails.fails ++ xs)
             (ap (λ (x : Set). before_voltages b row i x place ++ (offs ++ rest)) has_is
             ∙ ap (λ (x : Set). before_voltages b row i (has_voltage s place) place
-            ++ (need_offs b row i x place ++ rest)) on_is);
+            ++ (need_losses b row i x place ++ rest)) on_is);
       };
       told = tables ∙ (ap (λ xs. xs ++ rest) needs
           ∙ (append_assoc more offs rest
@@ -44,7 +44,7 @@ of_place b p t s place i row at there old mid more most new on has here row_here
     voltages = before_voltages b row i has place
 
     offs : Lints
-    offs = need_offs b row i on place
+    offs = need_losses b row i on place
 
     rest : Lints
     rest = table_lints b p t row i place

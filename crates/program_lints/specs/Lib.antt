@@ -9,6 +9,7 @@ pub mod Reached
 pub mod ProtectLeft
 pub mod NoRail
 pub mod UnservedAlert
+pub mod UnusedLabels
 pub mod Lints
 pub mod Telling
 pub mod Needing

@@ -7,7 +7,7 @@ use Rattle.program_lints.specs.declared.lint.ProgramLint.TheVariants as lint
 abbrev pub lint_place : ProgramLint → ℕ
 lint_place (lint.OnAtFail place rails) = place
 lint_place (lint.BeforeVoltage place rail) = place
-lint_place (lint.NeedOff place need rail) = place
+lint_place (lint.NeedLost place need rail) = place
 lint_place (lint.Unreached place) = place
 lint_place (lint.ProtectLeft place target) = place
 lint_place (lint.NoRail place target) = place
@@ -17,7 +17,7 @@ lint_place (lint.UnservedAlert place) = place
 abbrev pub lint_name : ProgramLint → List ℕ
 lint_name (lint.OnAtFail place rails) = codes "on-at-fail"
 lint_name (lint.BeforeVoltage place rail) = codes "before-voltage"
-lint_name (lint.NeedOff place need rail) = codes "need-off"
+lint_name (lint.NeedLost place need rail) = codes "need-lost"
 lint_name (lint.Unreached place) = codes "unreached"
 lint_name (lint.ProtectLeft place target) = codes "protect-left"
 lint_name (lint.NoRail place target) = codes "no-rail"

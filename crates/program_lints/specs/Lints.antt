@@ -54,6 +54,15 @@ disables value = not (enables value)
 abbrev pub may_turn_off : Board → Row → Instr → ℕ → Bool
 may_turn_off b row i d = touches_at b row (operation_target disables i) d
 
+-- the program ends where a rail may be on that isn't known to be good
+abbrev pub ends_unsure : Row → Set → Instr → ℕ → Bool
+ends_unsure row on instr.End d = on d && not (row.good d)
+ends_unsure row on i d = false
+
+-- a rail may be turned off, or isn't known to be good at the end
+abbrev pub may_be_lost : Board → Row → Set → Instr → ℕ → Bool
+may_be_lost b row on i d = may_turn_off b row i d || ends_unsure row on i d
+
 -- an entry of the rail's target takes voltages
 abbrev pub writes_word : Form → Bool
 writes_word form.WriteWord = true
@@ -96,21 +105,22 @@ leaning b (suc needs) need = next_leaning b (leaning b needs need)
 abbrev pub leans_on : Board → ℕ → Set
 leans_on b need = λ d. leaning b 64 need d && not (d == need)
 
--- a rail may be turned off while another may be on that needs it
+-- a rail may be lost while another may be on that needs it
 abbrev pub need_lints : Set → Set → ℕ → ℕ → ℕ × Rail → Lints
 need_lints leaning on place need rail =
-    only_if (leaning rail.0 && on rail.0) (lint.NeedOff place need rail.0)
+    only_if (leaning rail.0 && on rail.0) (lint.NeedLost place need rail.0)
 
 abbrev pub need_lints_in : Board → Set → Set → ℕ → ℕ → Lints
 need_lints_in b leaning on place need =
     flat_map (need_lints leaning on place need) (enumerate_from 0 b.rails)
 
-abbrev pub need_off : Board → Row → Instr → Set → ℕ → ℕ × Rail → Lints
-need_off b row i on place need =
-    if may_turn_off b row i need.0 then need_lints_in b (leans_on b need.0) on place need.0 else []
+abbrev pub need_loss : Board → Row → Instr → Set → ℕ → ℕ × Rail → Lints
+need_loss b row i on place need =
+    if may_be_lost b row on i need.0 then need_lints_in b (leans_on b need.0) on place need.0
+    else []
 
-abbrev pub need_offs : Board → Row → Instr → Set → ℕ → Lints
-need_offs b row i on place = flat_map (need_off b row i on place) (enumerate_from 0 b.rails)
+abbrev pub need_losses : Board → Row → Instr → Set → ℕ → Lints
+need_losses b row i on place = flat_map (need_loss b row i on place) (enumerate_from 0 b.rails)
 
 -- the rails of the board that may be on
 abbrev pub on_board : Board → Set → Set
@@ -165,7 +175,7 @@ pub record AreLintsOf (b : Board) (p : List Instr) (t : Table) (row : Row) (i : 
   pub fails : Lints
   pub at_fail : AreFailLints b i on place fails
   pub told : lints ≡ fails ++ (before_voltages b row i has place
-      ++ (need_offs b row i on place ++ table_lints b p t row i place))
+      ++ (need_losses b row i on place ++ table_lints b p t row i place))
 
 -- those of a place
 abbrev pub AreLintsAt : Board → List Instr → Table → PowerStates → ℕ → Option Instr → Option Row

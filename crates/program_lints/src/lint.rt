@@ -21,9 +21,10 @@ pub enum ProgramLint {
         place: usize,
         rail: usize,
     },
-    /// The first rail may be turned off here while the second may be on, which needs it, itself or
-    /// through needs of needs.
-    NeedOff {
+    /// The first rail may be turned off here, or the program ends here and the rail may be on and
+    /// isn't known to be good, while the second may be on, which needs it, itself or through needs
+    /// of needs.
+    NeedLost {
         place: usize,
         need: usize,
         rail: usize,

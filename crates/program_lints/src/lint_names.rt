@@ -13,7 +13,7 @@ impl ProgramLint {
         match self {
             ProgramLint::OnAtFail { place, .. }
             | ProgramLint::BeforeVoltage { place, .. }
-            | ProgramLint::NeedOff { place, .. }
+            | ProgramLint::NeedLost { place, .. }
             | ProgramLint::Unreached { place }
             | ProgramLint::ProtectLeft { place, .. }
             | ProgramLint::NoRail { place, .. }
@@ -28,7 +28,7 @@ impl ProgramLint {
         match self {
             ProgramLint::OnAtFail { .. } => "on-at-fail",
             ProgramLint::BeforeVoltage { .. } => "before-voltage",
-            ProgramLint::NeedOff { .. } => "need-off",
+            ProgramLint::NeedLost { .. } => "need-lost",
             ProgramLint::Unreached { .. } => "unreached",
             ProgramLint::ProtectLeft { .. } => "protect-left",
             ProgramLint::NoRail { .. } => "no-rail",

@@ -10,7 +10,7 @@ ghost use Rattle.program_lints.specs.Telling.{TellsFails, TellsPlace};
 use crate::before_voltage::push_before_voltages;
 use crate::flow::with_rail;
 use crate::lint::ProgramLint;
-use crate::need_off::push_need_offs;
+use crate::need_loss::push_need_losses;
 use crate::no_rail::push_no_rail;
 use crate::power::{PowerStates, power_states};
 use crate::protect_left::push_protects_left;
@@ -102,16 +102,16 @@ fn push_place_lints(
     let on = states.may_be_on(place);
     push_on_at_fail(lints, board, instr, on, place)?;
     push_before_voltages(lints, board, row, instr, states.has_voltage(place), place)?;
-    push_need_offs(lints, board, row, instr, on, place)?;
+    push_need_losses(lints, board, row, instr, on, place)?;
     push_table_lints(lints, board, program, table, row, instr, place)
 }
 
 /// The lints of a program with an accepted table of facts, place by place: `fail` while rails may
 /// be on, rails that may be turned on before a voltage was surely written to them, and rails that
-/// may be turned off while others may be on that need them; then endings that may leave
-/// WRITE_PROTECT otherwise than it began, power for pages without a rail, and looks at SMBALERT#
-/// where nothing asks who pulls it low; and stretches to which nothing leads. A table that isn't
-/// accepted says nothing of runs. Fails only for want of memory.
+/// may be turned off, or aren't known to be good at the end, while others may be on that need them;
+/// then endings that may leave WRITE_PROTECT otherwise than it began, power for pages without a
+/// rail, and looks at SMBALERT# where nothing asks who pulls it low; and stretches to which nothing
+/// leads. A table that isn't accepted says nothing of runs. Fails only for want of memory.
 pub fn program_lints(
     alloc: Global,
     board: &Board,

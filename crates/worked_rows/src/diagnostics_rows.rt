@@ -53,7 +53,9 @@ help: lines end with LF alone, and a CR is a character like any other
     ),
 ];
 
-const TOO_LONG: &str = "%program:1025: error: a program has at most 1024 instructions
+const TOO_LONG: &str =
+    "%program:1025: error: a program has at most 1024 instructions, and this one \
+                        has 1025
     end
 ";
 
@@ -155,9 +157,9 @@ fn note_on_board(alloc: Global, board: &str, table: &str, count: usize) -> Noted
 fn counts_of_tables(rt: HostRuntime) {
     let want = "%board:1: error: the board has no target\n";
     begins(&rt, note_on_board(rt.alloc(), "", "", 0), want);
-    let want = "%board:17: error: a board has at most 16 targets, and this is one more\n";
+    let want = "%board:17: error: a board has at most 16 targets, and this one has 17\n";
     begins(&rt, note_on_board(rt.alloc(), "", "[[target]]\n", 17), want);
-    let want = "%board:107: error: a board has at most 64 rails, and this is one more\n";
+    let want = "%board:107: error: a board has at most 64 rails, and this one has 67\n";
     begins(&rt, note_on_board(rt.alloc(), TWO, "[[rail]]\n", 65), want);
 }
 

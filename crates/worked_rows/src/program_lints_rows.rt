@@ -7,6 +7,7 @@ use board::Board;
 use fact_search::find;
 use program_lints::{
     ProgramLint, closed_sets_are_sure, leaning_is_needing, power_states, program_lints,
+    unused_labels,
 };
 use seq_program::{Program, read_program};
 use std::alloc::Global;
@@ -75,7 +76,7 @@ type Told = (&'static str, usize, usize);
 fn told_of(lint: &ProgramLint) -> Told {
     let rail = match lint {
         ProgramLint::OnAtFail { rails, .. } => usize::from(rails.contains(1)),
-        ProgramLint::BeforeVoltage { rail, .. } | ProgramLint::NeedOff { rail, .. } => *rail,
+        ProgramLint::BeforeVoltage { rail, .. } | ProgramLint::NeedLost { rail, .. } => *rail,
         ProgramLint::ProtectLeft { target, .. } | ProgramLint::NoRail { target, .. } => *target,
         ProgramLint::Unreached { .. } | ProgramLint::UnservedAlert { .. } => 0,
     };
@@ -109,6 +110,27 @@ fn lints_of_a_program(rt: HostRuntime) {
         lint(rt.alloc(), 0),
         Some((("before-voltage", 5, 1), 3)),
     );
-    same(&rt, lint(rt.alloc(), 1), Some((("need-off", 6, 1), 3)));
+    same(&rt, lint(rt.alloc(), 1), Some((("need-lost", 6, 1), 3)));
     same(&rt, lint(rt.alloc(), 2), Some((("on-at-fail", 8, 1), 3)));
+}
+
+/// A label behind which a comment names another, one that is jumped to, and one that stands at the
+/// end of a line of one word.
+const LABELS: &str = "start: # goto end
+wait 1
+send a CLEAR_FAULTS else good
+# goto start
+good:
+end:
+end
+";
+
+fn unused_in(alloc: Global, text: &str) -> Option<(usize, usize, usize)> {
+    let unused = unused_labels(alloc, text).ok()?;
+    Some((unused.len(), *unused.get(0)?, *unused.get(1)?))
+}
+
+#[test]
+fn labels_that_nothing_jumps_to(rt: HostRuntime) {
+    same(&rt, unused_in(rt.alloc(), LABELS), Some((2, 1, 6)));
 }

@@ -3,7 +3,8 @@
 use crate::boards::describe::name_of;
 use crate::boards::draft::{Draft, items_at};
 use crate::boards::key_words::holds;
-use crate::sentence::{Sentence, Word};
+use crate::sentence::Word::{Name, Text};
+use crate::sentence::{Sentence, Word, say};
 use board::{Key, Place};
 use std::alloc::{AllocError, Global};
 use toml::{Table, Value};
@@ -34,7 +35,7 @@ impl<'a> Blamed<'a> {
 
     /// What the table is called, in a sentence.
     pub(crate) fn word(&self) -> Word<'_> {
-        Word::Text(&self.name)
+        Text(&self.name)
     }
 
     /// What stands at a key of the table.
@@ -54,7 +55,7 @@ impl<'a> Blamed<'a> {
 
     /// What stands at a key of such tables, as help.
     pub(crate) fn key_help(&self, key: Key) -> Option<Sentence<'static>> {
-        let holds = Word::Text(holds(self.place, key)?);
-        Some(Sentence::two("\"{}\" is {}", Word::Text(key.name()), holds))
+        let holds = Text(holds(self.place, key)?);
+        Some(say![{Name(key.name())} " is " {holds}])
     }
 }

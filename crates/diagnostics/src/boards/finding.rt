@@ -11,6 +11,8 @@ use crate::boards::words::{
     bad_page, self_need, unknown_command, unknown_form, unknown_need, unknown_target,
 };
 use crate::remark::Remark;
+use crate::sentence::Word::Count;
+use crate::sentence::say;
 use board::{At, FaultKind, Key, Place, Site};
 use std::alloc::{AllocError, Global};
 use toml::{Table, Value};
@@ -30,21 +32,25 @@ fn bare(alloc: Global, kind: FaultKind) -> Result<Remark, AllocError> {
 }
 
 /// What is said of a board with too many tables.
-fn too_many(alloc: Global, place: Place) -> Result<Remark, AllocError> {
-    Remark::plain(
-        alloc,
-        match place {
-            Place::Rail(_) => "a board has at most 64 rails, and this is one more",
-            _ => "a board has at most 16 targets, and this is one more",
-        },
-    )
+fn too_many(alloc: Global, draft: &Draft<'_>, place: Place) -> Result<Remark, AllocError> {
+    let message = match place {
+        Place::Rail(_) => {
+            let count = Count(draft.rails.len());
+            say!["a board has at most 64 rails, and this one has " {count}]
+        }
+        _ => {
+            let count = Count(draft.targets.len());
+            say!["a board has at most 16 targets, and this one has " {count}]
+        }
+    };
+    Remark::told(alloc, message, None)
 }
 
 /// What is said of a table as a whole.
 fn table_remark(alloc: Global, blamed: &Blamed<'_>) -> Result<Remark, AllocError> {
     match blamed.draft.fault.kind {
         FaultKind::SameName => same_name(alloc, blamed),
-        FaultKind::TooMany => too_many(alloc, blamed.place),
+        FaultKind::TooMany => too_many(alloc, blamed.draft, blamed.place),
         kind => bare(alloc, kind),
     }
 }

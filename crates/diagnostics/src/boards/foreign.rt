@@ -3,7 +3,8 @@
 use crate::boards::blamed::Blamed;
 use crate::boards::draft::items_at;
 use crate::remark::Remark;
-use crate::sentence::{Advice, Sentence, Word};
+use crate::sentence::Word::{Count, Hex};
+use crate::sentence::{Advice, Sentence, Word, say};
 use board::{FaultKind, Key};
 use std::alloc::{AllocError, Global};
 use toml::Value;
@@ -18,12 +19,9 @@ fn is_of_target(targets: &[Value], address: &Value) -> bool {
 /// What is said of an address that stands twice, or is one of a target.
 fn same_address(blamed: &Blamed<'_>, address: &Value, hex: Word<'static>) -> Sentence<'static> {
     if is_of_target(blamed.draft.targets, address) {
-        Sentence::one(
-            "\"foreign\" of the board has the address 0x{} of a target",
-            hex,
-        )
+        say!["\"foreign\" of the board has the address 0x" {hex} " of a target"]
     } else {
-        Sentence::one("\"foreign\" of the board has 0x{} twice", hex)
+        say!["\"foreign\" of the board has 0x" {hex} " twice"]
     }
 }
 
@@ -34,10 +32,10 @@ pub(crate) fn foreign_remark(
     address: &Value,
 ) -> Result<Remark, AllocError> {
     let number = u16::try_from(address.as_integer().unwrap_or(0)).unwrap_or(0);
-    let hex = Word::Hex(number, 2);
+    let hex = Hex(number, 2);
     let message = match blamed.draft.fault.kind {
         FaultKind::SameAddress => same_address(blamed, address, hex),
-        _ => Sentence::one("\"foreign\" of the board can't have 0x{}", hex),
+        _ => say!["\"foreign\" of the board can't have 0x" {hex}],
     };
     let help = blamed.key_help(Key::Foreign);
     Advice { message, help }.told(alloc)
@@ -46,10 +44,7 @@ pub(crate) fn foreign_remark(
 /// What is said of too many addresses.
 pub(crate) fn too_many(alloc: Global, blamed: &Blamed<'_>) -> Result<Remark, AllocError> {
     let list = items_at(blamed.table, "foreign");
-    let message = Sentence::one(
-        "\"foreign\" of the board has {} addresses",
-        Word::Count(list.len()),
-    );
+    let message = say!["\"foreign\" of the board has " {Count(list.len())} " addresses"];
     let help = blamed.key_help(Key::Foreign);
     Advice { message, help }.told(alloc)
 }

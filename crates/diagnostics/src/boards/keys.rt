@@ -2,10 +2,11 @@
 
 use crate::boards::blamed::Blamed;
 use crate::boards::describe::shown;
-use crate::boards::key_words::{has_key, key_names};
+use crate::boards::key_words::{has_key, holds, key_names};
 use crate::listing::quoted;
 use crate::remark::Remark;
-use crate::sentence::{Advice, Sentence, Word};
+use crate::sentence::Word::{Name, Text};
+use crate::sentence::{Sentence, say};
 use board::{Key, Place};
 use notes::lowercase_suggestion;
 use std::alloc::{AllocError, Global};
@@ -15,14 +16,11 @@ use toml::Value;
 fn no_target(alloc: Global) -> Result<Remark, AllocError> {
     let names = key_names(alloc, Place::Target(0))?;
     let names = quoted(alloc, &names)?;
-    let advice = Advice {
-        message: Sentence::plain("the board has no target"),
-        help: Some(Sentence::one(
-            "a target begins with a line [[target]]; its keys are {}",
-            Word::Text(&names),
-        )),
-    };
-    advice.told(alloc)
+    Remark::told(
+        alloc,
+        say!["the board has no target"],
+        Some(say!["a target begins with a line [[target]]; its keys are " {Text(&names)}]),
+    )
 }
 
 /// What is said of a table without a key that it needs.
@@ -34,15 +32,11 @@ pub(crate) fn missing_key(
     if blamed.place == Place::Board {
         return no_target(alloc);
     }
-    let advice = Advice {
-        message: Sentence::two(
-            "{} has no key \"{}\"",
-            blamed.word(),
-            Word::Text(key.name()),
-        ),
-        help: blamed.key_help(key),
-    };
-    advice.told(alloc)
+    Remark::told(
+        alloc,
+        say![{blamed.word()} " has no key " {Name(key.name())}],
+        blamed.key_help(key),
+    )
 }
 
 /// What is said of a key that no table of its kind has.
@@ -50,23 +44,15 @@ fn unknown_key(alloc: Global, blamed: &Blamed<'_>, key: &str) -> Result<Remark, 
     let names = key_names(alloc, blamed.place)?;
     let help = lowercase_suggestion(alloc, key, &names)?;
     let names = quoted(alloc, &names)?;
-    let message = Sentence::three(
-        "unknown key {} of {}; its keys are {}",
-        Word::Name(key),
-        blamed.word(),
-        Word::Text(&names),
-    );
+    let message = say![
+        "unknown key " {Name(key)} " of " {blamed.word()} "; its keys are " {Text(&names)}
+    ];
     message.helped_by(alloc, help)
 }
 
 /// What is said of a key that an entry of this form hasn't.
 fn key_of_other_form<'a>(blamed: &'a Blamed<'_>, key: &'a str) -> Sentence<'a> {
-    Sentence::three(
-        "{} can't have \"{}\": {} has none",
-        blamed.word(),
-        Word::Text(key),
-        Word::Name(blamed.text(Key::Form)),
-    )
+    say![{blamed.word()} " can't have " {Name(key)} ": " {Name(blamed.text(Key::Form))} " has none"]
 }
 
 /// What is said of a key that a table can't have: none of its kind has it, or none of its form.
@@ -93,16 +79,32 @@ pub(crate) fn bad_value(
     help: Option<Sentence>,
 ) -> Result<Remark, AllocError> {
     let value = shown(alloc, value)?;
-    let advice = Advice {
-        message: Sentence::three(
-            "\"{}\" of {} can't be {}",
-            Word::Text(key.name()),
-            blamed.word(),
-            Word::Text(&value),
-        ),
+    Remark::told(
+        alloc,
+        say![{Name(key.name())} " of " {blamed.word()} " can't be " {Text(&value)}],
         help,
-    };
-    advice.told(alloc)
+    )
+}
+
+/// Whether a text that stands at a key would be a number, a list or a truth value without its
+/// quotes.
+fn is_quoted_value(key: Key, text: &str) -> bool {
+    match key {
+        Key::Name | Key::Target | Key::Form | Key::Command => false,
+        _ if text == "true" || text == "false" => true,
+        _ => text.starts_with(['-', '[', '0', '1', '2', '3', '4', '5', '6', '7', '8', '9']),
+    }
+}
+
+/// What may help where something of another sort stands at a key.
+fn sort_help(blamed: &Blamed<'_>, key: Key, value: &Value) -> Option<Sentence<'static>> {
+    let holds = Text(holds(blamed.place, key)?);
+    match value {
+        Value::String(text) if is_quoted_value(key, text) => {
+            Some(say!["write it without quotes: " {Name(key.name())} " is " {holds}])
+        }
+        _ => blamed.key_help(key),
+    }
 }
 
 /// What is said of a key at which something of another sort stands.
@@ -112,19 +114,16 @@ pub(crate) fn bad_sort(
     key: Key,
     value: &Value,
 ) -> Result<Remark, AllocError> {
-    let sort = value.type_str();
+    let (sort, help) = (value.type_str(), sort_help(blamed, key, value));
     let value = shown(alloc, value)?;
-    let advice = Advice {
-        message: Sentence::four(
-            "\"{}\" of {} can't be the {} {}",
-            Word::Text(key.name()),
-            blamed.word(),
-            Word::Text(sort),
-            Word::Text(&value),
-        ),
-        help: blamed.key_help(key),
-    };
-    advice.told(alloc)
+    Remark::told(
+        alloc,
+        say![
+            {Name(key.name())} " of " {blamed.word()} " can't be the " {Text(sort)} " "
+            {Text(&value)}
+        ],
+        help,
+    )
 }
 
 /// What is said of a list with an item of another sort.
@@ -134,17 +133,14 @@ pub(crate) fn bad_item(
     key: Key,
     item: &Value,
 ) -> Result<Remark, AllocError> {
-    let sort = item.type_str();
+    let (sort, help) = (item.type_str(), sort_help(blamed, key, item));
     let item = shown(alloc, item)?;
-    let advice = Advice {
-        message: Sentence::four(
-            "\"{}\" of {} can't have the {} {} in it",
-            Word::Text(key.name()),
-            blamed.word(),
-            Word::Text(sort),
-            Word::Text(&item),
-        ),
-        help: blamed.key_help(key),
-    };
-    advice.told(alloc)
+    Remark::told(
+        alloc,
+        say![
+            {Name(key.name())} " of " {blamed.word()} " can't have the " {Text(sort)} " "
+            {Text(&item)} " in it"
+        ],
+        help,
+    )
 }

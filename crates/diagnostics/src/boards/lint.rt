@@ -1,8 +1,9 @@
 //! What is said of a lint.
 
-use crate::facts_here::{rail_word, target_word};
+use crate::refusal::facts_here::{rail_word, target_word};
 use crate::remark::Remark;
-use crate::sentence::{Advice, Sentence, Word};
+use crate::sentence::Word::{Hex, Number, Text, Voltage};
+use crate::sentence::{Advice, Sentence, Word, say};
 use board::{Board, Place};
 use board_lints::{Lack, Lint};
 use notes::Quoted;
@@ -55,27 +56,24 @@ pub(crate) fn site_of(lint: &Lint) -> (Place, &'static str) {
 fn advice<'a>(message: Sentence<'a>, help: &'static str) -> Advice<'a> {
     Advice {
         message,
-        help: Some(Sentence::plain(help)),
+        help: Some(say![{ Text(help) }]),
     }
 }
 
 fn of_pages(board: &Board, target: usize, read: u8) -> Advice<'_> {
-    let message = Sentence::two(
-        "PAGE of {} may be 255 at the start, all pages, and the program reads {}, which needs one",
-        target_word(board, target),
-        Word::Command(read),
-    );
+    let message = say![
+        "PAGE of " {target_word(board, target)}
+        " may be 255 at the start, all pages, and the program reads " {Word::Command(read)}
+        ", which needs one"
+    ];
     advice(message, SELECT)
 }
 
 fn of_protect(board: &Board, target: usize, protect: u8, written: u8) -> Advice<'_> {
-    let message = Sentence::three(
-        "WRITE_PROTECT of {} may be 0x{} at the start, which forbids {}, and the program writes \
-         that",
-        target_word(board, target),
-        Word::Hex(u16::from(protect), 2),
-        Word::Command(written),
-    );
+    let message = say![
+        "WRITE_PROTECT of " {target_word(board, target)} " may be 0x" {Hex(u16::from(protect), 2)}
+        " at the start, which forbids " {Word::Command(written)} ", and the program writes that"
+    ];
     advice(message, UNPROTECT)
 }
 
@@ -94,7 +92,7 @@ fn circle_text(alloc: Global, board: &Board, circle: &[usize]) -> Result<String,
 
 fn of_circle(alloc: Global, board: &Board, circle: &[usize]) -> Result<Remark, AllocError> {
     let text = circle_text(alloc, board, circle)?;
-    let message = Sentence::one("needs in a circle: {}", Word::Text(&text));
+    let message = say!["needs in a circle: " {Text(&text)}];
     advice(message, NONE_GOOD).told(alloc)
 }
 
@@ -108,7 +106,7 @@ fn target_of(board: &Board, rail: usize) -> Word<'_> {
 
 fn of_idle(board: &Board, rail: usize, lacks: Lack) -> Advice<'_> {
     let (target, name) = (target_of(board, rail), rail_word(board, rail));
-    let message = Sentence::two("no entry of {} can turn on rail {}", target, name);
+    let message = say!["no entry of " {target} " can turn on rail " {name}];
     let help = match lacks {
         Lack::Entry => NO_ENTRY,
         Lack::Value => NO_VALUE,
@@ -134,35 +132,32 @@ fn limit_of(board: &Board, rail: usize) -> Option<(u32, i8)> {
 
 fn of_limit(board: &Board, rail: usize, greatest: u16) -> Advice<'_> {
     let (limit, exponent) = limit_of(board, rail).unwrap_or((0, 0));
-    let message = Sentence::five(
-        "no voltage that {} takes is over the limit of rail {}, {} uV: it takes up to {}, {} uV",
-        target_of(board, rail),
-        rail_word(board, rail),
-        Word::Number(u64::from(limit)),
-        Word::Number(u64::from(greatest)),
-        Word::Number(microvolts(greatest, exponent)),
-    );
+    let message = say![
+        "no voltage that " {target_of(board, rail)} " takes is over the limit of rail "
+        {rail_word(board, rail)} ", " {Number(u64::from(limit))} " uV: it takes up to "
+        {Voltage(u64::from(greatest), microvolts(greatest, exponent))}
+    ];
     advice(message, SAFE)
 }
 
 fn of_address(address: u8) -> Advice<'static> {
-    let message = Sentence::one(
-        "another controller's frame to 0x{} never wins over one of the program's",
-        Word::Hex(u16::from(address), 2),
-    );
+    let message = say![
+        "another controller's frame to 0x" {Hex(u16::from(address), 2)}
+        " never wins over one of the program's"
+    ];
     advice(message, LOWER)
 }
 
 fn of_contentions(contentions: u16) -> Advice<'static> {
-    let message = Sentence::one(
-        "other controllers may win {} times, and the board has no `foreign`",
-        Word::Number(u64::from(contentions)),
-    );
+    let message = say![
+        "other controllers may win " {Number(u64::from(contentions))}
+        " times, and the board has no `foreign`"
+    ];
     advice(message, NO_ONE_WINS)
 }
 
 fn of_no_contentions() -> Advice<'static> {
-    let message = Sentence::plain("other controllers share the bus, and none of them may win");
+    let message = say!["other controllers share the bus, and none of them may win"];
     advice(message, NONE_WINS)
 }
 

@@ -1,9 +1,9 @@
 //! Texts that are no TOML document.
 
 use crate::boards::finding::Finding;
-use crate::operand::operands_of;
-use crate::remark::{Remark, help_of};
-use crate::unknown_word::SWAPPED;
+use crate::program::operand::operands_of;
+use crate::program::unknown_word::SWAPPED;
+use crate::remark::Remark;
 use notes::line_at;
 use std::alloc::{AllocError, Global};
 use texts::cut_at_space;
@@ -42,6 +42,35 @@ fn line_help(line: &str) -> Option<&'static str> {
     None
 }
 
+/// The line above a key at which the same key of its table stands.
+fn line_of_twin(above: &str, key: &str) -> Option<usize> {
+    let mut found = None;
+    for (index, line) in above.split('\n').enumerate() {
+        if line.trim().starts_with('[') {
+            found = None;
+        }
+        match line.split_once('=') {
+            Some((other, _)) if other.trim() == key => {
+                found = found.or(Some(index.saturating_add(1)))
+            }
+            _ => {}
+        }
+    }
+    found
+}
+
+/// What may help where a key stands twice.
+fn twin_help(alloc: Global, text: &str, start: usize) -> Result<Option<String>, AllocError> {
+    let (Some(above), Some((_, key))) = (text.get(..start), word_at(text, start)) else {
+        return Ok(None);
+    };
+    let key = key.split('=').next().unwrap_or(key);
+    match line_of_twin(above, key) {
+        Some(line) => Ok(Some(format!(in alloc; "it stands in line {line} already")?)),
+        None => Ok(None),
+    }
+}
+
 /// What is said of a text that ends too early: its last line is told.
 fn cut_short(alloc: Global, number: usize, message: &str) -> Result<Finding<'static>, AllocError> {
     let message = format!(in alloc; "no TOML document: {message}, behind the last line")?;
@@ -68,7 +97,11 @@ pub(crate) fn not_toml<'a>(
         return cut_short(alloc, line, message);
     };
     let message = format!(in alloc; "no TOML document: {message}")?;
-    let help = help_of(alloc, line_help(refused))?;
+    let help = match line_help(refused) {
+        Some(help) => Some(String::from_str(alloc, help)?),
+        None if error.message() == "duplicate key" => twin_help(alloc, text, start)?,
+        None => None,
+    };
     Ok(Finding {
         number: line,
         remark: Remark::new(message, help),

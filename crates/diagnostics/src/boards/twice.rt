@@ -5,7 +5,8 @@ use crate::boards::describe::name_of;
 use crate::boards::draft::Draft;
 use crate::boards::scan::number_of;
 use crate::remark::Remark;
-use crate::sentence::{Sentence, Word};
+use crate::sentence::Word::{Count, Hex, Name, Text};
+use crate::sentence::say;
 use board::{Key, Place};
 use std::alloc::{AllocError, Global};
 use toml::Value;
@@ -98,28 +99,23 @@ fn name_help(alloc: Global, blamed: &Blamed<'_>, sort: &str) -> Result<Option<St
 /// What is said of a target or a rail whose name stands above.
 fn same_word(alloc: Global, blamed: &Blamed<'_>, sort: &'static str) -> Result<Remark, AllocError> {
     let help = name_help(alloc, blamed, sort)?;
-    Sentence::four(
-        "two {}s have the name {}: this is {} {}",
-        Word::Text(sort),
-        Word::Name(blamed.text(Key::Name)),
-        Word::Text(sort),
-        Word::Count(count_above(blamed.place).saturating_add(1)),
-    )
+    say![
+        "two " {Text(sort)} "s have the name " {Name(blamed.text(Key::Name))} ": this is "
+        {Text(sort)} " " {Count(count_above(blamed.place).saturating_add(1))}
+    ]
     .helped_by(alloc, help)
 }
 
 /// What is said of an entry whose form and command stand above.
 fn same_entry(alloc: Global, blamed: &Blamed<'_>) -> Result<Remark, AllocError> {
     let help = alike_help(alloc, blamed, &["form", "command"], None)?;
-    let form = Word::Name(blamed.text(Key::Form));
+    let form = Name(blamed.text(Key::Form));
     let message = match blamed.table.get("command") {
-        Some(_) => Sentence::three(
-            "{} has {} {}, which stands above",
-            blamed.word(),
-            form,
-            Word::Name(blamed.text(Key::Command)),
-        ),
-        None => Sentence::two("{} has {}, which stands above", blamed.word(), form),
+        Some(_) => say![
+            {blamed.word()} " has " {form} " " {Name(blamed.text(Key::Command))}
+            ", which stands above"
+        ],
+        None => say![{blamed.word()} " has " {form} ", which stands above"],
     };
     message.helped_by(alloc, help)
 }
@@ -141,12 +137,9 @@ pub(crate) fn same_address(
 ) -> Result<Remark, AllocError> {
     let help = alike_help(alloc, blamed, &["address"], Some("address"))?;
     let address = u16::try_from(value.as_integer().unwrap_or(0)).unwrap_or(0);
-    Sentence::two(
-        "{} has the address 0x{} of another target",
-        blamed.word(),
-        Word::Hex(address, 2),
+    say![{blamed.word()} " has the address 0x" {Hex(address, 2)} " of another target"].helped_by(
+        alloc, help,
     )
-    .helped_by(alloc, help)
 }
 
 /// What is said of a rail whose page has a rail above.
@@ -156,10 +149,9 @@ pub(crate) fn same_page(
     other: Place,
 ) -> Result<Remark, AllocError> {
     let help = place_help(alloc, blamed.draft, other, Some("page"))?;
-    Sentence::two(
-        "{} is on a page of target {} that has a rail",
-        blamed.word(),
-        Word::Name(blamed.text(Key::Target)),
-    )
+    say![
+        {blamed.word()} " is on a page of target " {Name(blamed.text(Key::Target))}
+        " that has a rail"
+    ]
     .helped_by(alloc, Some(help))
 }

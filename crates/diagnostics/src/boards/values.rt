@@ -4,7 +4,8 @@ use crate::boards::blamed::Blamed;
 use crate::boards::describe::shown;
 use crate::boards::keys::bad_value;
 use crate::remark::Remark;
-use crate::sentence::{Advice, Sentence, Word};
+use crate::sentence::Word::{Hex, Name, Number, Text};
+use crate::sentence::{Sentence, say};
 use board::{Key, full_values, is_target_address};
 use smbus::form_named;
 use std::alloc::{AllocError, Global};
@@ -27,10 +28,9 @@ pub(crate) fn bad_address(
     value: &Value,
 ) -> Result<Remark, AllocError> {
     let help = match shifted_address(value) {
-        Some(address) => Some(Sentence::one(
-            "without the direction bit, the last of eight, it is 0x{}",
-            Word::Hex(u16::from(address), 2),
-        )),
+        Some(address) => Some(say![
+            "without the direction bit, the last of eight, it is 0x" {Hex(u16::from(address), 2)}
+        ]),
         None => blamed.key_help(Key::Address),
     };
     bad_value(alloc, blamed, Key::Address, value, help)
@@ -38,15 +38,11 @@ pub(crate) fn bad_address(
 
 /// What is said of a list of start values without one.
 pub(crate) fn no_start(alloc: Global, blamed: &Blamed<'_>, key: Key) -> Result<Remark, AllocError> {
-    let advice = Advice {
-        message: Sentence::two(
-            "\"{}\" of {} has no value",
-            Word::Text(key.name()),
-            blamed.word(),
-        ),
-        help: blamed.key_help(key),
-    };
-    advice.told(alloc)
+    Remark::told(
+        alloc,
+        say![{Name(key.name())} " of " {blamed.word()} " has no value"],
+        blamed.key_help(key),
+    )
 }
 
 /// What is said of a start value that can't be.
@@ -57,16 +53,14 @@ pub(crate) fn bad_start(
     value: &Value,
 ) -> Result<Remark, AllocError> {
     let value = shown(alloc, value)?;
-    let advice = Advice {
-        message: Sentence::three(
-            "\"{}\" of {} can't have {} among its values",
-            Word::Text(key.name()),
-            blamed.word(),
-            Word::Text(&value),
-        ),
-        help: blamed.key_help(key),
-    };
-    advice.told(alloc)
+    Remark::told(
+        alloc,
+        say![
+            {Name(key.name())} " of " {blamed.word()} " can't have " {Text(&value)}
+            " among its values"
+        ],
+        blamed.key_help(key),
+    )
 }
 
 /// The greatest value that the form of an entry carries.
@@ -81,16 +75,15 @@ fn most_carried(word: &str) -> u16 {
 fn range_help<'a>(blamed: &'a Blamed<'_>, key: Key) -> Sentence<'a> {
     let form = blamed.text(Key::Form);
     if key == Key::Length {
-        Sentence::one(
-            "{} takes [LOW, HIGH], two numbers from 1 to 255, the first not above the second",
-            Word::Name(form),
-        )
+        say![
+            {Name(form)}
+            " takes [LOW, HIGH], two numbers from 1 to 255, the first not above the second"
+        ]
     } else {
-        Sentence::two(
-            "{} takes [LOW, HIGH], two numbers from 0 to {}, the first not above the second",
-            Word::Name(form),
-            Word::Number(u64::from(most_carried(form))),
-        )
+        say![
+            {Name(form)} " takes [LOW, HIGH], two numbers from 0 to "
+            {Number(u64::from(most_carried(form)))} ", the first not above the second"
+        ]
     }
 }
 

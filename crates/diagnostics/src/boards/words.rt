@@ -5,10 +5,11 @@ use crate::boards::describe::shown;
 use crate::boards::twice::{first_alike, same_page};
 use crate::form::NAMES;
 use crate::listing::quoted;
-use crate::operand::Operand;
+use crate::program::operand::Operand;
+use crate::program::unknown_command::{command_help, forms_help};
 use crate::remark::Remark;
-use crate::sentence::{Advice, Sentence, Word, told};
-use crate::unknown_command::{command_help, forms_help};
+use crate::sentence::Word::{Name, Number, Text};
+use crate::sentence::{Advice, Sentence, Word, say, told};
 use board::Key;
 use notes::lowercase_suggestion;
 use pmbus_table::{Command, by_name};
@@ -36,7 +37,7 @@ fn names_help(
 /// Lists names of a sort.
 fn names_listed(alloc: Global, sort: &str, names: &[&str]) -> Result<Option<String>, AllocError> {
     let names = quoted(alloc, names)?;
-    let sentence = Sentence::two("the {} are {}", Word::Text(sort), Word::Text(&names));
+    let sentence = say!["the " {Text(sort)} " are " {Text(&names)}];
     told(alloc, Some(sentence))
 }
 
@@ -47,18 +48,16 @@ pub(crate) fn unknown_form(alloc: Global, blamed: &Blamed<'_>) -> Result<Remark,
     // (the last is that of alert responses, which no entry has)
     let forms = names.get(..12).unwrap_or(names);
     let help = names_help(alloc, word, "forms", forms)?;
-    Sentence::two("unknown form {} of {}", Word::Name(word), blamed.word()).helped_by(alloc, help)
+    say!["unknown form " {Name(word)} " of " {blamed.word()}].helped_by(alloc, help)
 }
 
 /// What is said of a command that doesn't take the form of its entry.
 fn other_form<'a>(blamed: &'a Blamed<'_>, command: Command) -> Advice<'a> {
     Advice {
-        message: Sentence::three(
-            "{} doesn't take \"{}\" in {}",
-            Word::Name(blamed.text(Key::Form)),
-            Word::Command(command.code()),
-            blamed.word(),
-        ),
+        message: say![
+            {Name(blamed.text(Key::Form))} " doesn't take \"" {Word::Command(command.code())}
+            "\" in " {blamed.word()}
+        ],
         help: forms_help(command),
     }
 }
@@ -73,9 +72,7 @@ pub(crate) fn unknown_command(alloc: Global, blamed: &Blamed<'_>) -> Result<Rema
         Some(form) => command_help(alloc, word, Operand::Command(form), MANUFACTURER_RULE)?,
         None => None,
     };
-    Sentence::two("unknown command {} of {}", Word::Name(word), blamed.word()).helped_by(
-        alloc, help,
-    )
+    say!["unknown command " {Name(word)} " of " {blamed.word()}].helped_by(alloc, help)
 }
 
 /// The names of tables.
@@ -99,22 +96,19 @@ pub(crate) fn unknown_need(
     let word = need.as_str().unwrap_or("");
     let rails = names_of(alloc, blamed.draft.rails)?;
     let help = names_help(alloc, word, "rails", &rails)?;
-    Sentence::two(
-        "{} needs {}, and no rail has that name",
-        blamed.word(),
-        Word::Name(word),
+    say![{blamed.word()} " needs " {Name(word)} ", and no rail has that name"].helped_by(
+        alloc, help,
     )
-    .helped_by(alloc, help)
 }
 
 /// What is said of a rail that needs itself.
 pub(crate) fn self_need(alloc: Global, blamed: &Blamed<'_>) -> Result<Remark, AllocError> {
     let help = "\"needs\" names the other rails that have to be good before it is turned on";
-    let advice = Advice {
-        message: Sentence::one("{} needs itself", blamed.word()),
-        help: Some(Sentence::plain(help)),
-    };
-    advice.told(alloc)
+    Remark::told(
+        alloc,
+        say![{blamed.word()} " needs itself"],
+        Some(say![{ Text(help) }]),
+    )
 }
 
 /// What is said of a rail whose target isn't there.
@@ -122,12 +116,7 @@ pub(crate) fn unknown_target(alloc: Global, blamed: &Blamed<'_>) -> Result<Remar
     let word = blamed.text(Key::Target);
     let targets = names_of(alloc, blamed.draft.targets)?;
     let help = names_help(alloc, word, "targets", &targets)?;
-    Sentence::two(
-        "{} is on target {}, which isn't there",
-        blamed.word(),
-        Word::Name(word),
-    )
-    .helped_by(alloc, help)
+    say![{blamed.word()} " is on target " {Name(word)} ", which isn't there"].helped_by(alloc, help)
 }
 
 /// How many pages the first target of a name has.
@@ -144,26 +133,22 @@ fn pages_of(targets: &[Value], name: &str) -> Option<u64> {
 fn pages_help<'a>(blamed: &'a Blamed<'_>) -> Option<Sentence<'a>> {
     let word = blamed.text(Key::Target);
     let pages = pages_of(blamed.draft.targets, word)?;
-    Some(Sentence::two(
-        "the \"pages\" of target \"{}\" is {}, and its first page is 0",
-        Word::Text(word),
-        Word::Number(pages),
-    ))
+    Some(say![
+        "the \"pages\" of target " {Name(word)} " is " {Number(pages)} ", and its first page is 0"
+    ])
 }
 
 /// What is said of a rail on a page that its target hasn't.
 fn foreign_page(alloc: Global, blamed: &Blamed<'_>, value: &Value) -> Result<Remark, AllocError> {
     let page = shown(alloc, value)?;
-    let advice = Advice {
-        message: Sentence::three(
-            "{} is on page {}, which target {} hasn't",
-            blamed.word(),
-            Word::Text(&page),
-            Word::Name(blamed.text(Key::Target)),
-        ),
-        help: pages_help(blamed),
-    };
-    advice.told(alloc)
+    Remark::told(
+        alloc,
+        say![
+            {blamed.word()} " is on page " {Text(&page)} ", which target "
+            {Name(blamed.text(Key::Target))} " hasn't"
+        ],
+        pages_help(blamed),
+    )
 }
 
 /// What is said of a rail on a page that its target hasn't, or that has a rail above.

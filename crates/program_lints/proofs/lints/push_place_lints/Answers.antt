@@ -17,9 +17,9 @@ returns c =
     c.args.place c.in-Some.instr.now (row_view c.in-Some-row_at.row.now)
     (slice_get c.args.program.now c.args.place) (row_of (table_view c.args.table.now) c.args.place)
     c.args.lints.now.items c.push_on_at_fail.new.lints.items c.push_before_voltages.new.lints.items
-    c.push_need_offs.new.lints.items c.push_table_lints.new.lints.items
+    c.push_need_losses.new.lints.items c.push_table_lints.new.lints.items
     (rails_in c.may_be_on-on.result) (rails_in c.has_voltage.result) c.in-Some.ensures
     (subst There c.deref.ensures.value c.in-Some-row_at.ensures) c.may_be_on-on.ensures
     c.has_voltage.ensures c.in_ok-push_on_at_fail.ensures c.in_ok-push_before_voltages.ensures
-    c.in_ok-push_need_offs.ensures)
+    c.in_ok-push_need_losses.ensures)
     c.push_table_lints.ensures

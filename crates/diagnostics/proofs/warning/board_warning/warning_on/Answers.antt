@@ -1,0 +1,22 @@
+use Rattle.std.proofs.Common.{Option, List, ℕ, subst}
+use Rattle.std.specs.Prelude.{codes}
+use Rattle.std.proofs.lemmas.Result.{IfOk-weaker}
+use Rattle.texts.specs.Words.{lines_by_feed}
+use Rattle.notes.specs.declared.level.Level.TheVariants.{Warning}
+use Rattle.notes.specs.Notes.{IsQuoting}
+use Rattle.diagnostics.specs.Boards.{IsBoardWarning}
+use Rattle.diagnostics.proofs.warning.board_warning.warning_on.Goals as goal
+
+pub returns : goal.returns
+returns c =
+    let number = c.line_or_first-number.result.number in
+    let there = c.line_or_first-number.ensures in
+    IfOk-weaker c.board_warning.result _ (IsBoardWarning (lines_by_feed c.args.text.now))
+    (λ note quotes. (
+      number,
+      (
+        there.number,
+        subst (λ (line : Option (List ℕ)). IsQuoting Warning (codes "%board") number line note)
+            there.line quotes,
+      ),
+    )) c.board_warning.ensures

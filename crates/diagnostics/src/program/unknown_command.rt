@@ -1,0 +1,168 @@
+//! A word that is no command, or a command without the form of the instruction.
+
+use crate::program::operand::{Operand, operands_of};
+use crate::remark::Remark;
+use crate::sentence::Word::{Name, Text};
+use crate::sentence::{Advice, Sentence, Word, say, told};
+use notes::suggestion;
+use pmbus_table::{Command, by_code, by_name, name_of};
+use smbus::Form;
+use std::alloc::{AllocError, Global};
+use texts::pair_of;
+
+/// How manufacturer commands are written.
+const MANUFACTURER_RULE: &str =
+    "manufacturer commands are D0 to FD, and in \"write\" and \"read\" b or w stands behind them";
+
+/// Whether an operand takes the command.
+fn takes(operand: Operand, command: Command) -> bool {
+    match operand {
+        Operand::Command(form) => command.takes(form),
+        Operand::Sized(byte, word) => command.takes(byte) || command.takes(word),
+        _ => false,
+    }
+}
+
+/// The names of the table's commands that the operand takes.
+fn command_names(alloc: Global, operand: Operand) -> Result<Vec<String>, AllocError> {
+    let mut names = Vec::new(alloc);
+    for code in 0..=u8::MAX {
+        match by_code(code) {
+            Some(command) if !command.is_manufacturer() && takes(operand, command) => {
+                names.push(name_of(alloc, command)?)?;
+            }
+            _ => {}
+        }
+    }
+    Ok(names)
+}
+
+/// Proposes the nearest of these commands.
+fn command_suggestion(
+    alloc: Global,
+    word: &str,
+    operand: Operand,
+) -> Result<Option<String>, AllocError> {
+    let names = command_names(alloc, operand)?;
+    let mut candidates = Vec::new(alloc);
+    for name in &names {
+        candidates.push(name.as_str())?;
+    }
+    let word = word.to_ascii_uppercase(alloc)?;
+    suggestion(alloc, &word, &candidates)
+}
+
+/// What can be done with a named command, by a form.
+fn use_of(form: Form) -> &'static str {
+    match form {
+        Form::SendByte => "sent",
+        Form::WriteByte => "written as a byte",
+        Form::WriteWord => "written as a word",
+        Form::ReadByte => "read as a byte",
+        Form::ReadWord => "read as a word",
+        Form::ProcessCall => "called",
+        Form::BlockWrite => "written as a block",
+        Form::BlockRead => "read as a block",
+        Form::BlockProcessCall => "called with blocks",
+        Form::Quick(_) | Form::ReceiveByte | Form::Alert => "asked without a code",
+    }
+}
+
+/// The forms of a named command.
+pub(crate) fn forms_help(command: Command) -> Option<Sentence<'static>> {
+    let name = Word::Command(command.code());
+    match (command.form_written(), command.form_read()) {
+        (Some(written), Some(read)) => {
+            let (written, read) = (Text(use_of(written)), Text(use_of(read)));
+            Some(say!["\"" {name} "\" can be " {written} " and " {read}])
+        }
+        (Some(form), None) | (None, Some(form)) => {
+            let form = Text(use_of(form));
+            Some(say!["\"" {name} "\" can only be " {form}])
+        }
+        (None, None) => None,
+    }
+}
+
+/// What is said of a command that is known.
+fn known_command<'a>(instruction: &'a str, word: &'a str, command: Command) -> Advice<'a> {
+    let text = Text(word);
+    if command.is_manufacturer() {
+        return Advice {
+            message: say!["\"" {text} "\" needs \"b\" or \"w\" behind it"],
+            help: Some(say!["\"" {text} "b\" is for a byte, \"" {text} "w\" for a word"]),
+        };
+    }
+    Advice {
+        message: say![{Name(instruction)} " doesn't take \"" {text} "\""],
+        help: forms_help(command),
+    }
+}
+
+/// The digits of a manufacturer command with `b` or `w` behind them.
+fn digits_of(word: &str) -> Option<&str> {
+    let digits = match word.strip_suffix("b") {
+        Some(digits) => digits,
+        None => word.strip_suffix("w")?,
+    };
+    match by_name(digits) {
+        Some(command) if command.is_manufacturer() => Some(digits),
+        _ => None,
+    }
+}
+
+/// Whether a word is nearly a manufacturer command.
+fn is_nearly_manufacturer(alloc: Global, word: &str) -> Result<bool, AllocError> {
+    match word.get(..2) {
+        Some(digits) if word.len() <= 3 => {
+            let digits = digits.to_ascii_uppercase(alloc)?;
+            Ok(by_name(&digits).is_some())
+        }
+        _ => Ok(false),
+    }
+}
+
+/// The code of the command whose digits stand there.
+fn code_of(word: &str) -> Option<u8> {
+    let code = pair_of(word)?;
+    by_code(code)?;
+    Some(code)
+}
+
+/// Proposes another word. How manufacturer commands are written is told by `rule`.
+pub(crate) fn command_help(
+    alloc: Global,
+    word: &str,
+    operand: Operand,
+    rule: &'static str,
+) -> Result<Option<String>, AllocError> {
+    if let Some(digits) = digits_of(word) {
+        let sentence = say!["did you mean " {Name(digits)} "?"];
+        return told(alloc, Some(sentence));
+    }
+    if is_nearly_manufacturer(alloc, word)? {
+        return told(alloc, Some(say![{ Text(rule) }]));
+    }
+    match code_of(word) {
+        Some(code) => {
+            let sentence = say!["did you mean \"" {Word::Command(code)} "\"?"];
+            told(alloc, Some(sentence))
+        }
+        None => command_suggestion(alloc, word, operand),
+    }
+}
+
+/// What is said of a line with such a word.
+pub(crate) fn unknown_command(alloc: Global, words: &[&str]) -> Result<Remark, AllocError> {
+    let [instruction, _, word, ..] = words else {
+        return Remark::plain(alloc, "unknown command");
+    };
+    if let Some(command) = by_name(word) {
+        return known_command(instruction, word, command).told(alloc);
+    }
+    let help = match operands_of(instruction) {
+        Some([_, operand, ..]) => command_help(alloc, word, *operand, MANUFACTURER_RULE)?,
+        _ => None,
+    };
+    say!["unknown command " {Name(word)}].helped_by(alloc, help)
+}

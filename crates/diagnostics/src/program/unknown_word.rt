@@ -1,0 +1,59 @@
+//! A first word that is no instruction's, on a line that is no label.
+
+use crate::program::habit::habit_in;
+use crate::program::operand::instruction_words;
+use crate::remark::{Remark, help_of};
+use crate::sentence::Word::{Name, Text};
+use crate::sentence::{say, told};
+use notes::lowercase_suggestion;
+use std::alloc::{AllocError, Global};
+use texts::is_name;
+
+/// What is meant where one file stands in the place of another.
+pub(crate) const SWAPPED: &str = "the board file comes first, and then the program";
+
+/// What a label looks like, where a word with a colon is none.
+fn label_rule(words: &[&str]) -> &'static str {
+    match words {
+        [_] => "a label has 1 to 32 of a to z, 0 to 9 and _, the first a letter, and then a colon",
+        _ => "a label stands alone on its line, and its colon at its end",
+    }
+}
+
+/// Whether a line looks like one of a board file.
+fn is_of_board(words: &[&str]) -> bool {
+    match words {
+        [word, ..] if word.starts_with('[') => true,
+        [_, "=", ..] => true,
+        _ => false,
+    }
+}
+
+/// Proposes a colon, or another word.
+fn word_help(alloc: Global, word: &str, words: &[&str]) -> Result<Option<String>, AllocError> {
+    if words.iter().any(|word| word.contains(':')) {
+        return help_of(alloc, Some(label_rule(words)));
+    }
+    let names = instruction_words(alloc)?;
+    match lowercase_suggestion(alloc, word, &names)? {
+        Some(help) => Ok(Some(help)),
+        None if words.len() == 1 && is_name(word) => {
+            let sentence = say!["a label ends with a colon: \"" {Text(word)} ":\""];
+            told(alloc, Some(sentence))
+        }
+        None => Ok(None),
+    }
+}
+
+/// What is said of a line that begins with such a word.
+pub(crate) fn unknown_word(alloc: Global, words: &[&str]) -> Result<Remark, AllocError> {
+    let Some(word) = words.first() else {
+        return Remark::plain(alloc, "unknown instruction");
+    };
+    let help = match habit_in(words) {
+        Some(habit) => help_of(alloc, Some(habit))?,
+        None if is_of_board(words) => help_of(alloc, Some(SWAPPED))?,
+        None => word_help(alloc, word, words)?,
+    };
+    say!["unknown instruction " {Name(word)}].helped_by(alloc, help)
+}

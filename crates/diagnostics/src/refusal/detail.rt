@@ -1,0 +1,194 @@
+//! What is to blame for a refusal, with names and numbers.
+
+use crate::refusal::cause::Cause;
+use crate::refusal::edge_detail::{edge_detail, end_detail};
+use crate::refusal::entry_words::{
+    known_values, no_entry, no_room, other_byte, other_length, other_values,
+};
+use crate::refusal::facts_here::{facts_here, rail_word, target_word};
+use crate::refusal::roads::Judged;
+use crate::refusal::table_detail::{length_detail, shape_detail, start_detail};
+use crate::remark::bare;
+use crate::sentence::Word::{Hex, Number, Permitting, Voltage};
+use crate::sentence::{Advice, Sentence, Word, advised, say, told};
+use board::{Allow, Board, Target};
+use facts::{PageSet, Row, Violation, violation};
+use seq_program::{Content, Instr, Request, Transaction};
+use std::alloc::{AllocError, Global};
+use table_check::{Breach, Refusal};
+
+/// What is said, where no more may be said to mend it.
+fn plain<'a>(message: Sentence<'a>) -> Option<Advice<'a>> {
+    Some(Advice {
+        message,
+        help: None,
+    })
+}
+
+/// The bytes of a block that is written.
+fn block_of<'a>(transaction: &Transaction<'a>) -> &'a [u8] {
+    match transaction.content {
+        Content::Block(block) => block.bytes(),
+        _ => &[],
+    }
+}
+
+/// K1: what an entry of a target doesn't take.
+fn entry_advice(
+    device: &Target,
+    entry: &Allow,
+    transaction: &Transaction<'_>,
+    violation: Violation,
+) -> Option<Advice<'static>> {
+    let block = block_of(transaction);
+    match violation {
+        Violation::Values(span) => Some(other_values(entry.values(), span)),
+        Violation::BlockLength => Some(other_length(entry.length(), block.len())),
+        Violation::BlockByte(place) => Some(other_byte(entry.values(), *block.get(place)?)),
+        Violation::NoRoom => Some(no_room(entry.length(), block.len())),
+        _ => known_values(device, transaction.code()),
+    }
+}
+
+/// The greatest mantissa of a voltage that is at most a limit in microvolts.
+fn greatest_within(exponent: i8, limit_uv: u32) -> Option<u64> {
+    let scale = 1u64.checked_shl(u32::from(exponent.unsigned_abs()))?;
+    Some(u64::from(limit_uv).checked_mul(scale)? / 1_000_000)
+}
+
+/// What may help where PAGE has one of these values. Where it may have several, they are told too.
+fn limit_help(pages: Option<&PageSet>) -> Option<Sentence<'static>> {
+    let pages = pages?;
+    if (0..=u8::MAX).filter(|page| pages.contains(*page)).count() != 1 {
+        return None;
+    }
+    Some(say!["a voltage is its mantissa times two to the target's exponent"])
+}
+
+/// K4: what may be written, and a limit that it is over.
+fn limit_advice<'a>(
+    board: &'a Board,
+    device: &Target,
+    pages: Option<&PageSet>,
+    code: u8,
+    rail: usize,
+    most: u16,
+) -> Option<Advice<'a>> {
+    let limit = board.rail(rail)?.limit_uv();
+    Some(Advice {
+        message: say![
+            "up to " {Number(u64::from(most))} " may be written to " {Word::Command(code)} ", and "
+            {rail_word(board, rail)} " takes up to "
+            {Voltage(greatest_within(device.exponent(), limit)?, u64::from(limit))}
+        ],
+        help: limit_help(pages),
+    })
+}
+
+/// K3: what may be stored that forbids a write of this command, and what permits it.
+fn forbidden(name: Word<'_>, value: u8, code: u8) -> Advice<'_> {
+    Advice {
+        message: say![{name} " may store " {Hex(u16::from(value), 2)} "h here"],
+        help: Some(say![
+            "write " {Permitting(code)} " to WRITE_PROTECT before; where that write wasn't done, \
+             leave by its `else` label, or read it back and test the register"
+        ]),
+    }
+}
+
+/// What is to blame in a message to a target.
+fn advice_on<'a>(
+    board: &'a Board,
+    row: &Row,
+    request: &Request<'_>,
+    violation: Violation,
+) -> Option<Advice<'a>> {
+    let (target, transaction) = (request.target, &request.transaction);
+    let (device, code) = (board.target(target)?, transaction.code());
+    let name = target_word(board, target);
+    match violation {
+        Violation::NoEntry => {
+            let name = board.target_name(target).unwrap_or("");
+            Some(no_entry(name, transaction, device.allow().is_empty()))
+        }
+        Violation::AllPages => {
+            plain(say![{name} " has " {Word::Command(code)} " for each page"])
+        }
+        Violation::Protected(value) => Some(forbidden(name, value, code)),
+        Violation::OverLimit { rail, most } => {
+            limit_advice(board, device, row.pages.get(target), code, rail, most)
+        }
+        Violation::NotGood { rail, need } => {
+            let (rail, need) = (rail_word(board, rail), rail_word(board, need));
+            plain(say![{rail} " needs " {need}])
+        }
+        _ => {
+            let entry = device.entry(transaction.form, code)?;
+            entry_advice(device, entry, transaction, violation)
+        }
+    }
+}
+
+/// What is to blame in an instruction at a row, and what is known there.
+fn duty_cause(
+    alloc: Global,
+    board: &Board,
+    instr: &Instr,
+    row: &Row,
+    violation: Violation,
+) -> Result<Cause, AllocError> {
+    let Some(request) = instr.request() else {
+        return Ok(Cause::none());
+    };
+    let blame = advised(alloc, advice_on(board, row, &request, violation))?;
+    let known = facts_here(alloc, board, row, request.target, violation.rule())?;
+    Ok(Cause::of(blame, known))
+}
+
+/// What is to blame where an instruction breaks a rule at a row, and what is known there.
+pub(crate) fn instr_cause(
+    alloc: Global,
+    board: &Board,
+    instr: &Instr,
+    row: &Row,
+) -> Result<Cause, AllocError> {
+    match violation(board, instr, row) {
+        Some(violation) => duty_cause(alloc, board, instr, row, violation),
+        None => Ok(Cause::none()),
+    }
+}
+
+/// The cause of a violation at a place.
+fn place_cause(
+    alloc: Global,
+    judged: Judged<'_>,
+    place: usize,
+    violation: Violation,
+) -> Result<Cause, AllocError> {
+    match (judged.program.at(place), judged.row(place)) {
+        (Some(instr), Some(row)) => duty_cause(alloc, judged.board, instr, row, violation),
+        _ => Ok(Cause::none()),
+    }
+}
+
+/// What is to blame for a refusal, and what is known there; `lines` are those of all places.
+pub(crate) fn refusal_cause(
+    alloc: Global,
+    judged: Judged<'_>,
+    lines: &[usize],
+    refusal: Refusal,
+) -> Result<Cause, AllocError> {
+    let Refusal { place, breach } = refusal;
+    let detail = match breach {
+        Breach::Duty(violation) => return place_cause(alloc, judged, place, violation),
+        Breach::NoRow { edge, .. } => edge_detail(alloc, judged, lines, place, edge, breach)?,
+        Breach::Uncovered { edge, .. } => edge_detail(alloc, judged, lines, place, edge, breach)?,
+        Breach::Unpaid { edge, .. } => edge_detail(alloc, judged, lines, place, edge, breach)?,
+        Breach::UnpaidEnd { .. } => end_detail(alloc, place)?,
+        Breach::NoStart => told(alloc, Some(say!["row 0 is none"]))?,
+        Breach::Start(unheld) => told(alloc, start_detail(judged, unheld))?,
+        Breach::Length => told(alloc, Some(length_detail(judged)))?,
+        Breach::Shape(misfit) => shape_detail(alloc, judged, place, misfit)?,
+    };
+    Ok(Cause::of(bare(detail), None))
+}

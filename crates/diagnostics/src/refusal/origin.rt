@@ -1,0 +1,277 @@
+//! Where on a way that came in what a rule forbids at its end.
+
+use crate::refusal::facts_here::{has_rail, push_pages};
+use crate::refusal::roads::Judged;
+use crate::refusal::trail::{Trail, Trails};
+use crate::refusal::widened::written_register;
+use board::{Board, Rail};
+use facts::{PageSet, Row, Violation, violation};
+use notes::Quoted;
+use pmbus_table::code::{ALL_PAGES, STATUS_WORD};
+use seq_program::Instr;
+use smbus::Form;
+use std::alloc::{AllocError, Global};
+
+/// What is to blame in what is known at a place.
+#[derive(Clone, Copy)]
+enum Blamed {
+    /// A target may store this page.
+    Page(usize, u8),
+    /// A target may store this in WRITE_PROTECT.
+    Protect(usize, u8),
+    /// A register may be as great as this.
+    Value(usize, u16),
+    /// A rail isn't known to be good.
+    NotGood(usize),
+}
+
+impl Blamed {
+    /// Whether it is so where this is known.
+    fn is_in(self, row: &Row) -> bool {
+        match self {
+            Blamed::Page(target, page) => match row.pages.get(target) {
+                Some(pages) => pages.contains(page),
+                None => false,
+            },
+            Blamed::Protect(target, value) => match row.protects.get(target) {
+                Some(protects) => protects.contains(value),
+                None => false,
+            },
+            Blamed::Value(register, value) => match row.regs.get(register) {
+                Some(span) => span.hi >= value,
+                None => false,
+            },
+            Blamed::NotGood(rail) => !has_rail(row.good, rail),
+        }
+    }
+}
+
+/// The last trail of a way before which it wasn't so: its instruction brings it in. None where it
+/// is so from the start.
+fn brought_in(trails: &Trails, way: &[Trail], blamed: Blamed) -> Option<Trail> {
+    for trail in way.iter().rev() {
+        let row = trails.row(*trail)?;
+        if !blamed.is_in(row) {
+            return Some(*trail);
+        }
+    }
+    None
+}
+
+/// A way to a place where a rule fails.
+#[derive(Clone, Copy)]
+pub(crate) struct BadWay<'a> {
+    pub judged: Judged<'a>,
+    /// Of each place, its line.
+    pub lines: &'a [usize],
+    pub trails: &'a Trails,
+    pub way: &'a [Trail],
+}
+
+impl BadWay<'_> {
+    fn line(self, trail: Trail) -> usize {
+        self.lines.get(trail.place).copied().unwrap_or(0)
+    }
+
+    /// From where on it is so.
+    fn since(self, alloc: Global, blamed: Blamed) -> Result<String, AllocError> {
+        match brought_in(self.trails, self.way, blamed) {
+            Some(trail) => {
+                let line = self.line(trail);
+                format!(in alloc; "since line {line}")
+            }
+            None => String::from_str(alloc, "since the start"),
+        }
+    }
+
+    /// From where on a target may store a page.
+    fn page_text(self, alloc: Global, target: usize, page: u8) -> Result<String, AllocError> {
+        let name = Quoted(self.judged.board.target_name(target).unwrap_or(""));
+        let since = self.since(alloc, Blamed::Page(target, page))?;
+        format!(in alloc; "PAGE of {name} may be {page:02X} {since}")
+    }
+
+    /// From where on a target may store a protection.
+    fn protect_text(self, alloc: Global, target: usize, value: u8) -> Result<String, AllocError> {
+        let name = Quoted(self.judged.board.target_name(target).unwrap_or(""));
+        let since = self.since(alloc, Blamed::Protect(target, value))?;
+        format!(in alloc; "WRITE_PROTECT of {name} may be {value:02X} {since}")
+    }
+
+    /// From where on a register may be as great as a value.
+    fn value_text(self, alloc: Global, register: usize, most: u16) -> Result<String, AllocError> {
+        let since = self.since(alloc, Blamed::Value(register, most))?;
+        format!(in alloc; "r{register} may be {most} {since}")
+    }
+
+    /// The last trail whose instruction reads STATUS_WORD of a target.
+    fn last_report(self, target: usize) -> Option<Trail> {
+        for trail in self.way.iter().rev() {
+            if reads_status(self.judged.program.at(trail.place)?, target) {
+                return Some(*trail);
+            }
+        }
+        None
+    }
+
+    /// What a report was read at, of a rail that it doesn't show good.
+    fn report_text(self, alloc: Global, trail: Trail, need: &Rail) -> Result<String, AllocError> {
+        let name = Quoted(self.judged.board.target_name(need.target()).unwrap_or(""));
+        let (line, page) = (self.line(trail), need.page());
+        let pages = self
+            .trails
+            .row(trail)
+            .and_then(|row| row.pages.get(need.target()));
+        match pages {
+            Some(pages) if !is_only(pages, page) => {
+                let mut text = format!(in alloc;
+                    "line {line} reads STATUS_WORD of {name} where PAGE may be "
+                )?;
+                push_pages(&mut text, pages)?;
+                write!(text, ", and this rail is page {page:02X}")?;
+                Ok(text)
+            }
+            _ => format!(in alloc;
+                "line {line} reads its STATUS_WORD, and no test of that word on this way shows it \
+                 good"
+            ),
+        }
+    }
+
+    /// How a rail loses at a trail's place that it is known to be good.
+    fn loss_at(self, trail: Trail, rail: &Rail) -> &'static str {
+        match self.judged.program.at(trail.place) {
+            Some(instr) if reads_status(instr, rail.target()) => "reads its STATUS_WORD anew",
+            Some(_) => "may turn it off",
+            None => "may end that",
+        }
+    }
+
+    /// Why a rail isn't known to be good.
+    fn need_text(self, alloc: Global, rail: usize, need: &Rail) -> Result<String, AllocError> {
+        let board = self.judged.board;
+        let name = Quoted(board.rail_name(rail).unwrap_or(""));
+        if let Some(trail) = brought_in(self.trails, self.way, Blamed::NotGood(rail)) {
+            let (line, loss) = (self.line(trail), self.loss_at(trail, need));
+            return format!(in alloc; "{name} was known to be good up to line {line}, which {loss}");
+        }
+        if let Some(trail) = self.last_report(need.target()) {
+            let report = self.report_text(alloc, trail, need)?;
+            return format!(in alloc; "{name} was never known to be good: {report}");
+        }
+        let target = Quoted(board.target_name(need.target()).unwrap_or(""));
+        format!(in alloc;
+            "{name} was never known to be good: no line of this way reads STATUS_WORD of {target}"
+        )
+    }
+
+    /// The register that a voltage comes from, and from where on it may be so great, or from where
+    /// on PAGE may select the rail.
+    fn voltage_text(
+        self,
+        alloc: Global,
+        row: &Row,
+        instr: &Instr,
+        rail: usize,
+        most: u16,
+    ) -> Result<Option<String>, AllocError> {
+        if let Some(register) = written_register(instr) {
+            return Ok(Some(self.value_text(alloc, register, most)?));
+        }
+        match self.judged.board.rail(rail) {
+            Some(rail) if has_pages(self.judged.board, rail.target()) => {
+                let page = selecting(row, rail);
+                Ok(Some(self.page_text(alloc, rail.target(), page)?))
+            }
+            _ => Ok(None),
+        }
+    }
+
+    /// Where what breaks a rule came in, by what is known at the end of the way.
+    fn origin_of(
+        self,
+        alloc: Global,
+        row: &Row,
+        instr: &Instr,
+        violation: Violation,
+    ) -> Result<Option<String>, AllocError> {
+        let Some(target) = target_of(instr) else {
+            return Ok(None);
+        };
+        match violation {
+            Violation::AllPages => Ok(Some(self.page_text(alloc, target, ALL_PAGES)?)),
+            Violation::Protected(value) => Ok(Some(self.protect_text(alloc, target, value)?)),
+            Violation::OverLimit { rail, most } => {
+                self.voltage_text(alloc, row, instr, rail, most)
+            }
+            Violation::NotGood { need, .. } => match self.judged.board.rail(need) {
+                Some(rail) => Ok(Some(self.need_text(alloc, need, rail)?)),
+                None => Ok(None),
+            },
+            _ => Ok(None),
+        }
+    }
+
+    /// Where on the way that came in what breaks a rule at its end: the protection, the value or
+    /// the page, or where it was lost that a rail is good, or why that was never known.
+    pub(crate) fn origin(self, alloc: Global) -> Result<Option<String>, AllocError> {
+        let Some(last) = self.way.last() else {
+            return Ok(None);
+        };
+        let (Some(row), Some(instr)) = (self.trails.row(*last), self.judged.program.at(last.place))
+        else {
+            return Ok(None);
+        };
+        match violation(self.judged.board, instr, row) {
+            Some(violation) => self.origin_of(alloc, row, instr, violation),
+            None => Ok(None),
+        }
+    }
+}
+
+/// The target that an instruction sends to.
+fn target_of(instr: &Instr) -> Option<usize> {
+    match instr.request() {
+        Some(request) => Some(request.target),
+        None => None,
+    }
+}
+
+/// Whether an instruction reads STATUS_WORD of a target (PMBus 1.3 Part II, 17.2).
+fn reads_status(instr: &Instr, target: usize) -> bool {
+    match instr.request() {
+        Some(request) => {
+            let transaction = request.transaction;
+            request.target == target
+                && transaction.form == Form::ReadWord
+                && transaction.code() == STATUS_WORD
+        }
+        None => false,
+    }
+}
+
+/// Whether a target has more than one page.
+fn has_pages(board: &Board, target: usize) -> bool {
+    match board.target(target) {
+        Some(target) => target.pages() > 1,
+        None => false,
+    }
+}
+
+/// The value of PAGE that selects a rail where this is known.
+fn selecting(row: &Row, rail: &Rail) -> u8 {
+    match row.pages.get(rail.target()) {
+        Some(pages) if !pages.contains(rail.page()) => ALL_PAGES,
+        _ => rail.page(),
+    }
+}
+
+/// Whether a set has this page and no other.
+fn is_only(pages: &PageSet, page: u8) -> bool {
+    for other in 0..=255u8 {
+        if pages.contains(other) != (other == page) {
+            return false;
+        }
+    }
+    true
+}
