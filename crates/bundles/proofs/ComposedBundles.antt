@@ -11,10 +11,10 @@ use Rattle.std.proofs.lemmas.List.Splits.{slice_split-cons_yes, slice_split-cons
 use Rattle.std.proofs.lemmas.List.Splits.{slice_split_none, slice_split_at}
 use Rattle.bundles.specs.declared.command.Command.{Command}
 use Rattle.bundles.specs.declared.command.Command.TheVariants.{Frame, Run, Wave, Check, Find}
-use Rattle.bundles.specs.declared.command.Command.TheVariants.{Verify}
+use Rattle.bundles.specs.declared.command.Command.TheVariants.{Verify, Play, Refute}
 use Rattle.bundles.specs.declared.command.Header.{Header}
 use Rattle.bundles.specs.declared.command.Header.TheVariants.{Message, Board, Program, Answers}
-use Rattle.bundles.specs.declared.command.Header.TheVariants.{Table}
+use Rattle.bundles.specs.declared.command.Header.TheVariants.{Table, Seed}
 use Rattle.bundles.specs.Bundles.{Line, starts_section, header_text, headers_of, command_text}
 use Rattle.bundles.specs.Bundles.{bundle_of, bundle_below}
 use Rattle.bundles.specs.Composed.{is_ended, section_text, sections_text, composed, IsPlain}
@@ -120,6 +120,7 @@ header_ends Board = refl
 header_ends Program = refl
 header_ends Answers = refl
 header_ends Table = refl
+header_ends Seed = refl
 
 header_line : (header : Header) → lines (header_text header ++ codes "\n") ≡ header_text header ∷ []
 header_line Message = refl
@@ -127,6 +128,7 @@ header_line Board = refl
 header_line Program = refl
 header_line Answers = refl
 header_line Table = refl
+header_line Seed = refl
 
 header_starts : (header : Header) → starts_section (header_text header) ≡ true
 header_starts Message = refl
@@ -134,6 +136,7 @@ header_starts Board = refl
 header_starts Program = refl
 header_starts Answers = refl
 header_starts Table = refl
+header_starts Seed = refl
 
 command_ends : (command : Command) → is_ended (command_text command ++ codes "\n") ≡ true
 command_ends Frame = refl
@@ -142,6 +145,8 @@ command_ends Wave = refl
 command_ends Check = refl
 command_ends Find = refl
 command_ends Verify = refl
+command_ends Play = refl
+command_ends Refute = refl
 
 command_line : (command : Command)
     → lines (command_text command ++ codes "\n") ≡ command_text command ∷ []
@@ -151,6 +156,8 @@ command_line Wave = refl
 command_line Check = refl
 command_line Find = refl
 command_line Verify = refl
+command_line Play = refl
+command_line Refute = refl
 
 read_below : (command : Command) (below : List Line)
     → bundle_of (command_text command ∷ below) ≡ bundle_below command below
@@ -161,6 +168,8 @@ read_below Wave below = refl
 read_below Check below = refl
 read_below Find below = refl
 read_below Verify below = refl
+read_below Play below = refl
+read_below Refute below = refl
 
 -- the lines of each file below its header
 abbrev lines_below : List Header → List (List ℕ) → List Line

@@ -17,3 +17,11 @@ pub mod Silence
 pub mod ComposedBundles
 mod LastBytes
 mod NoFiles
+pub mod WrittenSlots
+pub mod CutParts
+pub mod Numerals
+pub mod SaidHolds
+pub mod SaidValues
+pub mod SaidLines
+pub mod SaidTexts
+pub mod SaidRuns

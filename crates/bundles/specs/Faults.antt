@@ -4,6 +4,7 @@ use Rattle.bundles.specs.declared.fault.BundleFault.{BundleFault}
 use Rattle.bundles.specs.declared.fault.BundleFault.TheVariants.{NoCommand, NotText, UnknownCommand}
 use Rattle.bundles.specs.declared.fault.BundleFault.TheVariants.{Unexpected, MissingSection}
 use Rattle.bundles.specs.declared.fault.BundleFault.TheVariants.{BadMessage, BadAnswer, TooLarge}
+use Rattle.bundles.specs.declared.fault.BundleFault.TheVariants.{BadSeed}
 
 abbrev pub number_of : BundleFault → ℕ
 number_of NoCommand = 1
@@ -14,6 +15,7 @@ number_of (MissingSection header) = 5
 number_of (BadMessage line) = 6
 number_of (BadAnswer line) = 7
 number_of TooLarge = 8
+number_of (BadSeed line) = 9
 
 abbrev pub name_of : BundleFault → List ℕ
 name_of NoCommand = codes "NoCommand"
@@ -24,3 +26,4 @@ name_of (MissingSection header) = codes "MissingSection"
 name_of (BadMessage line) = codes "BadMessage"
 name_of (BadAnswer line) = codes "BadAnswer"
 name_of TooLarge = codes "TooLarge"
+name_of (BadSeed line) = codes "BadSeed"

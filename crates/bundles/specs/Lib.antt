@@ -17,3 +17,8 @@ pub mod SpelledAnswers
 pub mod Answers
 pub mod WellFormed
 pub mod SectionLines
+pub mod AnswerTexts
+pub mod AnswerLineTexts
+pub mod WrittenWords
+pub mod TextLines
+pub mod Seeds

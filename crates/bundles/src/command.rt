@@ -10,6 +10,8 @@ pub enum Command {
     Check,
     Find,
     Verify,
+    Play,
+    Refute,
 }
 
 /// What a section holds, by the line above it.
@@ -20,6 +22,7 @@ pub enum Header {
     Program,
     Answers,
     Table,
+    Seed,
 }
 
 const FRAME_HEADERS: [Header; 1] = [Header::Message];
@@ -29,6 +32,8 @@ const RUN_HEADERS: [Header; 3] = [Header::Board, Header::Program, Header::Answer
 const CHECK_HEADERS: [Header; 3] = [Header::Board, Header::Program, Header::Table];
 
 const SEARCH_HEADERS: [Header; 2] = [Header::Board, Header::Program];
+
+const PLAY_HEADERS: [Header; 3] = [Header::Board, Header::Program, Header::Seed];
 
 impl Header {
     /// The header line.
@@ -41,6 +46,7 @@ impl Header {
             Header::Program => "%program",
             Header::Answers => "%answers",
             Header::Table => "%table",
+            Header::Seed => "%seed",
         }
     }
 }
@@ -58,6 +64,8 @@ impl Command {
             Command::Check => "%check",
             Command::Find => "%find",
             Command::Verify => "%verify",
+            Command::Play => "%play",
+            Command::Refute => "%refute",
         }
     }
 
@@ -72,6 +80,8 @@ impl Command {
             Command::Check => &CHECK_HEADERS,
             Command::Find => &SEARCH_HEADERS,
             Command::Verify => &SEARCH_HEADERS,
+            Command::Play => &PLAY_HEADERS,
+            Command::Refute => &SEARCH_HEADERS,
         }
     }
 
@@ -86,6 +96,8 @@ impl Command {
             "%check" => Some(Command::Check),
             "%find" => Some(Command::Find),
             "%verify" => Some(Command::Verify),
+            "%play" => Some(Command::Play),
+            "%refute" => Some(Command::Refute),
             _ => None,
         }
     }

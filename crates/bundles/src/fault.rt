@@ -24,6 +24,8 @@ pub enum BundleFault {
     BadAnswer(usize),
     #[error("the bundle is too large")]
     TooLarge,
+    #[error("line {0} is no seed")]
+    BadSeed(usize),
 }
 
 impl BundleFault {
@@ -40,6 +42,7 @@ impl BundleFault {
             BundleFault::BadMessage(_) => 6,
             BundleFault::BadAnswer(_) => 7,
             BundleFault::TooLarge => 8,
+            BundleFault::BadSeed(_) => 9,
         }
     }
 
@@ -56,6 +59,7 @@ impl BundleFault {
             BundleFault::BadMessage(_) => "BadMessage",
             BundleFault::BadAnswer(_) => "BadAnswer",
             BundleFault::TooLarge => "TooLarge",
+            BundleFault::BadSeed(_) => "BadSeed",
         }
     }
 

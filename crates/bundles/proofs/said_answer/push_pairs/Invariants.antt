@@ -1,0 +1,8 @@
+use Rattle.std.proofs.Common.{◌≡◌, ◌++◌, drop, string_bytes}
+use Rattle.texts.specs.Hex.{pairs_text}
+use Rattle.bundles.proofs.said_answer.push_pairs.Given as goal
+
+abbrev pub invariant-loop-byte : goal.invariant-loop-byte
+invariant-loop-byte l =
+    string_bytes l.text ++ pairs_text (drop l.byte-index l.bytes)
+    ≡ string_bytes l.fn.text ++ pairs_text l.bytes
