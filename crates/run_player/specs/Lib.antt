@@ -1,0 +1,3 @@
+pub mod PlayedSteps
+pub mod Plays
+pub mod StartValues
