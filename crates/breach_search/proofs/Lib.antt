@@ -1,0 +1,3 @@
+pub mod HighBits
+pub mod Places
+pub mod Watched
