@@ -1,21 +1,20 @@
 -- What is kept of an input asks for what all of it asks for.
-use Rattle.std.proofs.Common.{◌≡◌, ℕ, Bool, true, List, length, refl, sym, subst, ap, ◌∙◌, take}
+use Rattle.std.proofs.Common.{◌≡◌, ℕ, Bool, true, List, length, refl, subst, ap, ◌∙◌, take}
 use Rattle.std.proofs.Common.{inl, inr, Ok, Err}
 use Rattle.std.specs.Prelude.{nat_lt, MatchResult, Result}
 use Rattle.texts.specs.Reading.{◌>>=◌}
 use Rattle.bundles.specs.declared.fault.BundleFault.{BundleFault}
-use Rattle.session.specs.declared.fault.InputFault.{InputFault}
 use Rattle.session.specs.declared.fault.InputFault.TheVariants as faults
 use Rattle.session.specs.declared.outcome.Case.{Case}
 use Rattle.session.specs.Cases.{IsCaseOf, IsCaseIn, IsTextCase, IsBytesCase}
 use Rattle.session.specs.Faults.{faulted}
-use Rattle.session.specs.Commands.{Task, task_in}
+use Rattle.session.specs.Commands.{task_in}
 use Rattle.session.specs.Outcomes.{IsOutcomeOf, IsTrue}
 use Rattle.session.specs.Replies.{Reply}
 use Rattle.std.proofs.lemmas.Bool.{cases_lt, lt-ltb}
 use Rattle.std.proofs.lemmas.List.{take_all}
-use Rattle.session.specs.Intake.{kept_limit, IsFrontOf, IsKeptOfAll}
-use Rattle.session.specs.Sessions.{kept_text, text_in, IsReplyAfter, IsReplyTo, IsReplyToAll}
+use Rattle.session.specs.Intake.{kept_limit, IsFrontOf}
+use Rattle.session.specs.Sessions.{kept_text, text_in, IsReplyAfter, IsReplyTo}
 use Rattle.session.proofs.Replied.{Tells}
 
 too_large : (kept all : List ℕ) (over : Bool) → over ≡ true → nat_lt kept_limit (length all) ≡ true

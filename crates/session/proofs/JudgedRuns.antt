@@ -3,7 +3,7 @@ use Rattle.std.proofs.Common.{◌≡◌, ◌<◌, ◌+◌, ◌^◌, ◌⊎◌, �
 use Rattle.std.proofs.Common.{None}
 use Rattle.std.proofs.Common.{length, reverse, take, slice_get, Bool, true, false, zero, suc}
 use Rattle.std.proofs.Common.{refl, sym, subst, ap, inl, inr, arith}
-use Rattle.std.specs.Prelude.{IsTrue, Result, Ok, Err, IfOk, IfSome}
+use Rattle.std.specs.Prelude.{IsTrue}
 use Rattle.std.proofs.Math.Path.{fun_ext}
 use Rattle.std.proofs.lemmas.List.{reverse-append}
 use Rattle.smbus.specs.Answered.{Answered}

@@ -13,3 +13,5 @@ pub mod Served
 pub mod ShownFrames
 pub mod AskedBy
 pub mod Replied
+pub mod OneLines
+pub mod PlayedRuns

@@ -1,23 +1,19 @@
 -- A run that is done step by step, of which nothing is kept but the last machine.
 use Rattle.std.proofs.Common.{◌≡◌, ◌≤◌, ◌<◌, ◌^◌, drop, ◌+◌, ℕ, List, [], ◌∷◌, ◌++◌, length, take}
 use Rattle.std.proofs.Common.{slice_get}
-use Rattle.std.proofs.Common.{Some, All, zero, suc, refl, ap, subst, ◌∙◌}
-use Rattle.std.proofs.Common.{length-drop, arith}
+use Rattle.std.proofs.Common.{Some, All, zero, suc, refl, ap, ◌∙◌}
+use Rattle.std.proofs.Common.{arith}
 use native.Mathlib.Numerals.{unary_clauses}
-use Rattle.std.proofs.lemmas.List.{take_all}
 use Rattle.std.proofs.lemmas.List.Elements.{All-append, All-from_recursion}
 use Rattle.smbus.specs.Answered.{Answered}
-use Rattle.targets.specs.States.{IsStart}
-use Rattle.simulator.specs.declared.fault.RunFault.{RunFault}
-use Rattle.simulator.specs.declared.fault.RunFault.TheVariants as faults
-use Rattle.simulator.specs.Faults.{most_ticks, IsStepFault, RunFails}
+use Rattle.simulator.specs.Faults.{most_ticks}
 use Rattle.simulator.specs.Machines.{Machine, Entry, start_at, IsMachine}
 use Rattle.simulator.specs.Steps.{IsRun, total_ticks}
 use Rattle.simulator.specs.RunLaws.{RunsGoOn, TicksAddUp}
-use Rattle.simulator.specs.Traces.{Trace, HasItsFrame}
+use Rattle.simulator.specs.Traces.{HasItsFrame}
 use Rattle.session.specs.Runs.{IsNextStep}
 use Rattle.session.specs.declared.scenario.Scenario.{Scenario}
-use Rattle.session.specs.Scenarios.{start_of, IsRunOf, IsFaultOf}
+use Rattle.session.specs.Scenarios.{start_of}
 
 -- the steps of the answers before an index, and the answers that are left
 pub record IsReplayed (s : Scenario) (left : List Answered) (index ticks : ℕ) (m : Machine)

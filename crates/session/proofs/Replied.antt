@@ -1,5 +1,6 @@
 -- The reply that tells an outcome is one to what was read.
-use Rattle.std.proofs.Common.{◌≡◌, Result, Ok, Err, sym, subst, refl, inl, inr, ℕ, List, String}
+use Rattle.std.proofs.Common.{◌≡◌, Result, Ok, Err, sym, subst, refl, inl, inr, ℕ, String}
+use Rattle.std.proofs.Common.{Option, Some, None, string_bytes}
 use Rattle.std.proofs.Common.{Global}
 use Rattle.simulator.specs.declared.fault.RunFault.{RunFault}
 use Rattle.session.specs.declared.fault.InputFault.{InputFault}
@@ -10,6 +11,9 @@ use Rattle.session.specs.declared.outcome.Judged.{Judged}
 use Rattle.session.specs.declared.outcome.Ran.{Ran}
 use Rattle.session.specs.declared.outcome.Searched.{Searched}
 use Rattle.session.specs.declared.outcome.Verified.{Verified}
+use Rattle.session.specs.declared.outcome.Played.{Played}
+use Rattle.session.specs.declared.outcome.Refutation.{Refutation}
+use Rattle.session.specs.declared.outcome.Refuted.{Refuted}
 use Rattle.session.specs.declared.outcome.Outcome.{Outcome}
 use Rattle.session.specs.declared.outcome.Outcome.TheVariants as outcomes
 use Rattle.session.specs.declared.report.Telling.{Telling}
@@ -17,8 +21,10 @@ use Rattle.session.specs.declared.report.Telling.TheVariants.{Lines, Levels}
 use Rattle.session.specs.declared.scenario.Scenario.{Scenario}
 use Rattle.session.specs.declared.sequence.Sequence.{Sequence}
 use Rattle.session.specs.CheckReplies.{IsCheckReply}
-use Rattle.session.specs.Commands.{Task, Frame, Check, Verify, IsReplyOf, told_task}
+use Rattle.session.specs.Commands.{Task, Frame, Check, Verify, Play, Refute, IsReplyOf, told_task}
 use Rattle.session.specs.Outcomes.{IsOutcomeOf, IsTold, IsChecked, IsVerified}
+use Rattle.session.specs.Outcomes.{IsRefuted as IsRefutedTold, refuted_reply, text_reply}
+use Rattle.session.specs.PlayReplies.{IsRefuteReply}
 use Rattle.session.specs.Outcomes.{told_reply, checked_reply, verified_reply}
 use Rattle.session.specs.Replies.{Reply, refusal}
 use Rattle.session.specs.RunReplies.{IsRunReply}
@@ -106,3 +112,25 @@ pub verified_told : (x : Verified) (reply : Reply) → reply ≡ verified_reply 
 verified_told x reply is read o =
     at read _ reply o.0 (subst (λ r. IsReplyOf (Verify x.sequence) r) (sym is)
     (verified x.sequence x.judged o.1))
+
+pub played_told : (x : Played) (reply : Reply) → reply ≡ text_reply (string_bytes x.text)
+    → Tells (outcomes.Played x) reply
+played_told x reply is read o =
+    at read _ reply o.0 (subst (λ r. IsReplyOf (Play x.sequence x.seed) r) (sym is)
+    (record { says = o.1; status = refl }))
+
+refuted : (s : Sequence) (found : Option Refutation) → IsRefutedTold s found
+    → IsRefuteReply s (refuted_reply found)
+refuted s (Some x) is = inl (record {
+  breach = x.breach;
+  says = is.says;
+  harms = is.harms;
+  status = refl;
+})
+refuted s None is = inr refl
+
+pub refuted_told : (x : Refuted) (reply : Reply) → reply ≡ refuted_reply x.found
+    → Tells (outcomes.Refuted x) reply
+refuted_told x reply is read o =
+    at read _ reply o.0 (subst (λ r. IsReplyOf (Refute x.sequence) r) (sym is)
+    (refuted x.sequence x.found o.1))

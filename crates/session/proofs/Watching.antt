@@ -1,7 +1,6 @@
 -- A run that is watched step by step.
 use Rattle.std.proofs.Common.{◌≡◌, ◌∷◌, ◌<◌, ◌+◌, ◌^◌, ℕ, List, [], Option, Some, None, All, length}
-use Rattle.std.proofs.Common.{MatchOption, refl, sym, subst, ap, is_some, false, ◌∙◌}
-use Rattle.std.specs.Prelude.{IsSomeAnd}
+use Rattle.std.proofs.Common.{MatchOption, refl, sym, subst, ap, ◌∙◌}
 use Rattle.smbus.specs.Answered.{Answered}
 use Rattle.board.specs.Boards.{Board}
 use Rattle.board.specs.Valid.{IsBoard}
@@ -9,12 +8,10 @@ use Rattle.targets.specs.States.{IsStart}
 use Rattle.seq_program.specs.declared.instr.Instr.{Instr}
 use Rattle.seq_program.specs.Valid.{IsOnBoard, IsProgram}
 use Rattle.simulator.specs.declared.fault.RunFault.{RunFault}
-use Rattle.simulator.specs.declared.machine.Ending.TheVariants.{Running}
 use Rattle.simulator.specs.Faults.{IsStepFault}
 use Rattle.simulator.specs.Machines.{Machine, Entry, start_at}
 use Rattle.simulator.specs.RunLaws.{RunsAreOne, StepsAreOne, RunsGoOn, TicksAddUp}
 use Rattle.simulator.specs.StepLaws.{StartsAreReady, StepsAreSeen}
-use Rattle.facts.specs.declared.duties.rule.Rule.{Rule}
 use Rattle.facts.specs.domain.Rows.{row_view}
 use Rattle.table_check.specs.checker.Admitted.{StartsAreAdmitted, StepsStayAdmitted}
 use Rattle.run_monitor.specs.declared.breach.Reached.{Reached}
@@ -22,7 +19,7 @@ use Rattle.run_monitor.specs.declared.monitor.Monitor.{Monitor}
 use Rattle.session.specs.declared.scenario.Scenario.{Scenario}
 use Rattle.run_monitor.specs.Accepted.{AdmittedKeepRules}
 use Rattle.session.specs.Breaches.{IsFirstBreach, IsKnownAt}
-use Rattle.run_monitor.specs.Known.{Knows, known_row}
+use Rattle.run_monitor.specs.Known.{Knows}
 use Rattle.session.specs.Runs.{IsNextStep}
 use Rattle.session.specs.Scenarios.{start_of}
 use Rattle.run_monitor.specs.Monitors.{good_of, HasSeen, GoesWell, ComesToBreach}

@@ -14,17 +14,19 @@ use Rattle.session.specs.Faults.{faulted}
 use Rattle.bundles.specs.Bundles.{Line, Section, Bundle, bundle_of}
 use Rattle.bundles.specs.declared.message.Exchange.{Exchange}
 use Rattle.bundles.specs.Messages.{exchange_in}
+use Rattle.bundles.specs.Seeds.{seed_in}
 use Rattle.session.specs.Replies.{Reply}
 use Rattle.session.specs.FrameReplies.{IsFrameReply}
 use Rattle.session.specs.RunReplies.{IsRunReply}
 use Rattle.session.specs.CheckReplies.{IsCheckReply}
 use Rattle.session.specs.SearchReplies.{IsFindReply, IsVerifyReply}
+use Rattle.session.specs.PlayReplies.{IsPlayReply, IsRefuteReply}
 use Rattle.session.specs.Scenarios.{scenario_in}
 use Rattle.session.specs.Sequences.{sequence_in}
 use Rattle.session.specs.Trials.{Trial, trial_in}
 
 -- a message with its answer, a program with answers, whose run or whose levels are told, a program
--- with a table, or a program alone
+-- with a table, a program alone, or a program with a seed
 pub data Task : Type 0 where
   Frame : (exchange : Exchange) → Task
   Run : (scenario : Scenario) → Task
@@ -32,6 +34,8 @@ pub data Task : Type 0 where
   Check : (trial : Trial) → Task
   Find : (sequence : Sequence) → Task
   Verify : (sequence : Sequence) → Task
+  Play : (sequence : Sequence) (seed : ℕ) → Task
+  Refute : (sequence : Sequence) → Task
 
 abbrev pub section_at : List Section → ℕ → Section
 section_at sections place = slice_index_or sections place (record { first_line = 0; lines = [] })
@@ -58,6 +62,14 @@ find_task on program = sequence_in on program >>= λ sequence. Ok (Find sequence
 abbrev pub verify_task : Section → Section → Result Task InputFault
 verify_task on program = sequence_in on program >>= λ sequence. Ok (Verify sequence)
 
+abbrev pub play_task : Section → Section → Section → Result Task InputFault
+play_task on program seed =
+    sequence_in on program >>= λ sequence. faulted faults.Bundle (seed_in seed) >>= λ seed.
+    Ok (Play sequence seed)
+
+abbrev pub refute_task : Section → Section → Result Task InputFault
+refute_task on program = sequence_in on program >>= λ sequence. Ok (Refute sequence)
+
 abbrev pub asked_by : Command → List Section → Result Task InputFault
 asked_by commands.Frame sections = frame_task (section_at sections 0)
 asked_by commands.Run sections =
@@ -68,6 +80,9 @@ asked_by commands.Check sections =
     check_task (section_at sections 0) (section_at sections 1) (section_at sections 2)
 asked_by commands.Find sections = find_task (section_at sections 0) (section_at sections 1)
 asked_by commands.Verify sections = verify_task (section_at sections 0) (section_at sections 1)
+asked_by commands.Play sections =
+    play_task (section_at sections 0) (section_at sections 1) (section_at sections 2)
+asked_by commands.Refute sections = refute_task (section_at sections 0) (section_at sections 1)
 
 abbrev pub bundle_task : Bundle → Result Task InputFault
 bundle_task bundle = asked_by bundle.command bundle.sections
@@ -88,3 +103,5 @@ IsReplyOf (Wave scenario) reply = IsRunReply Levels scenario reply
 IsReplyOf (Check trial) reply = IsCheckReply trial reply
 IsReplyOf (Find sequence) reply = IsFindReply sequence reply
 IsReplyOf (Verify sequence) reply = IsVerifyReply sequence reply
+IsReplyOf (Play sequence seed) reply = IsPlayReply sequence reply
+IsReplyOf (Refute sequence) reply = IsRefuteReply sequence reply

@@ -12,7 +12,7 @@ use Rattle.bundles.specs.Bundles.{header_text}
 use Rattle.bundles.specs.Faults.{number_of, name_of}
 use Rattle.bundles.specs.declared.fault.BundleFault.{BundleFault}
 use Rattle.bundles.specs.declared.fault.BundleFault.TheVariants.{Unexpected, MissingSection}
-use Rattle.bundles.specs.declared.fault.BundleFault.TheVariants.{BadMessage, BadAnswer}
+use Rattle.bundles.specs.declared.fault.BundleFault.TheVariants.{BadMessage, BadAnswer, BadSeed}
 use Rattle.session.specs.declared.fault.InputFault.{InputFault}
 use Rattle.session.specs.declared.fault.InputFault.TheVariants as faults
 
@@ -27,6 +27,7 @@ detail_of (Unexpected line) = codes " " ++ decimal line
 detail_of (MissingSection header) = codes " " ++ header_text header
 detail_of (BadMessage line) = codes " " ++ decimal line
 detail_of (BadAnswer line) = codes " " ++ decimal line
+detail_of (BadSeed line) = codes " " ++ decimal line
 detail_of _ = []
 
 -- the line or the index, where there is one

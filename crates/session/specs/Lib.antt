@@ -12,6 +12,7 @@ pub mod Trials
 pub mod CheckReplies
 pub mod Sequences
 pub mod SearchReplies
+pub mod PlayReplies
 pub mod Commands
 pub mod Sessions
 pub mod Promises

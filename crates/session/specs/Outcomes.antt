@@ -1,15 +1,16 @@
 -- What became of an input, and the reply that tells it.
-use Rattle.std.specs.Prelude.{◌≡◌, ℕ, List, Result, Ok, Err, MatchResult, String}
+use Rattle.std.specs.Prelude.{◌≡◌, ℕ, List, Option, Some, None, Result, Ok, Err, IfSome}
+use Rattle.std.specs.Prelude.{MatchResult}
+use Rattle.std.specs.Prelude.{String}
 use Rattle.std.specs.Prelude.{string_bytes}
 use Rattle.std.specs.Global.{Global}
 use Rattle.board.specs.Boards.{Board}
 use Rattle.seq_program.specs.declared.instr.Instr.{Instr}
 use Rattle.simulator.specs.declared.fault.RunFault.{RunFault}
-use Rattle.simulator.specs.declared.fault.RunFault.TheVariants.{Memory}
 use Rattle.smbus.specs.declared.fault.SmbusFault.{SmbusFault}
 use Rattle.texts.specs.Words.{lines_by_feed}
 use Rattle.bundles.specs.declared.message.Exchange.{Exchange}
-use Rattle.table_check.specs.Tables.{Table, table_view}
+use Rattle.table_check.specs.Tables.{table_view}
 use Rattle.table_check.specs.declared.table.Table.{Table as TableCode}
 use Rattle.table_check.specs.text.Texts.{IsFirstBadLine, IsTextOf}
 use Rattle.table_check.specs.declared.text.fault.TableFault.TheVariants.{BadLine}
@@ -18,12 +19,8 @@ use Rattle.table_check.specs.checker.SafeTables.{IsSafeVerdict}
 use Rattle.fact_search.specs.Forward.{IsForward}
 use Rattle.session.specs.declared.fault.InputFault.{InputFault as Fault}
 use Rattle.session.specs.declared.fault.InputFault.TheVariants as faults
-use Rattle.session.specs.declared.outcome.Framed.{Framed}
-use Rattle.session.specs.declared.outcome.Ran.{Ran}
 use Rattle.session.specs.declared.outcome.Judged.{Judged}
-use Rattle.session.specs.declared.outcome.Checked.{Checked}
-use Rattle.session.specs.declared.outcome.Searched.{Searched}
-use Rattle.session.specs.declared.outcome.Verified.{Verified}
+use Rattle.session.specs.declared.outcome.Refutation.{Refutation}
 use Rattle.session.specs.declared.outcome.Outcome.{Outcome}
 use Rattle.session.specs.declared.outcome.Outcome.TheVariants as outcomes
 use Rattle.session.specs.declared.reply.Status.{Status}
@@ -33,8 +30,9 @@ use Rattle.session.specs.declared.scenario.Scenario.{Scenario}
 use Rattle.session.specs.declared.sequence.Sequence.{Sequence}
 use Rattle.session.specs.Breaches.{IsFoundIn}
 use Rattle.session.specs.CheckReplies.{verdict_reply, verdict_status}
-use Rattle.session.specs.Commands.{Task, Frame, Check, Find, Verify, told_task}
+use Rattle.session.specs.Commands.{Task, Frame, Check, Find, Verify, Play, Refute, told_task}
 use Rattle.session.specs.FrameReplies.{IsFrameReply}
+use Rattle.session.specs.PlayReplies.{HasNoTable, SaysBreach, SaysRun, no_run_reply}
 use Rattle.session.specs.Replies.{Reply, refusal}
 use Rattle.session.specs.RunReplies.{IsRunText}
 use Rattle.session.specs.Scenarios.{IsFaultOf, IsOnItsBoard}
@@ -63,6 +61,10 @@ abbrev pub verified_reply : Result Judged ℕ → Reply
 verified_reply (Ok judged) = verdict_reply (verdict_of judged.judgement)
 verified_reply (Err place) = gave_up_reply place
 
+abbrev pub refuted_reply : Option Refutation → Reply
+refuted_reply (Some refutation) = text_reply (string_bytes refutation.text)
+refuted_reply None = no_run_reply
+
 -- ---- the status
 
 abbrev pub told_status : {T E : Type 0} → Result T E → Status
@@ -81,6 +83,10 @@ abbrev pub verified_status : Result Judged ℕ → Status
 verified_status (Ok judged) = verdict_status (verdict_of judged.judgement)
 verified_status (Err place) = Refused
 
+abbrev pub refuted_status : Option Refutation → Status
+refuted_status (Some refutation) = Accepted
+refuted_status None = Refused
+
 abbrev pub status_of : Outcome → Status
 status_of (outcomes.Unread x) = InputFault
 status_of (outcomes.Framed x) = told_status x.told
@@ -88,6 +94,8 @@ status_of (outcomes.Ran x) = told_status x.told
 status_of (outcomes.Checked x) = checked_status x.judged
 status_of (outcomes.Searched x) = searched_status x.found
 status_of (outcomes.Verified x) = verified_status x.judged
+status_of (outcomes.Played x) = Accepted
+status_of (outcomes.Refuted x) = refuted_status x.found
 
 -- ---- what was found is true
 
@@ -133,6 +141,14 @@ abbrev pub IsVerified : Sequence → Result Judged ℕ → Type 0
 IsVerified s judged =
     MatchResult judged (IsFoundAndJudged s) (λ place. MayGiveUp s.program)
 
+-- the run breaks the rule that is told
+pub record IsRefutation (s : Sequence) (x : Refutation) : Type 0 where
+  pub says : SaysBreach s x.breach (string_bytes x.text)
+  pub harms : HasNoTable s
+
+abbrev pub IsRefuted : Sequence → Option Refutation → Type 0
+IsRefuted s found = IfSome found (IsRefutation s)
+
 -- what was read of an input is what it asks for, and what was found of that is true
 abbrev pub IsOutcomeOf : Result Task Fault → Outcome → Type 0
 IsOutcomeOf read (outcomes.Unread x) = read ≡ Err (fault_of x)
@@ -147,6 +163,10 @@ IsOutcomeOf read (outcomes.Searched x) =
     (read ≡ Ok (Find x.sequence)) × IsSearched x.sequence x.found
 IsOutcomeOf read (outcomes.Verified x) =
     (read ≡ Ok (Verify x.sequence)) × IsVerified x.sequence x.judged
+IsOutcomeOf read (outcomes.Played x) =
+    (read ≡ Ok (Play x.sequence x.seed)) × SaysRun x.sequence (string_bytes x.text)
+IsOutcomeOf read (outcomes.Refuted x) =
+    (read ≡ Ok (Refute x.sequence)) × IsRefuted x.sequence x.found
 
 -- and it is true of some input
 abbrev pub IsTrue : Outcome → Type 0

@@ -35,7 +35,8 @@ fn detail_of(alloc: Global, fault: BundleFault) -> Result<String, AllocError>
     match fault {
         BundleFault::Unexpected(line)
         | BundleFault::BadMessage(line)
-        | BundleFault::BadAnswer(line) => { format!(in alloc; " {line}") }
+        | BundleFault::BadAnswer(line)
+        | BundleFault::BadSeed(line) => { format!(in alloc; " {line}") }
         BundleFault::MissingSection(header) => {
             let text = header.text();
             format!(in alloc; " {text}")

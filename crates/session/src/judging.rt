@@ -5,7 +5,7 @@ ghost use Rattle.bundles.specs.Bundles.{headers_of};
 ghost use Rattle.bundles.specs.Views.{bundle_view, section_view};
 ghost use Rattle.session.specs.Cases.{IsCaseIn, IsCaseOf, IsTextCase, text_front};
 ghost use Rattle.session.specs.Commands.{bundle_task, check_task, find_task, frame_task, run_task};
-ghost use Rattle.session.specs.Commands.{verify_task, Task};
+ghost use Rattle.session.specs.Commands.{play_task, refute_task, verify_task, Task};
 ghost use Rattle.session.specs.Intake.{IsFrontOf};
 ghost use Rattle.session.specs.Outcomes.{Becomes, IsOutcomeOf, IsTrue};
 ghost use Rattle.session.specs.declared.fault.InputFault.{InputFault};
@@ -15,7 +15,9 @@ ghost use Rattle.session.specs.declared.unread.Unread.TheVariants as unread;
 use crate::checking::judge_text;
 use crate::frame::frame_of;
 use crate::intake::{Input, text_of};
-use crate::outcome::{Case, Checked, Framed, Outcome, Ran, Searched, Verified};
+use crate::outcome::{Case, Checked, Framed, Outcome, Played, Ran, Refuted, Searched, Verified};
+use crate::playing::{play_text, seed_of};
+use crate::refuting::refute;
 use crate::report::Telling;
 use crate::scenario::scenario_in;
 use crate::searching::{search, verify};
@@ -99,6 +101,39 @@ fn verified<'a>(
     Ok(Outcome::Verified(Verified { sequence, judged }))
 }
 
+/// A program of which a run is played.
+fn played<'a>(
+    alloc: Global,
+    on: &Section<'_>,
+    program: &Section<'_>,
+    seed: &Section<'_>,
+) -> Result<Outcome<'a>, ReadError<Unread>>
+    ensures { Becomes result (play_task (section_view on.now) (section_view program.now)
+        (section_view seed.now)) }
+{
+    let sequence = sequence_in(alloc, on, program)?;
+    let seed = seed_of(seed)?;
+    let text = play_text(alloc, &sequence, seed)?;
+    Ok(Outcome::Played(Played {
+        sequence,
+        seed,
+        text,
+    }))
+}
+
+/// A program for which a run is searched that breaks a rule.
+fn refuted<'a>(
+    alloc: Global,
+    on: &Section<'_>,
+    program: &Section<'_>,
+) -> Result<Outcome<'a>, ReadError<Unread>>
+    ensures { Becomes result (refute_task (section_view on.now) (section_view program.now)) }
+{
+    let sequence = sequence_in(alloc, on, program)?;
+    let found = refute(alloc, &sequence)?;
+    Ok(Outcome::Refuted(Refuted { sequence, found }))
+}
+
 /// What becomes of a bundle, or why a part of it can't be read. Its sections are read in order.
 fn outcome_of<'a>(alloc: Global, bundle: &Bundle<'a>) -> Result<Outcome<'a>, ReadError<Unread>>
     requires { vec_len bundle.now.sections ≡ length (headers_of bundle.now.command) }
@@ -112,6 +147,8 @@ fn outcome_of<'a>(alloc: Global, bundle: &Bundle<'a>) -> Result<Outcome<'a>, Rea
         Command::Check => checked(alloc, &parts[0], &parts[1], &parts[2]),
         Command::Find => searched(alloc, &parts[0], &parts[1]),
         Command::Verify => verified(alloc, &parts[0], &parts[1]),
+        Command::Play => played(alloc, &parts[0], &parts[1], &parts[2]),
+        Command::Refute => refuted(alloc, &parts[0], &parts[1]),
     }
 }
 

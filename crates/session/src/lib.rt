@@ -10,6 +10,8 @@ mod intake;
 mod judging;
 mod outcome;
 mod place;
+mod playing;
+mod refuting;
 mod reply;
 mod replying;
 mod report;
@@ -28,7 +30,9 @@ pub use ending::outcome_line;
 pub use fault::InputFault;
 pub use intake::{Input, ReadFault, read_input, text_of};
 pub use judging::{judge, text_front};
-pub use outcome::{Case, Checked, Framed, Judged, Outcome, Ran, Searched, Verified};
+pub use outcome::{
+    Case, Checked, Framed, Judged, Outcome, Played, Ran, Refutation, Refuted, Searched, Verified,
+};
 pub use place::{place_line, place_lines};
 pub use reply::{Reply, Status};
 pub use replying::reply_of;

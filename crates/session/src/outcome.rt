@@ -7,7 +7,7 @@ use crate::stop::Stop;
 use crate::trial::Trial;
 use crate::unread::Unread;
 use bundles::{Exchange, Section};
-use run_monitor::Reached;
+use run_monitor::{Breach, Reached};
 use simulator::RunFault;
 use smbus::SmbusFault;
 use table_check::{Judgement, Table};
@@ -61,6 +61,30 @@ pub struct Verified {
     pub judged: Result<Judged, usize>,
 }
 
+/// A run of a program that was played by a seed, as the text of how its targets start and of what
+/// they answer.
+#[derive(Drop)]
+pub struct Played {
+    pub sequence: Sequence,
+    pub seed: u64,
+    pub text: String,
+}
+
+/// A run in which a program breaks a rule with its last instruction: which rule and where, and the
+/// text of how its targets start and of what they answer.
+#[derive(Drop)]
+pub struct Refutation {
+    pub breach: Breach,
+    pub text: String,
+}
+
+/// A program for which a run that breaks a rule was searched, and the run, if one was found.
+#[derive(Drop)]
+pub struct Refuted {
+    pub sequence: Sequence,
+    pub found: Option<Refutation>,
+}
+
 /// What became of an input. The reply to it and the notes on it are made from this.
 #[derive(Drop)]
 pub enum Outcome<'a> {
@@ -70,6 +94,8 @@ pub enum Outcome<'a> {
     Checked(Checked),
     Searched(Searched),
     Verified(Verified),
+    Played(Played),
+    Refuted(Refuted),
 }
 
 /// An input that was judged: as far as it is text, the sections of its bundle, none where it is no

@@ -5,7 +5,7 @@ ghost use Rattle.session.specs.CheckReplies.{verdict_text, verdict_reply};
 ghost use Rattle.session.specs.Commands.{Task};
 ghost use Rattle.session.specs.Outcomes.{IsOutcomeOf, IsTrue, told_reply, checked_reply};
 ghost use Rattle.session.specs.Outcomes.{verified_reply, text_reply, IsSearched};
-ghost use Rattle.session.specs.Outcomes.{searched_status, status_of};
+ghost use Rattle.session.specs.Outcomes.{refuted_reply, searched_status, status_of};
 ghost use Rattle.session.specs.Unreads.{fault_of};
 ghost use Rattle.session.specs.Replies.{reply_view, refusal};
 ghost use Rattle.session.specs.SearchReplies.{gave_up_reply, IsFindReply, MayBeFound, Prints};
@@ -16,7 +16,7 @@ ghost use Rattle.session.specs.declared.fault.InputFault.{InputFault as AnyFault
 ghost use Rattle.session.specs.declared.fault.InputFault.TheVariants as faults;
 
 use crate::fault::InputFault;
-use crate::outcome::{Case, Checked, Framed, Outcome, Ran, Searched, Verified};
+use crate::outcome::{Case, Checked, Framed, Outcome, Played, Ran, Refuted, Searched, Verified};
 use crate::reply::{Reply, Status, refused};
 use crate::sequence::Sequence;
 use crate::unread::Unread;
@@ -156,6 +156,28 @@ fn verified_reply(alloc: Global, verified: Verified) -> Result<Reply, AllocError
     }
 }
 
+fn played_reply(played: Played) -> Reply
+    ensures whole { result.status ≢ Status.DeviceFault }
+    ensures replies { reply_view result ≡ text_reply (string_bytes played.text) }
+{
+    let Played { text, .. } = played;
+    text_reply(text)
+}
+
+fn refuted_reply(alloc: Global, refuted: Refuted) -> Result<Reply, AllocError>
+    ensures whole { IfOk result (λ reply. reply.status ≢ Status.DeviceFault) }
+    ensures replies { IfOk result (λ reply. reply_view reply ≡ refuted_reply refuted.found) }
+{
+    let Refuted { found, .. } = refuted;
+    match found {
+        Some(refutation) => Ok(text_reply(refutation.text)),
+        None => Ok(Reply {
+            status: Status::Refused,
+            text: b"no run found\n".to_vec(alloc)?,
+        }),
+    }
+}
+
 /// The reply to what was read of an outcome that is true of it.
 fn outcome_reply(alloc: Global, outcome: Outcome<'_>) -> Result<Reply, AllocError>
     requires { IsTrue outcome }
@@ -171,6 +193,8 @@ fn outcome_reply(alloc: Global, outcome: Outcome<'_>) -> Result<Reply, AllocErro
         Outcome::Checked(checked) => checked_reply(alloc, checked),
         Outcome::Searched(searched) => searched_reply(alloc, searched),
         Outcome::Verified(verified) => verified_reply(alloc, verified),
+        Outcome::Played(played) => Ok(played_reply(played)),
+        Outcome::Refuted(refuted) => refuted_reply(alloc, refuted),
     }
 }
 

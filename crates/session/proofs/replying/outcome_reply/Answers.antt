@@ -1,7 +1,7 @@
 use Rattle.std.proofs.lemmas.Result.{IfOk-weaker}
 use Rattle.session.specs.declared.outcome.Outcome.TheVariants as outcomes
 use Rattle.session.specs.Replies.{reply_view}
-use Rattle.session.proofs.Replied.{Tells, ran_told, checked_told, verified_told}
+use Rattle.session.proofs.Replied.{Tells, ran_told, checked_told, verified_told, refuted_told}
 use Rattle.session.proofs.replying.outcome_reply.Goals as goal
 
 pub returns-in-Ran-clause-replies : goal.returns-in-Ran-clause-replies
@@ -26,3 +26,11 @@ returns-in-Verified-clause-replies c =
     (λ reply. Tells (outcomes.Verified c.in-Verified.verified) (reply_view reply))
     (λ reply is. verified_told c.in-Verified.verified (reply_view reply) is)
     c.verified_reply.ensures.replies)
+
+pub returns-in-Refuted-clause-replies : goal.returns-in-Refuted-clause-replies
+returns-in-Refuted-clause-replies c =
+    rw c.in-Refuted.is
+    (IfOk-weaker c.refuted_reply.result _
+    (λ reply. Tells (outcomes.Refuted c.in-Refuted.refuted) (reply_view reply))
+    (λ reply is. refuted_told c.in-Refuted.refuted (reply_view reply) is)
+    c.refuted_reply.ensures.replies)
