@@ -27,6 +27,8 @@ IsBoundIn sections (outcomes.Searched x) note = note ≡ None
 IsBoundIn sections (outcomes.Verified x) note =
     MatchResult x.judged (λ judged. IsBoundOfJudgement sections judged.judgement note)
     (λ place. note ≡ None)
+IsBoundIn sections (outcomes.Played x) note = note ≡ None
+IsBoundIn sections (outcomes.Refuted x) note = note ≡ None
 
 -- and where it is asked for
 abbrev pub IsBoundOf : Beside → List Section → Outcome → Option Note → Type 0

@@ -3,7 +3,7 @@ use Rattle.std.specs.Prelude.{ℕ, ◌-◌, List, MatchOption, codes, slice_get}
 use Rattle.texts.specs.Words.{lines_by_feed}
 use Rattle.bundles.specs.Bundles.{Section, header_text}
 use Rattle.bundles.specs.declared.command.Header.{Header}
-use Rattle.bundles.specs.declared.command.Header.TheVariants.{Message, Answers}
+use Rattle.bundles.specs.declared.command.Header.TheVariants.{Message, Answers, Seed}
 use Rattle.bundles.specs.declared.fault.BundleFault.{BundleFault}
 use Rattle.bundles.specs.declared.fault.BundleFault.TheVariants as faults
 use Rattle.session.specs.SectionTexts.{section_text}
@@ -33,4 +33,6 @@ IsOnFault text sections (faults.BadMessage line) note =
     IsOnSectionLine text sections Message 0 line note
 IsOnFault text sections (faults.BadAnswer line) note =
     IsOnSectionLine text sections Answers 2 line note
+IsOnFault text sections (faults.BadSeed line) note =
+    IsOnSectionLine text sections Seed 2 line note
 IsOnFault text sections fault note = IsOnBundleLine text 1 note

@@ -78,3 +78,5 @@ IsErrorOf text sections (outcomes.Searched x) note =
 IsErrorOf text sections (outcomes.Verified x) note =
     MatchResult x.judged (λ judged. IsOnJudgement sections judged.judgement note)
     (λ place. IsOnRefusal sections place note)
+IsErrorOf text sections (outcomes.Played x) note = note ≡ None
+IsErrorOf text sections (outcomes.Refuted x) note = note ≡ None

@@ -46,3 +46,5 @@ AreOthersOf sections (outcomes.Ran x) others = NoneIsLeft others
 AreOthersOf sections (outcomes.Checked x) others = NoneIsLeft others
 AreOthersOf sections (outcomes.Searched x) others = NoneIsLeft others
 AreOthersOf sections (outcomes.Verified x) others = NoneIsLeft others
+AreOthersOf sections (outcomes.Played x) others = NoneIsLeft others
+AreOthersOf sections (outcomes.Refuted x) others = NoneIsLeft others

@@ -64,3 +64,7 @@ AreWarningsOf sections (outcomes.Searched x) warnings =
     WarnsOf sections x.sequence.board x.sequence.program None None warnings
 AreWarningsOf sections (outcomes.Verified x) warnings =
     WarnsOf sections x.sequence.board x.sequence.program (judged_in x.judged) None warnings
+AreWarningsOf sections (outcomes.Played x) warnings =
+    WarnsOf sections x.sequence.board x.sequence.program None None warnings
+AreWarningsOf sections (outcomes.Refuted x) warnings =
+    WarnsOf sections x.sequence.board x.sequence.program None None warnings

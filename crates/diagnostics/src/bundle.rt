@@ -120,8 +120,8 @@ fn no_command(alloc: Global) -> Result<Remark, AllocError> {
 }
 
 /// What a person needs to mend a text that is no bundle: the fault's line with its number, what is
-/// wrong with it, and what may help. Lines of messages and answers are counted in their sections.
-/// What has no line is told at the first, which has the command.
+/// wrong with it, and what may help. Lines of messages, answers and seeds are counted in their
+/// sections. What has no line is told at the first, which has the command.
 ///
 /// The sections are those of the text, none where it is no bundle, and the fault is to be the one
 /// that the bundle's readers answer for it. Of another fault the note still names its line, and
@@ -141,6 +141,9 @@ pub fn bundle_note(
         }
         BundleFault::BadAnswer(line) => {
             return section_note(alloc, text, sections, Header::Answers, 2, line);
+        }
+        BundleFault::BadSeed(line) => {
+            return section_note(alloc, text, sections, Header::Seed, 2, line);
         }
         BundleFault::Unexpected(line) => {
             let remark = unexpected_line(alloc, text, line)?;

@@ -277,5 +277,7 @@ pub fn note_on(alloc: Global, case: &Case<'_>) -> Result<Option<Note>, AllocErro
         Outcome::Checked(checked) => checked_note(alloc, sections, checked),
         Outcome::Searched(searched) => searched_note(alloc, sections, searched),
         Outcome::Verified(verified) => verified_note(alloc, sections, verified),
+        Outcome::Played(_) => Ok(None),
+        Outcome::Refuted(_) => Ok(None),
     }
 }

@@ -261,5 +261,13 @@ pub fn warnings_on(alloc: Global, case: &Case<'_>) -> Result<Warnings, AllocErro
             let judged = judged_in(&verified.judged);
             warnings_of(alloc, sections, board, program, judged, None)
         }
+        Outcome::Played(played) => {
+            let Sequence { board, program } = &played.sequence;
+            warnings_of(alloc, sections, board, program, None, None)
+        }
+        Outcome::Refuted(refuted) => {
+            let Sequence { board, program } = &refuted.sequence;
+            warnings_of(alloc, sections, board, program, None, None)
+        }
     }
 }

@@ -9,7 +9,9 @@ use notes::{line_at, lowercase_suggestion};
 use std::alloc::{AllocError, Global};
 use texts::first_line;
 
-const COMMANDS: [&str; 6] = ["%frame", "%run", "%wave", "%check", "%find", "%verify"];
+const COMMANDS: [&str; 8] = [
+    "%frame", "%run", "%wave", "%check", "%find", "%verify", "%play", "%refute",
+];
 
 /// What the first line has to be.
 fn commands_help(alloc: Global) -> Result<Option<String>, AllocError> {

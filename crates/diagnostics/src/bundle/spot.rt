@@ -1,4 +1,4 @@
-//! Lines of `%message` and of `%answers` that can't be read.
+//! Lines of `%message`, of `%answers` and of `%seed` that can't be read.
 
 use crate::bundle::field::{ANSWER_FIELDS, Flaw, MESSAGE_FIELDS, first_flaw};
 use crate::counted::counted_line;
@@ -147,10 +147,40 @@ fn message_flaw(alloc: Global, spot: Spot) -> Result<Flaw, AllocError> {
     }
 }
 
-/// What is wrong with a line of `%message` or of `%answers`.
+/// How a seed looks.
+const SEED: &str = "a seed is a decimal number up to 18446744073709551615, without leading zeros";
+
+/// What is said, and how a seed looks.
+fn seed_advice(message: Sentence<'_>) -> Advice<'_> {
+    Advice {
+        message,
+        help: Some(say![{ Text(SEED) }]),
+    }
+}
+
+/// What is wrong with a line that is no seed, or a second one.
+fn bad_seed_line(line: &str, is_second: bool) -> Sentence<'_> {
+    if is_second {
+        return say!["a second seed, and a run has one"];
+    }
+    say!["expected a seed, found " {Name(line)}]
+}
+
+/// What is wrong with a line of `%seed`.
+fn seed_flaw(alloc: Global, spot: Spot) -> Result<Flaw, AllocError> {
+    let Some(line) = line_at(spot.text, spot.number) else {
+        let message = say!["there is no seed"];
+        return Ok(Flaw::of_line(seed_advice(message).told(alloc)?));
+    };
+    let message = bad_seed_line(line, spot.is_counted(1));
+    Ok(Flaw::of_line(seed_advice(message).told(alloc)?))
+}
+
+/// What is wrong with a line of `%message`, of `%answers` or of `%seed`.
 pub(crate) fn spot_flaw(alloc: Global, header: Header, spot: Spot) -> Result<Flaw, AllocError> {
     match header {
         Header::Message => message_flaw(alloc, spot),
+        Header::Seed => seed_flaw(alloc, spot),
         _ => answers_flaw(alloc, spot),
     }
 }
