@@ -1,6 +1,6 @@
 //! What the words behind the command's name ask for.
 
-ghost use Rattle.std.specs.Prelude.{◌≡◌, ◌∷◌, IfSome};
+ghost use Rattle.std.specs.Prelude.{◌≡◌, ◌∷◌, ◌<◌, IfSome, length};
 ghost use Rattle.texts.specs.Ascii as ascii;
 ghost use Rattle.bundles.specs.Bundles.{command_text};
 
@@ -9,14 +9,19 @@ use bundles::Command;
 use diagnostics::Beside;
 
 /// The commands, in the order in which a page of help has them.
-pub(crate) const COMMANDS: [Command; 6] = [
+pub(crate) const COMMANDS: [Command; 8] = [
     Command::Verify,
+    Command::Refute,
     Command::Find,
     Command::Check,
     Command::Run,
     Command::Wave,
+    Command::Play,
     Command::Frame,
 ];
+
+/// The seed of the plain run.
+const PLAIN_SEED: &str = "0";
 
 /// In which form notes are told.
 #[derive(Clone, Copy, PartialEq, Eq)]
@@ -27,19 +32,21 @@ pub(crate) enum NoteForm {
     Sarif,
 }
 
-/// How notes are told, and what is told beside a verdict.
+/// How notes are told, what is told beside a verdict, and the seed of a run.
 #[derive(Clone, Copy)]
-pub(crate) struct Options {
+pub(crate) struct Options<'a> {
     pub form: NoteForm,
     pub beside: Beside,
+    pub seed: Option<&'a str>,
 }
 
-/// A command and the names of the files that it takes, one for each of its sections.
+/// A command and the names of the files that it takes, one for each of its first sections. Where
+/// the options have a seed, the last section comes of the run that this plays.
 #[derive(Clone, Copy)]
 pub(crate) struct Request<'a> {
     pub command: Command,
     pub names: &'a [String],
-    pub options: Options,
+    pub options: Options<'a>,
 }
 
 /// What a call asks for.
@@ -79,14 +86,45 @@ fn asks_for_help(word: &str) -> bool {
     word == "--help" || word == "-h"
 }
 
-/// The request of a command for the files with these names.
-fn request_of(
+/// Whether a command runs a program, so that the run may be played.
+fn runs(command: Command) -> bool {
+    matches!(command, Command::Run | Command::Wave | Command::Play)
+}
+
+/// The names of files among the words behind a command, and the seed of the run that is to be
+/// played, if one is: a run without answers is, and `play` may have its seed behind the files.
+fn files_and_seed<'a>(
     command: Command,
-    names: &[String],
-    options: Options,
-) -> Result<Call<'_>, Misuse<'_>> {
-    if names.len() != command.headers().len() {
-        let count = names.len();
+    words: &'a [String],
+    seed: Option<&'a str>,
+) -> (&'a [String], Option<&'a str>) {
+    match (command, words) {
+        (Command::Play, [_, _, word]) if seed.is_none() => (&words[..2], Some(word.as_str())),
+        (_, [_, _]) if runs(command) => (words, Some(seed.unwrap_or(PLAIN_SEED))),
+        _ => (words, seed),
+    }
+}
+
+/// How many files a command takes, beside a seed or without one.
+fn wanted_files(command: Command, seed: Option<&str>) -> usize {
+    command
+        .headers()
+        .len()
+        .saturating_sub(usize::from(seed.is_some()))
+}
+
+/// The request of a command for the files with these names.
+fn request_of<'a>(
+    command: Command,
+    words: &'a [String],
+    options: Options<'a>,
+) -> Result<Call<'a>, Misuse<'a>> {
+    let (names, seed) = files_and_seed(command, words, options.seed);
+    if seed.is_some() && words.len() == 3 && command != Command::Play {
+        return Err(Misuse::SeedAndAnswers);
+    }
+    if names.len() != wanted_files(command, seed) {
+        let count = words.len();
         return Err(Misuse::WrongCount { command, count });
     }
     if names.iter().filter(|name| name.as_str() == "-").count() > 1 {
@@ -95,32 +133,74 @@ fn request_of(
     Ok(Call::Judge(Request {
         command,
         names,
-        options,
+        options: Options { seed, ..options },
     }))
 }
 
-/// The options with the one that a word is, if it is one of the command.
-fn with_option(command: Command, options: Options, word: &str) -> Option<Options> {
-    match word {
-        "--sarif" => Some(Options {
-            form: NoteForm::Sarif,
-            ..options
-        }),
-        "--bound" if command == Command::Verify => Some(Options {
-            beside: Beside::Bound,
-            ..options
-        }),
+/// The options with those that stand first among the words, and the words behind them: `None` where
+/// the first word is no option of the command.
+fn first_option<'a>(
+    command: Command,
+    options: Options<'a>,
+    words: &'a [String],
+) -> Option<(Options<'a>, &'a [String])>
+    ensures fewer { IfSome result (λ found. length found.1.now < length words.now) }
+{
+    let (word, later) = words.split_first()?;
+    match word.as_str() {
+        "--sarif" => Some((
+            Options {
+                form: NoteForm::Sarif,
+                ..options
+            },
+            later,
+        )),
+        "--bound" if command == Command::Verify => Some((
+            Options {
+                beside: Beside::Bound,
+                ..options
+            },
+            later,
+        )),
+        "--seed" if runs(command) => {
+            let (seed, later) = later.split_first()?;
+            let seed = Some(seed.as_str());
+            Some((Options { seed, ..options }, later))
+        }
         _ => None,
     }
 }
 
+/// The options with a seed that stands last among the words, as in `run BOARD PROGRAM --seed 7`,
+/// and the words before it.
+fn last_option<'a>(
+    command: Command,
+    options: Options<'a>,
+    words: &'a [String],
+) -> (Options<'a>, &'a [String]) {
+    match words {
+        [files @ .., word, seed] if runs(command) && word.as_str() == "--seed" => {
+            let seed = Some(seed.as_str());
+            (Options { seed, ..options }, files)
+        }
+        _ => (options, words),
+    }
+}
+
 /// What the words behind a command and its options ask for: `--` ends the options.
-fn call_with(command: Command, words: &[String], options: Options) -> Result<Call<'_>, Misuse<'_>> {
+fn call_with<'a>(
+    command: Command,
+    words: &'a [String],
+    options: Options<'a>,
+) -> Result<Call<'a>, Misuse<'a>> {
     match words.split_first() {
         Some((word, names)) if word.as_str() == "--" => request_of(command, names, options),
         Some((word, _)) if asks_for_help(word) => Ok(Call::HelpOn(command)),
         Some((word, _)) if word.starts_with("--") => Err(Misuse::UnknownOption(word)),
-        _ => request_of(command, words, options),
+        _ => {
+            let (options, names) = last_option(command, options, words);
+            request_of(command, names, options)
+        }
     }
 }
 
@@ -129,12 +209,10 @@ fn command_call(command: Command, words: &[String]) -> Result<Call<'_>, Misuse<'
     let mut options = Options {
         form: NoteForm::Lines,
         beside: Beside::Nothing,
+        seed: None,
     };
     let mut rest = words;
-    while let Some((word, later)) = rest.split_first() {
-        let Some(more) = with_option(command, options, word) else {
-            break;
-        };
+    while let Some((more, later)) = first_option(command, options, rest) {
         options = more;
         rest = later;
     }

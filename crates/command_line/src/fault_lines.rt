@@ -1,7 +1,7 @@
 //! The faults, each in a sentence. docs/BUNDLES.md has their order.
 
 /// The name of a fault, and what it says. One name may stand for several.
-pub(crate) const FAULTS: [(&str, &str); 40] = [
+pub(crate) const FAULTS: [(&str, &str); 41] = [
     (
         "Memory",
         "memory ran out; nothing was judged (the exit status is 3)",
@@ -31,6 +31,11 @@ pub(crate) const FAULTS: [(&str, &str); 40] = [
     (
         "BadAnswer",
         "fault bundle 7 LINE: a line of %answers that is none",
+    ),
+    (
+        "BadSeed",
+        "fault bundle 9 LINE: a line of %seed that is no decimal number up to 2^64 - 1, or a \
+         second one",
     ),
     (
         "Toml",

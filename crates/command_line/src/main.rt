@@ -10,6 +10,7 @@ mod help;
 mod judging;
 mod misuse;
 mod named;
+mod played;
 mod reading;
 mod rule_pages;
 mod stop;
@@ -23,10 +24,12 @@ use crate::help::{HELP, SHORT_HELP, page_of};
 use crate::judging::judge;
 use crate::misuse::misuse_text;
 use crate::named::{SectionFile, told_name};
+use crate::played::{Played, play};
 use crate::reading::read_file;
 use crate::stop::{MISUSED, Stop, unread};
 use crate::telling::{tell, tell_alone, tell_text};
 use crate::version::version_text;
+use bundles::{Command, Header};
 use diagnostics::{Answered, Beside, answer};
 use session::{DeviceFault, Status};
 use std::env;
@@ -63,12 +66,13 @@ fn answer_bundle(rt: &HostRuntime) -> Result<u8, Stop> {
     Ok(ended(answered))
 }
 
-/// Reads a file, and looks whether it may be judged.
-fn take_file(rt: &HostRuntime, name: &str, told: &str, form: NoteForm) -> Result<Vec<u8>, Stop> {
-    let bytes = match read_file(rt, name) {
-        Ok(bytes) => bytes,
-        Err(error) => return Err(unread(rt, told, error)),
-    };
+/// Looks whether a file's bytes may be judged.
+fn judgeable(
+    rt: &HostRuntime,
+    bytes: Vec<u8>,
+    told: &str,
+    form: NoteForm,
+) -> Result<Vec<u8>, Stop> {
     match fault_in(&bytes) {
         Some(fault) => {
             let note = fault_note(rt.alloc(), told, fault)?;
@@ -77,6 +81,31 @@ fn take_file(rt: &HostRuntime, name: &str, told: &str, form: NoteForm) -> Result
         }
         None => Ok(bytes),
     }
+}
+
+/// Reads a file, and looks whether it may be judged.
+fn take_file(rt: &HostRuntime, name: &str, told: &str, form: NoteForm) -> Result<Vec<u8>, Stop> {
+    match read_file(rt, name) {
+        Ok(bytes) => judgeable(rt, bytes, told, form),
+        Err(error) => Err(unread(rt, told, error)),
+    }
+}
+
+/// Takes a seed as the file of its section.
+fn take_seed(
+    rt: &HostRuntime,
+    seed: &str,
+    form: NoteForm,
+    files: &mut Vec<SectionFile>,
+    texts: &mut Vec<Vec<u8>>,
+) -> Result<(), Stop> {
+    let line = format!(in rt.alloc(); "{seed}\n")?;
+    texts.push(judgeable(rt, line.into_bytes(), "seed", form)?)?;
+    files.push(SectionFile {
+        header: Header::Seed,
+        name: String::from_str(rt.alloc(), "seed")?,
+    })?;
+    Ok(())
 }
 
 /// Reads the files of a call, one for each of its command's sections, into lists of their names and
@@ -98,16 +127,79 @@ fn take_files(
     Ok(())
 }
 
+/// Does what a command asks for on files, and tells what is to be told.
+fn answer_files(
+    rt: &HostRuntime,
+    command: Command,
+    files: &[SectionFile],
+    texts: &[Vec<u8>],
+    options: Options<'_>,
+) -> Result<u8, Stop> {
+    let alloc = rt.alloc();
+    let answered = judge(alloc, command, texts, &mut rt.stdout(), options.beside)?;
+    tell(
+        alloc,
+        &mut rt.stderr(),
+        files,
+        &answered.notes,
+        options.form,
+    );
+    Ok(ended(answered))
+}
+
+/// Writes the reply where no run could be played, and tells why.
+fn refuse_play(
+    rt: &HostRuntime,
+    files: &[SectionFile],
+    reply: &[u8],
+    answered: Answered,
+    form: NoteForm,
+) -> Result<u8, Stop> {
+    if rt.stdout().write_all(reply).is_err() {
+        return Err(Stop::Device(DeviceFault::Writer));
+    }
+    tell(rt.alloc(), &mut rt.stderr(), files, &answered.notes, form);
+    Ok(ended(answered))
+}
+
+/// Plays a run, and does what a command asks for with its answers.
+fn answer_played(
+    rt: &HostRuntime,
+    command: Command,
+    files: &[SectionFile],
+    mut texts: Vec<Vec<u8>>,
+    options: Options<'_>,
+) -> Result<u8, Stop> {
+    match play(rt.alloc(), &texts)? {
+        Played::Answers(answers) => {
+            let _seed = texts.pop();
+            texts.push(answers)?;
+            answer_files(rt, command, files, &texts, options)
+        }
+        Played::Refused(reply, answered) => refuse_play(rt, files, &reply, answered, options.form),
+    }
+}
+
 /// Reads all files, and then does what is asked for on them.
 fn judge_files(rt: &HostRuntime, request: Request<'_>) -> Result<u8, Stop> {
     let alloc = rt.alloc();
+    let Request {
+        command,
+        options,
+        ..
+    } = request;
     let mut files = Vec::new(alloc);
     let mut texts = Vec::new(alloc);
     take_files(rt, request, &mut files, &mut texts)?;
-    let Options { form, beside } = request.options;
-    let answered = judge(alloc, request.command, &texts, &mut rt.stdout(), beside)?;
-    tell(alloc, &mut rt.stderr(), &files, &answered.notes, form);
-    Ok(ended(answered))
+    let Some(seed) = options.seed else {
+        return answer_files(rt, command, &files, &texts, options);
+    };
+    take_seed(rt, seed, options.form, &mut files, &mut texts)?;
+    if command == Command::Play {
+        answer_files(rt, command, &files, &texts, options)
+    } else {
+        answer_played(rt, command, &files, texts, options)
+    }
 }
 
 /// Prints the page on a rule or on a fault.

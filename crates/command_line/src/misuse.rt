@@ -13,6 +13,8 @@ pub(crate) enum Misuse<'a> {
     UnknownOption(&'a str),
     /// Another number of files than the command takes.
     WrongCount { command: Command, count: usize },
+    /// A run is to be played, and a file gives its answers.
+    SeedAndAnswers,
     /// Two files are standard input.
     TwoInputs,
     /// Not one rule or one fault is to be explained.
@@ -42,10 +44,11 @@ fn unknown_command(alloc: Global, word: &str) -> Result<String, AllocError> {
 
 /// How many files a command takes, in words.
 fn wanted(command: Command) -> &'static str {
-    match command.headers().len() {
-        1 => "one file",
-        2 => "two files",
-        _ => "three files",
+    match command {
+        Command::Frame => "one file",
+        Command::Verify | Command::Refute | Command::Find | Command::Play => "two files",
+        Command::Run | Command::Wave => "two files, or three",
+        Command::Check => "three files",
     }
 }
 
@@ -64,6 +67,12 @@ pub(crate) fn misuse_text(alloc: Global, misuse: Misuse<'_>) -> Result<String, A
             String::from_str(
                 alloc,
                 "explain takes one word, a rule such as K5 or a fault's name",
+            )
+        }
+        Misuse::SeedAndAnswers => {
+            String::from_str(
+                alloc,
+                "--seed plays a run in the place of ANSWERS: give one of them",
             )
         }
         Misuse::TwoInputs => {
