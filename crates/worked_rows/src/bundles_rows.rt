@@ -1,5 +1,8 @@
 //! Answer lines, and the sections of a bundle.
 
+mod said;
+mod seeds;
+
 use crate::expected::{holds, same};
 use bundles::{
     Answers, BundleFault, Command, Header, Section, answer_line_of, answers_in, compose,

@@ -10,6 +10,8 @@ mod board_rows;
 #[cfg(test)]
 mod boards;
 #[cfg(test)]
+mod breach_search_rows;
+#[cfg(test)]
 mod bundles_rows;
 #[cfg(test)]
 mod devices;
@@ -35,6 +37,8 @@ mod pmbus_table_rows;
 mod program_lints_rows;
 #[cfg(test)]
 mod run_monitor_rows;
+#[cfg(test)]
+mod run_player_rows;
 #[cfg(test)]
 mod runs;
 #[cfg(test)]

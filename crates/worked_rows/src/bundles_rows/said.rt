@@ -1,0 +1,196 @@
+//! Answers that are written as lines, and texts of them.
+
+use crate::expected::{same, says};
+use bundles::{AnswersText, answer_line, can_be_said, is_one_line};
+use smbus::{Answer, Contender};
+use std::alloc::{AllocError, Global};
+use std::process::Abort;
+use std::test::*;
+
+/// Another controller: its address, whether it reads, its bytes and its holds.
+type Other = (u8, bool, &'static [u8], &'static [u16]);
+
+/// The parts of an answer, and its line, if it can be said.
+struct Row {
+    holds: &'static [u16],
+    refuse: Option<u16>,
+    value: u16,
+    bytes: &'static [u8],
+    took: bool,
+    alerts: u16,
+    other: Option<Other>,
+    line: Option<&'static str>,
+}
+
+const SILENCE: Row = Row {
+    holds: &[],
+    refuse: None,
+    value: 0,
+    bytes: &[],
+    took: false,
+    alerts: 0,
+    other: None,
+    line: Some("-"),
+};
+
+static ROWS: [Row; 12] = [
+    SILENCE,
+    Row {
+        holds: &[0, 5, 0, 6999],
+        line: Some("holds=1:5,3:6999"),
+        ..SILENCE
+    },
+    Row {
+        refuse: Some(2),
+        line: Some("refuse=2"),
+        ..SILENCE
+    },
+    Row {
+        value: 0x840,
+        line: Some("value=840"),
+        ..SILENCE
+    },
+    Row {
+        bytes: &[0x00, 0xFF, 0x2A],
+        line: Some("bytes=00FF2A"),
+        ..SILENCE
+    },
+    Row {
+        took: true,
+        alerts: 0x800C,
+        line: Some("took=1 alerts=800C"),
+        ..SILENCE
+    },
+    Row {
+        other: Some((0x10, true, &[0x55], &[0, 0, 0, 2])),
+        line: Some("contender=21:55 cholds=3:2"),
+        ..SILENCE
+    },
+    Row {
+        other: Some((0x7F, false, &[], &[])),
+        line: Some("contender=FE:"),
+        ..SILENCE
+    },
+    Row {
+        holds: &[1],
+        refuse: Some(65_535),
+        value: 0xA,
+        bytes: &[0x01],
+        took: true,
+        alerts: 1,
+        other: Some((0x40, false, &[0x02, 0x03], &[9])),
+        line: Some(
+            "holds=0:1 refuse=65535 value=A bytes=01 took=1 alerts=1 contender=80:0203 cholds=0:9",
+        ),
+    },
+    Row {
+        holds: &[7000],
+        line: None,
+        ..SILENCE
+    },
+    Row {
+        holds: &[1, 0],
+        line: None,
+        ..SILENCE
+    },
+    Row {
+        other: Some((0x40, false, &[], &[7000])),
+        line: None,
+        ..SILENCE
+    },
+];
+
+fn other_of(alloc: Global, other: Option<Other>) -> Result<Option<Contender>, AllocError> {
+    let Some((address, read, bytes, holds)) = other else {
+        return Ok(None);
+    };
+    Ok(Some(Contender {
+        address: address.min(127),
+        read,
+        bytes: bytes.to_vec(alloc)?,
+        holds: holds.to_vec(alloc)?,
+    }))
+}
+
+fn answer_of(alloc: Global, row: &Row) -> Result<Answer, AllocError> {
+    Ok(Answer {
+        holds: row.holds.to_vec(alloc)?,
+        refuse: row.refuse,
+        value: row.value,
+        bytes: row.bytes.to_vec(alloc)?,
+        took: row.took,
+        alerts: row.alerts,
+        contender: other_of(alloc, row.other)?,
+    })
+}
+
+/// The line of an answer, if it can be said.
+fn line_of(alloc: Global, row: &Row) -> Result<Option<String>, AllocError> {
+    let answer = answer_of(alloc, row)?;
+    if !can_be_said(&answer) {
+        return Ok(None);
+    }
+    Ok(Some(answer_line(alloc, &answer)?))
+}
+
+fn all_lines(rt: &impl Abort, alloc: Global, rows: &[Row]) -> Result<(), AllocError> {
+    for row in rows {
+        let line = line_of(alloc, row)?;
+        same(rt, line.as_deref(), row.line);
+    }
+    Ok(())
+}
+
+#[test]
+fn lines_of_answers(rt: HostRuntime) {
+    same(&rt, all_lines(&rt, rt.alloc(), &ROWS), Ok(()));
+}
+
+/// Adds an answer, if it can be said.
+fn push(alloc: Global, text: &mut AnswersText, row: &Row) -> Result<(), AllocError> {
+    let answer = answer_of(alloc, row)?;
+    if can_be_said(&answer) {
+        text.push(alloc, &answer)?;
+    }
+    Ok(())
+}
+
+/// A rail that is turned on, a message that isn't taken, and a read.
+fn played(alloc: Global) -> Result<String, AllocError> {
+    let comment = Some("one rail");
+    let mut text = AnswersText::new(alloc, comment, &[0x00, 0xFF], &[0x80, 0x00])?;
+    push(alloc, &mut text, &ROWS[5])?;
+    push(alloc, &mut text, &ROWS[2])?;
+    text.remark(alloc, "the status word")?;
+    push(alloc, &mut text, &ROWS[3])?;
+    push(alloc, &mut text, &SILENCE)?;
+    Ok(text.into_text())
+}
+
+#[test]
+fn a_text_of_answers(rt: HostRuntime) {
+    says(
+        &rt,
+        played(rt.alloc()),
+        "# one rail\nstart 00,FF 80,00\ntook=1 alerts=800C\nrefuse=2\n# the status word\n\
+         value=840\n-\n",
+    );
+}
+
+fn started(alloc: Global) -> Result<String, AllocError> {
+    let text = AnswersText::new(alloc, None, &[0x0A], &[0x40])?;
+    String::from_str(alloc, text.text())
+}
+
+#[test]
+fn a_text_without_answers(rt: HostRuntime) {
+    says(&rt, started(rt.alloc()), "start 0A 40\n");
+}
+
+#[test]
+fn comments_of_one_line(rt: HostRuntime) {
+    same(&rt, is_one_line("# two  words\t"), true);
+    same(&rt, is_one_line(""), true);
+    same(&rt, is_one_line("one\ntwo"), false);
+    same(&rt, is_one_line("one\r"), false);
+}
