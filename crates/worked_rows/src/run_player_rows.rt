@@ -1,4 +1,5 @@
-//! Runs that are played: the plain one, worked out by hand. Others are tried with the built program.
+//! Runs that are played: the plain one, worked out by hand. Others are tried with the program as it
+//! was built.
 
 ghost use Rattle.std.specs.Prelude.{length, All};
 ghost use Rattle.seq_program.specs.Valid.{IsOnBoard};
