@@ -44,10 +44,9 @@ indented (Some line) = codes "    " ++ line ++ codes "\n"
 abbrev pub noted : List ℕ → List ℕ
 noted fact = codes "note: " ++ one_line fact ++ codes "\n"
 
--- a line of help, if there is some
-abbrev pub helped : Option (List ℕ) → List ℕ
-helped None = []
-helped (Some help) = codes "help: " ++ one_line help ++ codes "\n"
+-- a line of what may help
+abbrev pub helped : List ℕ → List ℕ
+helped help = codes "help: " ++ one_line help ++ codes "\n"
 
 -- a line that names a page, if there is one
 abbrev pub paged : Option (List ℕ) → List ℕ
@@ -64,7 +63,7 @@ saying_in name n =
 abbrev pub printed_in : List ℕ → Note → List ℕ
 printed_in name n =
     saying_in name n ++ flat_map noted (map string_bytes n.facts.items)
-    ++ helped (option_map string_bytes n.help) ++ paged (option_copied n.page)
+    ++ flat_map helped (map string_bytes n.helps.items) ++ paged (option_copied n.page)
 
 -- a note of a level on a line of a section, which has this number, and which it shows
 pub record IsQuoting (level : Level) (section : List ℕ) (number : ℕ) (line : Option (List ℕ))

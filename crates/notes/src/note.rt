@@ -28,8 +28,8 @@ pub struct Note {
     pub message: String,
     /// What is known beside, each in a line.
     pub facts: Vec<String>,
-    /// What may help.
-    pub help: Option<String>,
+    /// What may help, each in a line.
+    pub helps: Vec<String>,
     /// What `pmseq explain` has more on.
     pub page: Option<&'static str>,
 }
@@ -55,7 +55,7 @@ impl Note {
             mark: None,
             message: String::new(alloc),
             facts: Vec::new(alloc),
-            help: None,
+            helps: Vec::new(alloc),
             page: None,
         })
     }

@@ -90,21 +90,19 @@ impl fmt::Display for Facts<'_> {
     }
 }
 
-/// A line of help, if there is some.
+/// What may help, each in a line.
 #[derive(Clone, Copy)]
-struct Help<'a>(&'a Option<String>);
+struct Helps<'a>(&'a Vec<String>);
 
-impl fmt::Display for Help<'_> {
-    ghost output = { λ h. Some (helped (option_map string_bytes h.0.now)) };
+impl fmt::Display for Helps<'_> {
+    ghost output = { λ h. Some (flat_map helped (map string_bytes h.0.now.items)) };
 
     fn fmt<W: fmt::Write>(&self, f: &mut fmt::Formatter<W>) -> fmt::Result {
-        match self.0 {
-            Some(help) => {
-                let help = one_line(help);
-                write!(f, "help: {help}\n")
-            }
-            None => Ok(()),
+        for help in self.0 {
+            let help = one_line(help);
+            write!(f, "help: {help}\n")?;
         }
+        Ok(())
     }
 }
 
@@ -155,7 +153,7 @@ impl fmt::Display for InFile<'_> {
     fn fmt<W: fmt::Write>(&self, f: &mut fmt::Formatter<W>) -> fmt::Result {
         let note = self.note;
         let (saying, facts) = (Saying(*self), Facts(&note.facts));
-        let (help, page) = (Help(&note.help), Page(note.page));
-        write!(f, "{saying}{facts}{help}{page}")
+        let (helps, page) = (Helps(&note.helps), Page(note.page));
+        write!(f, "{saying}{facts}{helps}{page}")
     }
 }

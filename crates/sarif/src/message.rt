@@ -1,7 +1,7 @@
 //! What a note says, as one text.
 
-ghost use Rattle.std.specs.Prelude.{◌≡◌, ◌++◌, IfOk, OnOk, map, option_map, string_bytes};
-ghost use Rattle.sarif.specs.Messages.{facts_text, help_text, message_text};
+ghost use Rattle.std.specs.Prelude.{◌≡◌, ◌++◌, IfOk, OnOk, map, string_bytes};
+ghost use Rattle.sarif.specs.Messages.{facts_text, helps_text, message_text};
 
 use notes::Note;
 use std::alloc::{AllocError, Global};
@@ -18,12 +18,12 @@ fn push_facts(text: &mut String, facts: &[String]) -> Result<(), AllocError>
     Ok(())
 }
 
-/// Adds what may help, in a line.
-fn push_help(text: &mut String, help: &Option<String>) -> Result<(), AllocError>
+/// Adds what may help, a line each.
+fn push_helps(text: &mut String, helps: &[String]) -> Result<(), AllocError>
     ensures { OnOk result (string_bytes text.new
-        ≡ string_bytes text.old ++ help_text (option_map string_bytes help.now)) }
+        ≡ string_bytes text.old ++ helps_text (map string_bytes helps.now)) }
 {
-    if let Some(help) = help {
+    for help in helps {
         text.push_str("\nhelp: ")?;
         text.push_str(help)?;
     }
@@ -36,6 +36,6 @@ pub(crate) fn message_text(alloc: Global, note: &Note) -> Result<String, AllocEr
 {
     let mut text = String::from_str(alloc, &note.message)?;
     push_facts(&mut text, &note.facts)?;
-    push_help(&mut text, &note.help)?;
+    push_helps(&mut text, &note.helps)?;
     Ok(text)
 }
