@@ -27,6 +27,9 @@ use std::alloc::{AllocError, Global};
 /// The most states that are ever kept.
 pub const MOST_STATES: usize = 1_000_000;
 
+/// So many answers are tried at most for each state that may be kept.
+const MOST_ANSWERS: usize = 16;
+
 /// A search under way.
 #[derive(Drop)]
 struct Search {
@@ -37,6 +40,8 @@ struct Search {
     queue: Queue,
     /// The most states that are kept.
     most: usize,
+    /// How many answers were tried.
+    tried: usize,
 }
 
 fn is_running(machine: &Machine) -> bool {
@@ -90,7 +95,7 @@ impl Search {
     }
 
     fn is_full(&self) -> bool {
-        self.trail.states.len() >= self.most
+        self.trail.states.len() >= self.most || self.tried / MOST_ANSWERS >= self.most
     }
 
     /// Keeps the states in which a run may start.
@@ -189,6 +194,7 @@ impl Search {
             return Ok(false);
         };
         let answers = self.answers_in(alloc, board, program, &state)?;
+        self.tried = self.tried.saturating_add(answers.len());
         for (choice, answer) in answers.iter().enumerate() {
             let origin = Origin::Step(number, choice);
             if self.breaks(alloc, board, program, &state, answer, origin)? {
@@ -290,6 +296,7 @@ fn search_toward(
         trail: Trail::new(alloc),
         queue: Queue::new(alloc)?,
         most: most.min(MOST_STATES),
+        tried: 0,
     })
 }
 
@@ -298,10 +305,10 @@ fn search_toward(
 ///
 /// The search looks at states of the machine and of what is known, each once, and in each at the
 /// answers that can make a difference: done with the values at which a test of the program turns,
-/// refused, cut, lost, and with an alert. It gives up when it has kept `most` states, and never
-/// keeps more than 1,000,000, so that `None` doesn't say that there is no such run. A run that is
-/// found ends with the answer to the instruction that breaks the rule; a program with a table that
-/// keeps the rule book has none.
+/// refused, cut, lost, and with an alert. It gives up when it has kept `most` states, at most
+/// 1,000,000, or tried 16 times as many answers, so that `None` doesn't say that there is no such
+/// run. A run that is found ends with the answer to the instruction that breaks the rule; a program
+/// with a table that keeps the rule book has none.
 ///
 /// AllocError is answered where a growth was refused.
 pub fn find_breach(
