@@ -1,0 +1,7 @@
+mod Comments
+mod Endings
+mod Scaled
+mod LinesRead
+mod Nearest
+mod OneBad
+mod PlanRead

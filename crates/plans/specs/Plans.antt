@@ -1,0 +1,87 @@
+-- The plan of a text: what its lines wish, or its first bad line.
+use Rattle.std.specs.Prelude.{◌≡◌, ℕ, ◌+◌, List, [], ◌∷◌, ◌++◌, length, filter_map, Bool, true}
+use Rattle.std.specs.Prelude.{false, not, ◌&&◌, ◌==◌, Option, Some, None, is_some, option_map}
+use Rattle.std.specs.Prelude.{unwrap_or, Result, Ok, Err, if◌then◌else◌}
+use Rattle.std.specs.List.{list_all, list_any, before_first}
+use Rattle.texts.specs.Ascii as ascii
+use Rattle.texts.specs.Words.{words_of}
+use Rattle.texts.specs.declared.reading.ReadError.{ReadError}
+use Rattle.texts.specs.declared.reading.ReadError.TheVariants as errors
+use Rattle.board.specs.Boards.{Board}
+use Rattle.plans.specs.declared.wish.Wish.{Wish}
+use Rattle.plans.specs.Wishes.{is_about, subject_of, wish_about}
+use Rattle.plans.specs.WishLines.{wish_of}
+
+-- what stands before a `#`
+abbrev pub without_comment : List ℕ → List ℕ
+without_comment line = before_first (λ b. b == ascii.number_sign) line
+
+-- what the words of a line say: nothing where there are none, or a wish, or they are bad
+abbrev pub said_by : Board → List (List ℕ) → Option (Option Wish)
+said_by board [] = Some None
+said_by board (word ∷ words) = option_map Some (wish_of board (word ∷ words))
+
+unfoldable pub said_on : Board → List ℕ → Option (Option Wish)
+said_on board line = said_by board (words_of (without_comment line))
+
+abbrev pub is_good : Board → List ℕ → Bool
+is_good board line = is_some (said_on board line)
+
+abbrev pub wish_on : Board → List ℕ → Option Wish
+wish_on board line = unwrap_or (said_on board line) None
+
+-- the wishes of lines
+abbrev pub wishes_in : Board → List (List ℕ) → List Wish
+wishes_in board lines = filter_map (wish_on board) lines
+
+-- no wish is about what a later one is about
+abbrev pub are_apart : List Wish → Bool
+are_apart [] = true
+are_apart (wish ∷ later) =
+    not (list_any (λ other. is_about (subject_of other) wish) later) && are_apart later
+
+-- each line is blank or a wish, and no two wishes are about the same
+abbrev pub is_plan : Board → List (List ℕ) → Bool
+is_plan board lines = list_all (is_good board) lines && are_apart (wishes_in board lines)
+
+-- the wishes of such lines
+pub record IsPlanOf (board : Board) (lines : List (List ℕ)) (wishes : List Wish) : Type 0 where
+  pub good : is_plan board lines ≡ true
+  pub wishes_are : wishes ≡ wishes_in board lines
+
+-- the number of the first bad line: the lines above it are a plan, and with it they are none
+pub record IsFirstBad (board : Board) (lines : List (List ℕ)) (number : ℕ) : Type 0 where
+  pub above : List (List ℕ)
+  pub line : List ℕ
+  pub below : List (List ℕ)
+  pub parts : lines ≡ above ++ line ∷ below
+  pub counted : number ≡ length above + 1
+  pub good : is_plan board above ≡ true
+  pub bad : is_plan board (above ++ line ∷ []) ≡ false
+
+-- the same number, where the lines above are a plan, if a line below them is bad
+abbrev pub first_bad_below : Board → List (List ℕ) → List (List ℕ) → Option ℕ
+first_bad_below board above [] = None
+first_bad_below board above (line ∷ below) =
+    if is_plan board (above ++ line ∷ [])
+    then first_bad_below board (above ++ line ∷ []) below else Some (length above + 1)
+
+-- the wishes of lines that are a plan, or the number of the first bad line
+abbrev pub plan_unless : List Wish → Option ℕ → Result (List Wish) ℕ
+plan_unless wishes None = Ok wishes
+plan_unless wishes (Some number) = Err number
+
+unfoldable pub plan_of : Board → List (List ℕ) → Result (List Wish) ℕ
+plan_of board lines = plan_unless (wishes_in board lines) (first_bad_below board [] lines)
+
+-- a fault is this, unless memory ran out
+abbrev pub OnFault : {F : Type 0} → ReadError F → (F → Type 0) → Type 0
+OnFault errors.Memory P = Unit {0}
+OnFault (errors.Fault fault) P = P fault
+
+-- wishes and what one line more says, if that is good and about nothing that they are about
+abbrev pub with_said : List Wish → Option (Option Wish) → Option (List Wish)
+with_said wishes None = None
+with_said wishes (Some None) = Some wishes
+with_said wishes (Some (Some wish)) =
+    if is_some (wish_about wishes (subject_of wish)) then None else Some (wishes ++ wish ∷ [])

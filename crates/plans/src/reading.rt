@@ -1,0 +1,109 @@
+//! The plan of a text.
+
+ghost use Rattle.std.specs.Prelude.{◌≡◌, All, IfErr, IfOk, IfSome, OnOk, length, map};
+ghost use Rattle.texts.specs.Reading.{Gives, some_or};
+ghost use Rattle.texts.specs.Words.{lines_by_feed};
+ghost use Rattle.plans.specs.WishLines.{IsWishOn};
+ghost use Rattle.plans.specs.Plans.{without_comment, said_by, said_on, with_said, IsPlanOf};
+ghost use Rattle.plans.specs.Plans.{IsFirstBad, OnFault, plan_of};
+
+use crate::plan::Plan;
+use crate::subject::Subject;
+use crate::wish::Wish;
+use crate::wish_line::wish_of;
+use board::Board;
+use std::alloc::Global;
+use texts::{ReadError, first_by_feed, words_of};
+
+/// What stands before a comment.
+fn without_comment(line: &str) -> &str
+    ensures { result.now ≡ without_comment line.now }
+{
+    match line.split_once('#') {
+        Some((said, _)) => said,
+        None => line,
+    }
+}
+
+/// The wish that the words of a line are, if there are any.
+fn said_by(board: &Board, number: usize, words: &[&str]) -> Result<Option<Wish>, ReadError<usize>>
+    ensures value { Gives (λ said. said) result
+        (some_or number (said_by board.now (map (λ w. w.now) words.now))) }
+    ensures fits { IfOk result (λ said. IfSome said
+        (λ wish. IsWishOn (length board.now.rails) (length board.now.targets) wish)) }
+{
+    if words.is_empty() {
+        return Ok(None);
+    }
+    let wish = wish_of(board, words).ok_or(ReadError::Fault(number))?;
+    Ok(Some(wish))
+}
+
+/// The wish of a line, if the line isn't blank.
+#[tactic(auto, unfolding(crate::specs::Plans::said_on))]
+fn said_on(
+    alloc: Global,
+    board: &Board,
+    number: usize,
+    line: &str,
+) -> Result<Option<Wish>, ReadError<usize>>
+    ensures value { Gives (λ said. said) result (some_or number (said_on board.now line.now)) }
+    ensures fits { IfOk result (λ said. IfSome said
+        (λ wish. IsWishOn (length board.now.rails) (length board.now.targets) wish)) }
+{
+    let words = words_of(alloc, without_comment(line))?;
+    said_by(board, number, &words)
+}
+
+/// Adds what a line says.
+fn add_line(
+    alloc: Global,
+    board: &Board,
+    plan: &mut Plan,
+    number: usize,
+    line: &str,
+) -> Result<(), ReadError<usize>>
+    requires fits { All (λ wish. IsWishOn (length board.now.rails)
+        (length board.now.targets) wish) plan.old.wishes.items }
+    ensures value { Gives (λ _. plan.new.wishes.items) result
+        (some_or number (with_said plan.old.wishes.items (said_on board.now line.now))) }
+    ensures fits { OnOk result (All (λ wish. IsWishOn (length board.now.rails)
+        (length board.now.targets) wish) plan.new.wishes.items) }
+{
+    if let Some(wish) = said_on(alloc, board, number, line)? {
+        if plan.wish_about(Subject::of(&wish)).is_some() {
+            return Err(ReadError::Fault(number));
+        }
+        plan.wishes.push(wish)?;
+    }
+    Ok(())
+}
+
+/// The plan of a text for a board. The fault of a text is the number of its first bad line,
+/// counted from 1 over all lines: one that is neither blank nor a wish, or that wishes a second
+/// time what a line above it wishes. Lines end with LF alone, and `#` begins a comment.
+///
+/// Memory is answered where a growth was refused.
+pub fn read_plan(alloc: Global, board: &Board, text: &str) -> Result<Plan, ReadError<usize>>
+    ensures value { Gives (λ plan. plan.wishes.items) result
+        (plan_of board.now (lines_by_feed text.now)) }
+    ensures plan { IfOk result
+        (λ plan. IsPlanOf board.now (lines_by_feed text.now) plan.wishes.items) }
+    ensures fault { IfErr result
+        (λ e. OnFault e (λ number. IsFirstBad board.now (lines_by_feed text.now) number)) }
+    // Its rails and targets are on the board, and its numbers in their ranges.
+    ensures fits { IfOk result (λ plan. All (λ wish. IsWishOn (length board.now.rails)
+        (length board.now.targets) wish) plan.wishes.items) }
+{
+    let mut plan = Plan {
+        wishes: Vec::new(alloc),
+    };
+    let mut number = 1;
+    let mut rest = text;
+    while let Some((line, below)) = first_by_feed(rest) {
+        add_line(alloc, board, &mut plan, number, line)?;
+        number += 1;
+        rest = below;
+    }
+    Ok(plan)
+}
