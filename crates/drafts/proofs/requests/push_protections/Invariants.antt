@@ -1,0 +1,9 @@
+use Rattle.std.proofs.Common.{◌≡◌, ◌++◌, map, drop}
+use Rattle.drafts.specs.Requests.{protection}
+use Rattle.drafts.proofs.requests.push_protections.Given as goal
+
+-- the messages so far, and those that are left, are all
+abbrev pub invariant-loop-target : goal.invariant-loop-target
+invariant-loop-target l =
+    l.requests.items ++ map (protection l.plan.wishes.items) (drop l.target-index l.targets)
+    ≡ l.fn.requests.items ++ map (protection l.plan.wishes.items) l.targets

@@ -1,0 +1,10 @@
+pub mod Waiting
+pub mod Orders
+pub mod OrderLaws
+pub mod Missing
+pub mod Opening
+pub mod Requests
+pub mod Limits
+pub mod Outline
+pub mod Faults
+pub mod Drafts

@@ -1,0 +1,76 @@
+//! Labels of a drafted program: the name of a rail or a target, and a word that says what for. No
+//! two of the words are the same, and none has a `_`, so no two labels are the same.
+
+use board::Board;
+use std::alloc::{AllocError, Global};
+
+/// What stands before a rail's name in the label at which it is turned off.
+const OFF_FROM: &str = "off_from_";
+/// What such a label may not be taken for.
+const OFF: &str = "off_from";
+/// The most characters of a name behind which each word for a rail, or for a target, fits.
+const LONGEST_RAIL: usize = 23;
+
+const LONGEST_TARGET: usize = 22;
+
+/// What stands for a rail or a target in labels.
+#[derive(Clone, Copy, Debug, PartialEq, Eq)]
+pub(crate) enum Labels {
+    Names,
+    /// Some name is too long, or begins as a label does that is made.
+    Numbers,
+}
+
+fn serves(name: Option<&str>, most: usize) -> bool {
+    name.is_some_and(|name| name.len() <= most && !name.starts_with(OFF))
+}
+
+fn rails_serve(board: &Board) -> bool {
+    (0..board.rails().len()).all(|rail| serves(board.rail_name(rail), LONGEST_RAIL))
+}
+
+fn targets_serve(board: &Board) -> bool {
+    (0..board.targets().len()).all(|target| serves(board.target_name(target), LONGEST_TARGET))
+}
+
+impl Labels {
+    /// Names where all of them can stand in labels.
+    pub(crate) fn of_board(board: &Board) -> Labels {
+        if rails_serve(board) && targets_serve(board) {
+            Labels::Names
+        } else {
+            Labels::Numbers
+        }
+    }
+
+    /// What stands for a rail.
+    pub(crate) fn rail(
+        self,
+        alloc: Global,
+        board: &Board,
+        rail: usize,
+    ) -> Result<String, AllocError> {
+        match (self, board.rail_name(rail)) {
+            (Labels::Names, Some(name)) => String::from_str(alloc, name),
+            _ => format!(in alloc; "rail{rail}"),
+        }
+    }
+
+    /// What stands for a target.
+    pub(crate) fn target(
+        self,
+        alloc: Global,
+        board: &Board,
+        target: usize,
+    ) -> Result<String, AllocError> {
+        match (self, board.target_name(target)) {
+            (Labels::Names, Some(name)) => String::from_str(alloc, name),
+            _ => format!(in alloc; "target{target}"),
+        }
+    }
+}
+
+/// The line that goes to where a rail is turned off.
+pub(crate) fn way_to_off(alloc: Global, label: &str) -> Result<String, AllocError> {
+    format!(in alloc; "goto {OFF_FROM}{label}\n")
+}
