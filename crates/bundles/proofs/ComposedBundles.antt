@@ -11,10 +11,10 @@ use Rattle.std.proofs.lemmas.List.Splits.{slice_split-cons_yes, slice_split-cons
 use Rattle.std.proofs.lemmas.List.Splits.{slice_split_none, slice_split_at}
 use Rattle.bundles.specs.declared.command.Command.{Command}
 use Rattle.bundles.specs.declared.command.Command.TheVariants.{Frame, Run, Wave, Check, Find}
-use Rattle.bundles.specs.declared.command.Command.TheVariants.{Verify, Play, Refute}
+use Rattle.bundles.specs.declared.command.Command.TheVariants.{Verify, Play, Refute, Draft}
 use Rattle.bundles.specs.declared.command.Header.{Header}
 use Rattle.bundles.specs.declared.command.Header.TheVariants.{Message, Board, Program, Answers}
-use Rattle.bundles.specs.declared.command.Header.TheVariants.{Table, Seed}
+use Rattle.bundles.specs.declared.command.Header.TheVariants.{Table, Seed, Plan}
 use Rattle.bundles.specs.Bundles.{Line, starts_section, header_text, headers_of, command_text}
 use Rattle.bundles.specs.Bundles.{bundle_of, bundle_below}
 use Rattle.bundles.specs.Composed.{is_ended, section_text, sections_text, composed, IsPlain}
@@ -121,6 +121,7 @@ header_ends Program = refl
 header_ends Answers = refl
 header_ends Table = refl
 header_ends Seed = refl
+header_ends Plan = refl
 
 header_line : (header : Header) → lines (header_text header ++ codes "\n") ≡ header_text header ∷ []
 header_line Message = refl
@@ -129,6 +130,7 @@ header_line Program = refl
 header_line Answers = refl
 header_line Table = refl
 header_line Seed = refl
+header_line Plan = refl
 
 header_starts : (header : Header) → starts_section (header_text header) ≡ true
 header_starts Message = refl
@@ -137,6 +139,7 @@ header_starts Program = refl
 header_starts Answers = refl
 header_starts Table = refl
 header_starts Seed = refl
+header_starts Plan = refl
 
 command_ends : (command : Command) → is_ended (command_text command ++ codes "\n") ≡ true
 command_ends Frame = refl
@@ -147,6 +150,7 @@ command_ends Find = refl
 command_ends Verify = refl
 command_ends Play = refl
 command_ends Refute = refl
+command_ends Draft = refl
 
 command_line : (command : Command)
     → lines (command_text command ++ codes "\n") ≡ command_text command ∷ []
@@ -158,6 +162,7 @@ command_line Find = refl
 command_line Verify = refl
 command_line Play = refl
 command_line Refute = refl
+command_line Draft = refl
 
 read_below : (command : Command) (below : List Line)
     → bundle_of (command_text command ∷ below) ≡ bundle_below command below
@@ -170,6 +175,7 @@ read_below Find below = refl
 read_below Verify below = refl
 read_below Play below = refl
 read_below Refute below = refl
+read_below Draft below = refl
 
 -- the lines of each file below its header
 abbrev lines_below : List Header → List (List ℕ) → List Line

@@ -11,10 +11,10 @@ use Rattle.texts.specs.Words.{named_among}
 use Rattle.bundles.specs.declared.fault.BundleFault.{BundleFault}
 use Rattle.bundles.specs.declared.command.Command.{Command}
 use Rattle.bundles.specs.declared.command.Command.TheVariants.{Frame, Run, Wave, Check, Find}
-use Rattle.bundles.specs.declared.command.Command.TheVariants.{Verify, Play, Refute}
+use Rattle.bundles.specs.declared.command.Command.TheVariants.{Verify, Play, Refute, Draft}
 use Rattle.bundles.specs.declared.command.Header.{Header}
 use Rattle.bundles.specs.declared.command.Header.TheVariants.{Message, Board, Program, Answers}
-use Rattle.bundles.specs.declared.command.Header.TheVariants.{Table, Seed}
+use Rattle.bundles.specs.declared.command.Header.TheVariants.{Table, Seed, Plan}
 use Rattle.bundles.specs.declared.fault.BundleFault.TheVariants.{NoCommand, UnknownCommand}
 use Rattle.bundles.specs.declared.fault.BundleFault.TheVariants.{Unexpected, MissingSection}
 use Rattle.texts.specs.Ascii as ascii
@@ -32,12 +32,13 @@ command_text Find = codes "%find"
 command_text Verify = codes "%verify"
 command_text Play = codes "%play"
 command_text Refute = codes "%refute"
+command_text Draft = codes "%draft"
 
 -- the commands by their lines
 abbrev pub commands : List (Line × Command)
 commands =
     map (λ command. (command_text command, command))
-    (Frame ∷ Run ∷ Wave ∷ Check ∷ Find ∷ Verify ∷ Play ∷ Refute ∷ [])
+    (Frame ∷ Run ∷ Wave ∷ Check ∷ Find ∷ Verify ∷ Play ∷ Refute ∷ Draft ∷ [])
 
 abbrev pub command_of : Line → Option Command
 command_of line = named_among line commands
@@ -49,6 +50,7 @@ header_text Program = codes "%program"
 header_text Answers = codes "%answers"
 header_text Table = codes "%table"
 header_text Seed = codes "%seed"
+header_text Plan = codes "%plan"
 
 -- the headers of the sections that a command wants, in order
 abbrev pub headers_of : Command → List Header
@@ -60,6 +62,7 @@ headers_of Find = Board ∷ Program ∷ []
 headers_of Verify = Board ∷ Program ∷ []
 headers_of Play = Board ∷ Program ∷ Seed ∷ []
 headers_of Refute = Board ∷ Program ∷ []
+headers_of Draft = Board ∷ Plan ∷ []
 
 -- nothing but spaces
 abbrev pub is_blank : Line → Bool

@@ -2,6 +2,7 @@ pub mod Texts
 pub mod Bundles
 pub mod Composed
 pub mod Faults
+pub mod FormTexts
 pub mod Views
 pub mod Fields
 pub mod Holds

@@ -12,6 +12,7 @@ pub enum Command {
     Verify,
     Play,
     Refute,
+    Draft,
 }
 
 /// What a section holds, by the line above it.
@@ -23,6 +24,7 @@ pub enum Header {
     Answers,
     Table,
     Seed,
+    Plan,
 }
 
 const FRAME_HEADERS: [Header; 1] = [Header::Message];
@@ -34,6 +36,8 @@ const CHECK_HEADERS: [Header; 3] = [Header::Board, Header::Program, Header::Tabl
 const SEARCH_HEADERS: [Header; 2] = [Header::Board, Header::Program];
 
 const PLAY_HEADERS: [Header; 3] = [Header::Board, Header::Program, Header::Seed];
+
+const DRAFT_HEADERS: [Header; 2] = [Header::Board, Header::Plan];
 
 impl Header {
     /// The header line.
@@ -47,6 +51,7 @@ impl Header {
             Header::Answers => "%answers",
             Header::Table => "%table",
             Header::Seed => "%seed",
+            Header::Plan => "%plan",
         }
     }
 }
@@ -66,6 +71,7 @@ impl Command {
             Command::Verify => "%verify",
             Command::Play => "%play",
             Command::Refute => "%refute",
+            Command::Draft => "%draft",
         }
     }
 
@@ -82,6 +88,7 @@ impl Command {
             Command::Verify => &SEARCH_HEADERS,
             Command::Play => &PLAY_HEADERS,
             Command::Refute => &SEARCH_HEADERS,
+            Command::Draft => &DRAFT_HEADERS,
         }
     }
 
@@ -98,6 +105,7 @@ impl Command {
             "%verify" => Some(Command::Verify),
             "%play" => Some(Command::Play),
             "%refute" => Some(Command::Refute),
+            "%draft" => Some(Command::Draft),
             _ => None,
         }
     }

@@ -14,6 +14,7 @@ mod contender_words;
 mod counted;
 mod fault;
 mod field;
+mod form;
 mod law;
 mod lines;
 mod message;
@@ -30,6 +31,7 @@ pub use command::{Command, Header};
 pub use composing::{compose, end_last_line};
 pub use counted::is_counted;
 pub use fault::BundleFault;
+pub use form::form_word;
 pub use law::{
     answer_lines_are_read, composed_bundles_are_read, message_lines_are_read,
     sections_keep_their_lines, well_formed_bundles_are_read,
