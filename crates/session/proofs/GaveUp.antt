@@ -13,6 +13,7 @@ use Rattle.session.specs.declared.fault.InputFault.{InputFault}
 use Rattle.session.specs.declared.sequence.Sequence.{Sequence}
 use Rattle.session.specs.CheckReplies.{verdict_text}
 use Rattle.session.specs.Commands.{Task, Frame, Run, Wave, Check, Find, Verify, Play, Refute}
+use Rattle.session.specs.Commands.{Draft}
 use Rattle.session.specs.Commands.{IsReplyOf}
 use Rattle.session.specs.Promises.{GivesUpOnLoopsAlone, searched_in}
 use Rattle.session.specs.Replies.{Reply}
@@ -69,6 +70,7 @@ searched (Verify s) old new reply written replies = λ forward.
     (reply.text, written, verified_apart s reply forward replies)
 searched (Play s seed) old new reply written replies = tt
 searched (Refute s) old new reply written replies = tt
+searched (Draft p) old new reply written replies = tt
 
 pub gives_up : (input : List ℕ) (old new : Option (List ℕ)) (reply : Reply) → IsReplyTo input reply
     → Appends old new reply.text → GivesUpOnLoopsAlone input old new

@@ -10,6 +10,7 @@ pub mod JudgedRuns
 pub mod EndedRuns
 pub mod Watching
 pub mod Served
+pub mod SparedPlans
 pub mod ShownFrames
 pub mod AskedBy
 pub mod Replied

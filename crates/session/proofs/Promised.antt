@@ -11,7 +11,7 @@ use Rattle.session.specs.declared.reply.Status.TheVariants as statuses
 use Rattle.session.specs.declared.sequence.Sequence.{Sequence}
 use Rattle.session.specs.CheckReplies.{IsCheckReply, verdict_reply}
 use Rattle.session.specs.Commands.{Task, Frame, Run, Wave, Check, Find, Verify, Play, Refute}
-use Rattle.session.specs.Commands.{IsReplyOf}
+use Rattle.session.specs.Commands.{Draft, IsReplyOf}
 use Rattle.session.specs.Promises.{IsKeptPromise, IsPromised, judged_in}
 use Rattle.session.specs.Replies.{Reply}
 use Rattle.session.specs.SearchReplies.{IsVerifyReply}
@@ -61,6 +61,7 @@ promised (Verify sequence) old new reply written ok replies =
     verified sequence old new reply written ok replies
 promised (Play sequence seed) old new reply written ok replies = tt
 promised (Refute sequence) old new reply written ok replies = tt
+promised (Draft planned) old new reply written ok replies = tt
 
 pub kept : (input : List ℕ) (old new : Option (List ℕ)) (status : Status) (reply : Reply)
     → IsReplyTo input reply → Appends old new reply.text → status ≡ reply.status

@@ -6,6 +6,7 @@ use Rattle.simulator.specs.declared.fault.RunFault.{RunFault}
 use Rattle.session.specs.declared.fault.InputFault.{InputFault}
 use Rattle.session.specs.declared.fault.InputFault.TheVariants as faults
 use Rattle.session.specs.declared.outcome.Checked.{Checked}
+use Rattle.session.specs.declared.outcome.Drafted.{Drafted}
 use Rattle.session.specs.declared.outcome.Framed.{Framed}
 use Rattle.session.specs.declared.outcome.Judged.{Judged}
 use Rattle.session.specs.declared.outcome.Ran.{Ran}
@@ -21,7 +22,11 @@ use Rattle.session.specs.declared.report.Telling.TheVariants.{Lines, Levels}
 use Rattle.session.specs.declared.scenario.Scenario.{Scenario}
 use Rattle.session.specs.declared.sequence.Sequence.{Sequence}
 use Rattle.session.specs.CheckReplies.{IsCheckReply}
-use Rattle.session.specs.Commands.{Task, Frame, Check, Verify, Play, Refute, IsReplyOf, told_task}
+use Rattle.session.specs.Commands.{Task, Frame, Check, Verify, Play, Refute, Draft, IsReplyOf}
+use Rattle.session.specs.Commands.{told_task}
+use Rattle.session.specs.DraftReplies.{IsDrafted, IsDraftReply, drafted_reply}
+use Rattle.session.specs.Planned.{Planned, planned_view}
+use Rattle.session.specs.declared.draft_fault.DraftFault.{DraftFault}
 use Rattle.session.specs.Outcomes.{IsOutcomeOf, IsTold, IsChecked, IsVerified}
 use Rattle.session.specs.Outcomes.{IsRefuted as IsRefutedTold, refuted_reply, text_reply}
 use Rattle.session.specs.PlayReplies.{IsRefuteReply}
@@ -134,3 +139,14 @@ pub refuted_told : (x : Refuted) (reply : Reply) → reply ≡ refuted_reply x.f
 refuted_told x reply is read o =
     at read _ reply o.0 (subst (λ r. IsReplyOf (Refute x.sequence) r) (sym is)
     (refuted x.sequence x.found o.1))
+
+drafted : (p : Planned) (r : Result (String Global) DraftFault) → IsDrafted p r
+    → IsDraftReply p (drafted_reply p.board r)
+drafted p (Ok text) is = inl (record { says = is; status = refl })
+drafted p (Err fault) is = inr (record { fault = fault; why = is; replies = refl })
+
+pub drafted_told : (x : Drafted) (reply : Reply) → reply ≡ drafted_reply x.planned.board x.told
+    → Tells (outcomes.Drafted x) reply
+drafted_told x reply is read o =
+    let p = planned_view x.planned in
+    at read _ reply o.0 (subst (λ r. IsReplyOf (Draft p) r) (sym is) (drafted p x.told o.1))

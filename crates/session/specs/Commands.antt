@@ -20,13 +20,15 @@ use Rattle.session.specs.FrameReplies.{IsFrameReply}
 use Rattle.session.specs.RunReplies.{IsRunReply}
 use Rattle.session.specs.CheckReplies.{IsCheckReply}
 use Rattle.session.specs.SearchReplies.{IsFindReply, IsVerifyReply}
+use Rattle.session.specs.DraftReplies.{IsDraftReply}
+use Rattle.session.specs.Planned.{Planned, planned_in}
 use Rattle.session.specs.PlayReplies.{IsPlayReply, IsRefuteReply}
 use Rattle.session.specs.Scenarios.{scenario_in}
 use Rattle.session.specs.Sequences.{sequence_in}
 use Rattle.session.specs.Trials.{Trial, trial_in}
 
 -- a message with its answer, a program with answers, whose run or whose levels are told, a program
--- with a table, a program alone, or a program with a seed
+-- with a table, a program alone, a program with a seed, or a plan
 pub data Task : Type 0 where
   Frame : (exchange : Exchange) → Task
   Run : (scenario : Scenario) → Task
@@ -36,6 +38,7 @@ pub data Task : Type 0 where
   Verify : (sequence : Sequence) → Task
   Play : (sequence : Sequence) (seed : ℕ) → Task
   Refute : (sequence : Sequence) → Task
+  Draft : (planned : Planned) → Task
 
 abbrev pub section_at : List Section → ℕ → Section
 section_at sections place = slice_index_or sections place (record { first_line = 0; lines = [] })
@@ -70,6 +73,9 @@ play_task on program seed =
 abbrev pub refute_task : Section → Section → Result Task InputFault
 refute_task on program = sequence_in on program >>= λ sequence. Ok (Refute sequence)
 
+abbrev pub draft_task : Section → Section → Result Task InputFault
+draft_task on plan = planned_in on plan >>= λ planned. Ok (Draft planned)
+
 abbrev pub asked_by : Command → List Section → Result Task InputFault
 asked_by commands.Frame sections = frame_task (section_at sections 0)
 asked_by commands.Run sections =
@@ -83,6 +89,7 @@ asked_by commands.Verify sections = verify_task (section_at sections 0) (section
 asked_by commands.Play sections =
     play_task (section_at sections 0) (section_at sections 1) (section_at sections 2)
 asked_by commands.Refute sections = refute_task (section_at sections 0) (section_at sections 1)
+asked_by commands.Draft sections = draft_task (section_at sections 0) (section_at sections 1)
 
 abbrev pub bundle_task : Bundle → Result Task InputFault
 bundle_task bundle = asked_by bundle.command bundle.sections
@@ -105,3 +112,4 @@ IsReplyOf (Find sequence) reply = IsFindReply sequence reply
 IsReplyOf (Verify sequence) reply = IsVerifyReply sequence reply
 IsReplyOf (Play sequence seed) reply = IsPlayReply sequence reply
 IsReplyOf (Refute sequence) reply = IsRefuteReply sequence reply
+IsReplyOf (Draft planned) reply = IsDraftReply planned reply

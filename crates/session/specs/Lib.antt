@@ -13,6 +13,9 @@ pub mod CheckReplies
 pub mod Sequences
 pub mod SearchReplies
 pub mod PlayReplies
+pub mod DraftFaults
+pub mod Planned
+pub mod DraftReplies
 pub mod Commands
 pub mod Sessions
 pub mod Promises

@@ -7,6 +7,9 @@ use Rattle.std.specs.Global.{Global}
 use Rattle.board.specs.Boards.{Board}
 use Rattle.seq_program.specs.declared.instr.Instr.{Instr}
 use Rattle.simulator.specs.declared.fault.RunFault.{RunFault}
+use Rattle.simulator.specs.Machines.{start_at, start_state}
+use Rattle.simulator.specs.Steps.{IsRun}
+use Rattle.simulator.specs.Traces.{Trace}
 use Rattle.smbus.specs.declared.fault.SmbusFault.{SmbusFault}
 use Rattle.texts.specs.Words.{lines_by_feed}
 use Rattle.bundles.specs.declared.message.Exchange.{Exchange}
@@ -21,6 +24,7 @@ use Rattle.session.specs.declared.fault.InputFault.{InputFault as Fault}
 use Rattle.session.specs.declared.fault.InputFault.TheVariants as faults
 use Rattle.session.specs.declared.outcome.Judged.{Judged}
 use Rattle.session.specs.declared.outcome.Refutation.{Refutation}
+use Rattle.session.specs.declared.outcome.Shown.{Shown}
 use Rattle.session.specs.declared.outcome.Outcome.{Outcome}
 use Rattle.session.specs.declared.outcome.Outcome.TheVariants as outcomes
 use Rattle.session.specs.declared.reply.Status.{Status}
@@ -28,9 +32,14 @@ use Rattle.session.specs.declared.reply.Status.TheVariants.{Accepted, Refused, I
 use Rattle.session.specs.declared.report.Telling.{Telling}
 use Rattle.session.specs.declared.scenario.Scenario.{Scenario}
 use Rattle.session.specs.declared.sequence.Sequence.{Sequence}
+use Rattle.breach_search.specs.Harms.{IsHarm}
+use Rattle.breach_search.specs.declared.harm.Harm.{Harm}
 use Rattle.session.specs.Breaches.{IsFoundIn}
 use Rattle.session.specs.CheckReplies.{verdict_reply, verdict_status}
-use Rattle.session.specs.Commands.{Task, Frame, Check, Find, Verify, Play, Refute, told_task}
+use Rattle.session.specs.Commands.{Task, Frame, Check, Find, Verify, Play, Refute, Draft}
+use Rattle.session.specs.Commands.{told_task}
+use Rattle.session.specs.DraftReplies.{IsDrafted}
+use Rattle.session.specs.Planned.{planned_view}
 use Rattle.session.specs.FrameReplies.{IsFrameReply}
 use Rattle.session.specs.PlayReplies.{HasNoTable, SaysBreach, SaysRun, no_run_reply}
 use Rattle.session.specs.Replies.{Reply, refusal}
@@ -96,6 +105,7 @@ status_of (outcomes.Searched x) = searched_status x.found
 status_of (outcomes.Verified x) = verified_status x.judged
 status_of (outcomes.Played x) = Accepted
 status_of (outcomes.Refuted x) = refuted_status x.found
+status_of (outcomes.Drafted x) = told_status x.told
 
 -- ---- what was found is true
 
@@ -141,6 +151,17 @@ abbrev pub IsVerified : Sequence → Result Judged ℕ → Type 0
 IsVerified s judged =
     MatchResult judged (IsFoundAndJudged s) (λ place. MayGiveUp s.program)
 
+-- the trace is that of the run that breaks a rule
+abbrev pub IsRunOfHarm : Board → List Instr → Harm → Trace → Type 0
+IsRunOfHarm b p x trace =
+    IsRun b p (start_at (start_state x.pages.items x.protects.items)) x.answers.items
+    trace.entries trace.last
+
+-- a run breaks a rule with its last instruction, and these are its steps
+pub record IsShown (b : Board) (p : List Instr) (x : Shown) : Type 0 where
+  pub harm : IsHarm b p x.harm
+  pub run : IsRunOfHarm b p x.harm x.trace
+
 -- the run breaks the rule that is told
 pub record IsRefutation (s : Sequence) (x : Refutation) : Type 0 where
   pub says : SaysBreach s x.breach (string_bytes x.text)
@@ -163,10 +184,13 @@ IsOutcomeOf read (outcomes.Searched x) =
     (read ≡ Ok (Find x.sequence)) × IsSearched x.sequence x.found
 IsOutcomeOf read (outcomes.Verified x) =
     (read ≡ Ok (Verify x.sequence)) × IsVerified x.sequence x.judged
+    × IfSome x.shown (IsShown x.sequence.board x.sequence.program)
 IsOutcomeOf read (outcomes.Played x) =
     (read ≡ Ok (Play x.sequence x.seed)) × SaysRun x.sequence (string_bytes x.text)
 IsOutcomeOf read (outcomes.Refuted x) =
     (read ≡ Ok (Refute x.sequence)) × IsRefuted x.sequence x.found
+IsOutcomeOf read (outcomes.Drafted x) =
+    (read ≡ Ok (Draft (planned_view x.planned))) × IsDrafted (planned_view x.planned) x.told
 
 -- and it is true of some input
 abbrev pub IsTrue : Outcome → Type 0

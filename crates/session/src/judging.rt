@@ -5,7 +5,7 @@ ghost use Rattle.bundles.specs.Bundles.{headers_of};
 ghost use Rattle.bundles.specs.Views.{bundle_view, section_view};
 ghost use Rattle.session.specs.Cases.{IsCaseIn, IsCaseOf, IsTextCase, text_front};
 ghost use Rattle.session.specs.Commands.{bundle_task, check_task, find_task, frame_task, run_task};
-ghost use Rattle.session.specs.Commands.{play_task, refute_task, verify_task, Task};
+ghost use Rattle.session.specs.Commands.{draft_task, play_task, refute_task, verify_task, Task};
 ghost use Rattle.session.specs.Intake.{IsFrontOf};
 ghost use Rattle.session.specs.Outcomes.{Becomes, IsOutcomeOf, IsTrue};
 ghost use Rattle.session.specs.declared.fault.InputFault.{InputFault};
@@ -13,9 +13,14 @@ ghost use Rattle.session.specs.declared.outcome.Outcome.TheVariants as outcomes;
 ghost use Rattle.session.specs.declared.unread.Unread.TheVariants as unread;
 
 use crate::checking::judge_text;
+use crate::drafting::drafted;
 use crate::frame::frame_of;
+use crate::harming::harm_beside;
 use crate::intake::{Input, text_of};
-use crate::outcome::{Case, Checked, Framed, Outcome, Played, Ran, Refuted, Searched, Verified};
+use crate::outcome::{
+    Case, Checked, Drafted, Framed, Outcome, Played, Ran, Refuted, Searched, Verified,
+};
+use crate::planned::planned_in;
 use crate::playing::{play_text, seed_of};
 use crate::refuting::refute;
 use crate::report::Telling;
@@ -98,7 +103,12 @@ fn verified<'a>(
 {
     let sequence = sequence_in(alloc, on, program)?;
     let judged = verify(alloc, &sequence)?;
-    Ok(Outcome::Verified(Verified { sequence, judged }))
+    let shown = harm_beside(alloc, &sequence, &judged)?;
+    Ok(Outcome::Verified(Verified {
+        sequence,
+        judged,
+        shown,
+    }))
 }
 
 /// A program of which a run is played.
@@ -134,6 +144,19 @@ fn refuted<'a>(
     Ok(Outcome::Refuted(Refuted { sequence, found }))
 }
 
+/// A program that is drafted for a plan.
+fn draft<'a>(
+    alloc: Global,
+    on: &Section<'_>,
+    plan: &Section<'_>,
+) -> Result<Outcome<'a>, ReadError<Unread>>
+    ensures { Becomes result (draft_task (section_view on.now) (section_view plan.now)) }
+{
+    let planned = planned_in(alloc, on, plan)?;
+    let told = drafted(alloc, &planned)?;
+    Ok(Outcome::Drafted(Drafted { planned, told }))
+}
+
 /// What becomes of a bundle, or why a part of it can't be read. Its sections are read in order.
 fn outcome_of<'a>(alloc: Global, bundle: &Bundle<'a>) -> Result<Outcome<'a>, ReadError<Unread>>
     requires { vec_len bundle.now.sections ≡ length (headers_of bundle.now.command) }
@@ -149,6 +172,7 @@ fn outcome_of<'a>(alloc: Global, bundle: &Bundle<'a>) -> Result<Outcome<'a>, Rea
         Command::Verify => verified(alloc, &parts[0], &parts[1]),
         Command::Play => played(alloc, &parts[0], &parts[1], &parts[2]),
         Command::Refute => refuted(alloc, &parts[0], &parts[1]),
+        Command::Draft => draft(alloc, &parts[0], &parts[1]),
     }
 }
 

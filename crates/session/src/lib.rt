@@ -3,13 +3,17 @@
 
 mod answering;
 mod checking;
+mod draft_fault;
+mod drafting;
 mod ending;
 mod fault;
 mod frame;
+mod harming;
 mod intake;
 mod judging;
 mod outcome;
 mod place;
+mod planned;
 mod playing;
 mod refuting;
 mod reply;
@@ -26,14 +30,17 @@ mod trial;
 mod unread;
 
 pub use answering::{DeviceFault, deliver, serve, session};
+pub use draft_fault::DraftFault;
 pub use ending::outcome_line;
 pub use fault::InputFault;
 pub use intake::{Input, ReadFault, read_input, text_of};
 pub use judging::{judge, text_front};
 pub use outcome::{
-    Case, Checked, Framed, Judged, Outcome, Played, Ran, Refutation, Refuted, Searched, Verified,
+    Case, Checked, Drafted, Framed, Judged, Outcome, Played, Ran, Refutation, Refuted, Searched,
+    Shown, Verified,
 };
 pub use place::{place_line, place_lines};
+pub use planned::Planned;
 pub use reply::{Reply, Status};
 pub use replying::reply_of;
 pub use report::Telling;

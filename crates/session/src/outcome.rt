@@ -1,14 +1,17 @@
 //! What became of an input: what was read of it, and what was found.
 
+use crate::draft_fault::DraftFault;
+use crate::planned::Planned;
 use crate::report::Telling;
 use crate::scenario::Scenario;
 use crate::sequence::Sequence;
 use crate::stop::Stop;
 use crate::trial::Trial;
 use crate::unread::Unread;
+use breach_search::Harm;
 use bundles::{Exchange, Section};
 use run_monitor::{Breach, Reached};
-use simulator::RunFault;
+use simulator::{RunFault, Trace};
 use smbus::SmbusFault;
 use table_check::{Judgement, Table};
 
@@ -53,12 +56,21 @@ pub struct Searched {
     pub found: Result<Table, usize>,
 }
 
+/// A run in which a program breaks a rule with its last instruction, and its steps.
+#[derive(Drop)]
+pub struct Shown {
+    pub harm: Harm,
+    pub trace: Trace,
+}
+
 /// A program that was to be verified: the verdict on the table that was found, or the place at
-/// which the search gave up.
+/// which the search gave up; and where one of K1 to K5 refuses it a run that breaks a rule, if a
+/// short search finds one.
 #[derive(Drop)]
 pub struct Verified {
     pub sequence: Sequence,
     pub judged: Result<Judged, usize>,
+    pub shown: Option<Shown>,
 }
 
 /// A run of a program that was played by a seed, as the text of how its targets start and of what
@@ -85,6 +97,13 @@ pub struct Refuted {
     pub found: Option<Refutation>,
 }
 
+/// A program that was drafted for a plan and is accepted, as its text, or why there is none.
+#[derive(Drop)]
+pub struct Drafted {
+    pub planned: Planned,
+    pub told: Result<String, DraftFault>,
+}
+
 /// What became of an input. The reply to it and the notes on it are made from this.
 #[derive(Drop)]
 pub enum Outcome<'a> {
@@ -96,6 +115,7 @@ pub enum Outcome<'a> {
     Verified(Verified),
     Played(Played),
     Refuted(Refuted),
+    Drafted(Drafted),
 }
 
 /// An input that was judged: as far as it is text, the sections of its bundle, none where it is no

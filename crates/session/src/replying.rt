@@ -2,6 +2,7 @@
 
 ghost use Rattle.std.specs.Prelude.{◌≡◌, ◌≢◌, ℕ, List, IfOk, Result, string_bytes};
 ghost use Rattle.session.specs.CheckReplies.{verdict_text, verdict_reply};
+ghost use Rattle.session.specs.DraftReplies.{drafted_reply};
 ghost use Rattle.session.specs.Commands.{Task};
 ghost use Rattle.session.specs.Outcomes.{IsOutcomeOf, IsTrue, told_reply, checked_reply};
 ghost use Rattle.session.specs.Outcomes.{verified_reply, text_reply, IsSearched};
@@ -15,8 +16,12 @@ ghost use Rattle.session.specs.Sessions.{IsReplyAfter, IsReplyTo};
 ghost use Rattle.session.specs.declared.fault.InputFault.{InputFault as AnyFault};
 ghost use Rattle.session.specs.declared.fault.InputFault.TheVariants as faults;
 
+use crate::draft_fault::draft_fault_line;
 use crate::fault::InputFault;
-use crate::outcome::{Case, Checked, Framed, Outcome, Played, Ran, Refuted, Searched, Verified};
+use crate::outcome::{
+    Case, Checked, Drafted, Framed, Outcome, Played, Ran, Refuted, Searched, Verified,
+};
+use crate::planned::Planned;
 use crate::reply::{Reply, Status, refused};
 use crate::sequence::Sequence;
 use crate::unread::Unread;
@@ -178,6 +183,25 @@ fn refuted_reply(alloc: Global, refuted: Refuted) -> Result<Reply, AllocError>
     }
 }
 
+fn drafted_reply(alloc: Global, drafted: Drafted) -> Result<Reply, AllocError>
+    ensures whole { IfOk result (λ reply. reply.status ≢ Status.DeviceFault) }
+    ensures replies { IfOk result
+        (λ reply. reply_view reply ≡ drafted_reply drafted.planned.board drafted.told) }
+{
+    let Drafted { planned, told } = drafted;
+    let Planned { board, .. } = planned;
+    match told {
+        Ok(text) => Ok(text_reply(text)),
+        Err(fault) => {
+            let line = draft_fault_line(alloc, &board, fault)?;
+            Ok(Reply {
+                status: Status::InputFault,
+                text: line.into_bytes(),
+            })
+        }
+    }
+}
+
 /// The reply to what was read of an outcome that is true of it.
 fn outcome_reply(alloc: Global, outcome: Outcome<'_>) -> Result<Reply, AllocError>
     requires { IsTrue outcome }
@@ -195,6 +219,7 @@ fn outcome_reply(alloc: Global, outcome: Outcome<'_>) -> Result<Reply, AllocErro
         Outcome::Verified(verified) => verified_reply(alloc, verified),
         Outcome::Played(played) => Ok(played_reply(played)),
         Outcome::Refuted(refuted) => refuted_reply(alloc, refuted),
+        Outcome::Drafted(drafted) => drafted_reply(alloc, drafted),
     }
 }
 

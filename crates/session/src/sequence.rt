@@ -24,7 +24,7 @@ pub struct Sequence {
 }
 
 /// The board of a section.
-fn board_in(alloc: Global, section: &Section<'_>) -> Result<Board, ReadError<Unread>>
+pub(crate) fn board_in(alloc: Global, section: &Section<'_>) -> Result<Board, ReadError<Unread>>
     ensures { Reads (λ b. b) result (board_in (section_view section.now)) }
 {
     let text = section_text(alloc, section)?;

@@ -2,6 +2,7 @@ use Rattle.std.proofs.lemmas.Result.{IfOk-weaker}
 use Rattle.session.specs.declared.outcome.Outcome.TheVariants as outcomes
 use Rattle.session.specs.Replies.{reply_view}
 use Rattle.session.proofs.Replied.{Tells, ran_told, checked_told, verified_told, refuted_told}
+use Rattle.session.proofs.Replied.{drafted_told}
 use Rattle.session.proofs.replying.outcome_reply.Goals as goal
 
 pub returns-in-Ran-clause-replies : goal.returns-in-Ran-clause-replies
@@ -34,3 +35,11 @@ returns-in-Refuted-clause-replies c =
     (λ reply. Tells (outcomes.Refuted c.in-Refuted.refuted) (reply_view reply))
     (λ reply is. refuted_told c.in-Refuted.refuted (reply_view reply) is)
     c.refuted_reply.ensures.replies)
+
+pub returns-in-Drafted-clause-replies : goal.returns-in-Drafted-clause-replies
+returns-in-Drafted-clause-replies c =
+    rw c.in-Drafted.is
+    (IfOk-weaker c.drafted_reply.result _
+    (λ reply. Tells (outcomes.Drafted c.in-Drafted.drafted) (reply_view reply))
+    (λ reply is. drafted_told c.in-Drafted.drafted (reply_view reply) is)
+    c.drafted_reply.ensures.replies)
