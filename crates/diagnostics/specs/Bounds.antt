@@ -29,6 +29,7 @@ IsBoundIn sections (outcomes.Verified x) note =
     (λ place. note ≡ None)
 IsBoundIn sections (outcomes.Played x) note = note ≡ None
 IsBoundIn sections (outcomes.Refuted x) note = note ≡ None
+IsBoundIn sections (outcomes.Drafted x) note = note ≡ None
 
 -- and where it is asked for
 abbrev pub IsBoundOf : Beside → List Section → Outcome → Option Note → Type 0

@@ -18,6 +18,7 @@ use Rattle.notes.specs.declared.note.Note.{Note}
 use Rattle.notes.specs.Notes.{IsOn}
 use Rattle.diagnostics.specs.AnswerPlaces.{counted_line, run_line}
 use Rattle.diagnostics.specs.Boards.{IsOnSomeLine}
+use Rattle.diagnostics.specs.DraftPlaces.{IsOnDraftFault}
 use Rattle.diagnostics.specs.BundlePlaces.{IsOnFault}
 use Rattle.diagnostics.specs.ProgramPlaces.{program_lines, IsOnRefusal}
 
@@ -80,3 +81,6 @@ IsErrorOf text sections (outcomes.Verified x) note =
     (λ place. IsOnRefusal sections place note)
 IsErrorOf text sections (outcomes.Played x) note = note ≡ None
 IsErrorOf text sections (outcomes.Refuted x) note = note ≡ None
+IsErrorOf text sections (outcomes.Drafted x) note =
+    MatchResult x.told (λ _. note ≡ None)
+    (λ fault. IsOnDraftFault sections (string_bytes x.planned.plan) fault note)

@@ -2,8 +2,9 @@ pub mod ProgramPlaces
 pub mod AnswerPlaces
 pub mod AnswerLaws
 pub mod BundlePlaces
-pub mod Inputs
 pub mod Boards
+pub mod DraftPlaces
+pub mod Inputs
 pub mod ProgramWarnings
 pub mod LabelWarnings
 pub mod Warnings

@@ -48,3 +48,4 @@ AreOthersOf sections (outcomes.Searched x) others = NoneIsLeft others
 AreOthersOf sections (outcomes.Verified x) others = NoneIsLeft others
 AreOthersOf sections (outcomes.Played x) others = NoneIsLeft others
 AreOthersOf sections (outcomes.Refuted x) others = NoneIsLeft others
+AreOthersOf sections (outcomes.Drafted x) others = NoneIsLeft others

@@ -68,3 +68,4 @@ AreWarningsOf sections (outcomes.Played x) warnings =
     WarnsOf sections x.sequence.board x.sequence.program None None warnings
 AreWarningsOf sections (outcomes.Refuted x) warnings =
     WarnsOf sections x.sequence.board x.sequence.program None None warnings
+AreWarningsOf sections (outcomes.Drafted x) warnings = WarnsOfNothing warnings

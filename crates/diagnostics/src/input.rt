@@ -9,16 +9,18 @@ ghost use Rattle.session.specs.SectionTexts.{section_text};
 ghost use Rattle.session.specs.Parts.{sections_view};
 ghost use Rattle.texts.specs.Words.{lines_by_feed};
 ghost use Rattle.diagnostics.specs.Boards.{IsOnSomeLine};
+ghost use Rattle.diagnostics.specs.DraftPlaces.{IsOnDraftFault};
 ghost use Rattle.diagnostics.specs.Inputs.{IsOnLine, IsOnUnread, IsOnJudgement, IsErrorOf};
 ghost use Rattle.diagnostics.specs.Inputs.{IsOnMessage, IsOnRunFault};
 ghost use Rattle.diagnostics.specs.ProgramPlaces.{program_lines, IsOnRefusal};
 
 use crate::boards::board_note;
 use crate::bundle::bundle_note;
+use crate::drafted::draft_fault_note;
 use crate::frame::frame_note;
 use crate::note::error_note;
 use crate::program::program_note;
-use crate::refusal::reason::{cause_of, loop_cause};
+use crate::refusal::reason::{cause_of, loop_cause, unverified_cause};
 use crate::refusal::roads::Judged as Judging;
 use crate::refusal::{RefusalKind, detailed_note};
 use crate::remark::Remark;
@@ -28,8 +30,8 @@ use bundles::Section;
 use notes::{Level, Note};
 use seq_program::{Program, ProgramFault};
 use session::{
-    Case, Checked, Framed, Judged, Outcome, Ran, Searched, Sequence, Trial, Unread, Verified,
-    section_of,
+    Case, Checked, Drafted, Framed, Judged, Outcome, Ran, Searched, Sequence, Trial, Unread,
+    Verified, section_of,
 };
 use std::alloc::{AllocError, Global};
 use table_check::{Judgement, Refusal};
@@ -139,7 +141,6 @@ fn as_read<'a>(trial: &'a Trial, judged: &'a Judged) -> Judging<'a> {
         board: &trial.board,
         program: &trial.program,
         table: &judged.table,
-        is_found: false,
     }
 }
 
@@ -149,7 +150,6 @@ pub(crate) fn as_found<'a>(sequence: &'a Sequence, judged: &'a Judged) -> Judgin
         board: &sequence.board,
         program: &sequence.program,
         table: &judged.table,
-        is_found: true,
     }
 }
 
@@ -235,6 +235,22 @@ fn searched_note(
     }
 }
 
+/// The note on a program that isn't verified.
+fn unverified_note(
+    alloc: Global,
+    sections: &[Section<'_>],
+    verified: &Verified,
+    judged: &Judged,
+    refusal: Refusal,
+) -> Result<Option<Note>, AllocError>
+    ensures { IfOk result (IsOnRefusal (sections_view sections.now) refusal.place) }
+{
+    let program = program_text(alloc, sections)?;
+    let judging = as_found(&verified.sequence, judged);
+    let (kind, cause) = unverified_cause(alloc, verified, judging, &program, refusal)?;
+    detailed_note(alloc, &program, refusal.place, kind, cause)
+}
+
 /// The note on a program that was to be verified, if it is refused.
 fn verified_note(
     alloc: Global,
@@ -245,17 +261,30 @@ fn verified_note(
         (λ judged. IsOnJudgement (sections_view sections.now) judged.judgement note)
         (λ place. IsOnRefusal (sections_view sections.now) place note)) }
 {
-    let sequence = &verified.sequence;
     match &verified.judged {
-        Ok(judged) => {
-            verdict_note(
-                alloc,
-                sections,
-                as_found(sequence, judged),
-                judged.judgement,
-            )
-        }
-        Err(place) => gave_up_note(alloc, sections, &sequence.program, *place),
+        Ok(judged) => match judged.judgement {
+            Judgement::Accepted { .. } => Ok(None),
+            Judgement::Refused(refusal) => {
+                unverified_note(alloc, sections, verified, judged, refusal)
+            }
+        },
+        Err(place) => gave_up_note(alloc, sections, &verified.sequence.program, *place),
+    }
+}
+
+/// The note on a plan, if there is no draft for it.
+fn drafted_note(
+    alloc: Global,
+    sections: &[Section<'_>],
+    drafted: &Drafted,
+) -> Result<Option<Note>, AllocError>
+    ensures { IfOk result (λ note. MatchResult drafted.now.told (λ _. note ≡ None)
+        (λ fault. IsOnDraftFault (sections_view sections.now)
+        (string_bytes drafted.now.planned.plan) fault note)) }
+{
+    match &drafted.told {
+        Ok(_) => Ok(None),
+        Err(fault) => draft_fault_note(alloc, sections, &drafted.planned, *fault),
     }
 }
 
@@ -279,5 +308,6 @@ pub fn note_on(alloc: Global, case: &Case<'_>) -> Result<Option<Note>, AllocErro
         Outcome::Verified(verified) => verified_note(alloc, sections, verified),
         Outcome::Played(_) => Ok(None),
         Outcome::Refuted(_) => Ok(None),
+        Outcome::Drafted(drafted) => drafted_note(alloc, sections, drafted),
     }
 }

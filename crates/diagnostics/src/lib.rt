@@ -6,6 +6,7 @@ mod boards;
 mod bound;
 mod bundle;
 mod counted;
+mod drafted;
 mod form;
 mod frame;
 mod input;

@@ -8,6 +8,13 @@ use crate::remark::Remark;
 use notes::{Level, Note, line_at};
 use std::alloc::{AllocError, Global};
 
+/// What may help, if there is something, in a list.
+fn listed(alloc: Global, help: Option<String>) -> Result<Vec<String>, AllocError> {
+    let mut helps = Vec::new(alloc);
+    push_some(&mut helps, help)?;
+    Ok(helps)
+}
+
 /// The note of a level on a line of a section, which has this number.
 fn note_on(
     alloc: Global,
@@ -21,9 +28,10 @@ fn note_on(
 {
     let note = Note::quoting(alloc, level, section, number, line)?;
     let Remark { message, help } = remark;
+    let helps = listed(alloc, help)?;
     Ok(Note {
         message,
-        help,
+        helps,
         ..note
     })
 }
@@ -65,6 +73,19 @@ pub(crate) fn board_warning(
         (IsQuoting Level.Warning (codes "%board") number (option_copied line.entry)) }
 {
     note_on(alloc, Level::Warning, "%board", number, line, remark)
+}
+
+/// The note on an error in this line of a board file.
+pub(crate) fn board_error(
+    alloc: Global,
+    number: usize,
+    line: Option<&str>,
+    remark: Remark,
+) -> Result<Note, AllocError>
+    ensures { IfOk result
+        (IsQuoting Level.Error (codes "%board") number (option_copied line.entry)) }
+{
+    note_on(alloc, Level::Error, "%board", number, line, remark)
 }
 
 /// The note on an error.
@@ -140,31 +161,10 @@ pub(crate) fn marked(
     }
 }
 
-/// Adds what is known, if it is.
-fn push_fact(facts: &mut Vec<String>, fact: Option<String>) -> Result<(), AllocError> {
-    if let Some(fact) = fact {
-        facts.push(fact)?;
+/// Adds a text to others, if there is one.
+pub(crate) fn push_some(texts: &mut Vec<String>, text: Option<String>) -> Result<(), AllocError> {
+    if let Some(text) = text {
+        texts.push(text)?;
     }
     Ok(())
-}
-
-/// The note on an error, with what is known beside.
-pub(crate) fn known_error_note(
-    alloc: Global,
-    section: &str,
-    text: &str,
-    number: usize,
-    remark: Remark,
-    known: [Option<String>; 4],
-) -> Result<Note, AllocError>
-    ensures { IfOk result (IsOn Level.Error section.now number (lines_by_feed text.now)) }
-{
-    let note = error_note(alloc, section, text, number, remark)?;
-    let [first, second, third, fourth] = known;
-    let mut facts = Vec::new(alloc);
-    push_fact(&mut facts, first)?;
-    push_fact(&mut facts, second)?;
-    push_fact(&mut facts, third)?;
-    push_fact(&mut facts, fourth)?;
-    Ok(Note { facts, ..note })
 }

@@ -15,6 +15,7 @@ mod origin;
 pub(crate) mod reason;
 pub(crate) mod roads;
 mod route;
+pub(crate) mod shown;
 mod single_way;
 mod starts;
 mod table_detail;
@@ -24,8 +25,8 @@ mod uncounted;
 mod way;
 mod widened;
 
-use crate::note::known_error_note;
-use crate::refusal::cause::Cause;
+use crate::note::push_some;
+use crate::refusal::cause::{Cause, Evidence};
 use crate::remark::{Remark, help_of};
 use facts::Rule;
 use notes::{Level, Note};
@@ -155,6 +156,46 @@ pub(crate) fn page_of(kind: RefusalKind) -> Option<&'static str> {
     }
 }
 
+/// Adds what is known of a refusal.
+fn push_known(facts: &mut Vec<String>, known: [Option<String>; 4]) -> Result<(), AllocError> {
+    let [first, second, third, fourth] = known;
+    push_some(facts, first)?;
+    push_some(facts, second)?;
+    push_some(facts, third)?;
+    push_some(facts, fourth)
+}
+
+/// Adds the lines that tell a run.
+fn push_lines(facts: &mut Vec<String>, lines: Vec<String>) -> Result<(), AllocError> {
+    for line in lines {
+        facts.push(line)?;
+    }
+    Ok(())
+}
+
+/// Adds what a search for a run came to.
+fn push_evidence(
+    alloc: Global,
+    facts: &mut Vec<String>,
+    helps: &mut Vec<String>,
+    evidence: Option<Evidence>,
+) -> Result<(), AllocError> {
+    match evidence {
+        Some(Evidence::Shown(lines)) => {
+            push_lines(facts, lines)?;
+            helps.push(String::from_str(alloc, "pmseq refute prints it")?)?;
+            Ok(())
+        }
+        Some(Evidence::NoneFound) => {
+            let none = "no run was found that does this; the board's ranges or the facts may be \
+                        too wide";
+            facts.push(String::from_str(alloc, none)?)?;
+            Ok(())
+        }
+        None => Ok(()),
+    }
+}
+
 /// The note on a refusal, with what is to blame for it.
 pub(crate) fn detailed_note(
     alloc: Global,
@@ -174,12 +215,22 @@ pub(crate) fn detailed_note(
         way,
         origin,
         beside,
+        evidence,
     } = cause;
-    let remark = blaming(alloc, message_of(kind), kind, blame)?;
-    let known = [known, way, origin, beside];
-    let note = known_error_note(alloc, "%program", text, number, remark, known)?;
+    let Remark { message, help } = blaming(alloc, message_of(kind), kind, blame)?;
+    let (mut facts, mut helps) = (Vec::new(alloc), Vec::new(alloc));
+    push_known(&mut facts, [known, way, origin, beside])?;
+    push_evidence(alloc, &mut facts, &mut helps, evidence)?;
+    push_some(&mut helps, help)?;
+    let note = Note::on(alloc, Level::Error, "%program", text, number)?;
     let page = page_of(kind);
-    Ok(Some(Note { page, ..note }))
+    Ok(Some(Note {
+        message,
+        facts,
+        helps,
+        page,
+        ..note
+    }))
 }
 
 /// What a person needs to mend a program that is refused at a place: the place's line with its

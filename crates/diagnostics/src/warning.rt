@@ -242,7 +242,7 @@ pub fn warnings_on(alloc: Global, case: &Case<'_>) -> Result<Warnings, AllocErro
 {
     let sections = &case.sections;
     match &case.outcome {
-        Outcome::Unread(_) | Outcome::Framed(_) => Ok(Warnings::none(alloc)),
+        Outcome::Unread(_) | Outcome::Framed(_) | Outcome::Drafted(_) => Ok(Warnings::none(alloc)),
         Outcome::Ran(ran) => {
             let Scenario { board, program, .. } = &ran.scenario;
             warnings_of(alloc, sections, board, program, None, ran.found.as_ref())

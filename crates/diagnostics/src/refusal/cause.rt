@@ -2,6 +2,14 @@
 
 use crate::remark::Remark;
 
+/// What a search for a run that breaks a rule came to.
+#[derive(Drop)]
+pub(crate) enum Evidence {
+    /// A run was found: what is told of it, a line each.
+    Shown(Vec<String>),
+    NoneFound,
+}
+
 /// What is to blame for a refusal, with names and numbers, and what may mend just that; what is
 /// known at its place, how that is reached, and where on the way what is to blame came in.
 #[derive(Drop)]
@@ -12,6 +20,8 @@ pub(crate) struct Cause {
     pub origin: Option<String>,
     /// What is wrong beside it.
     pub beside: Option<String>,
+    /// Whether a run shows it, where one was searched.
+    pub evidence: Option<Evidence>,
 }
 
 impl Cause {
@@ -28,6 +38,7 @@ impl Cause {
             way: None,
             origin: None,
             beside: None,
+            evidence: None,
         }
     }
 
@@ -39,6 +50,11 @@ impl Cause {
     /// The same, and what is wrong beside it.
     pub(crate) fn beside(self, beside: Option<String>) -> Cause {
         Cause { beside, ..self }
+    }
+
+    /// The same, and what a search for a run came to.
+    pub(crate) fn with(self, evidence: Option<Evidence>) -> Cause {
+        Cause { evidence, ..self }
     }
 
     /// The same, and where what is to blame came in.

@@ -2,12 +2,13 @@
 
 use crate::refusal::RefusalKind;
 use crate::refusal::branch::{push_branches, push_start};
-use crate::refusal::cause::Cause;
+use crate::refusal::cause::{Cause, Evidence};
 use crate::refusal::detail::refusal_cause;
 use crate::refusal::meeting::meeting_place;
 use crate::refusal::origin::BadWay;
 use crate::refusal::roads::{Judged, Roads};
 use crate::refusal::route::route_of;
+use crate::refusal::shown::evidence_of;
 use crate::refusal::single_way::{MOST_STEPS, SingleWay, first_trails, single_way};
 use crate::refusal::trail::{Trail, Trails};
 use crate::refusal::uncounted::uncounted_text;
@@ -16,7 +17,7 @@ use crate::refusal::widened::widened_text;
 use crate::remark::bare;
 use facts::Rule;
 use seq_program::Program;
-use session::place_lines;
+use session::{Verified, place_lines};
 use simulator::MOST_TICKS;
 use std::alloc::{AllocError, Global};
 use table_check::{Refusal, Table};
@@ -221,24 +222,7 @@ fn beside(alloc: Global, uncounted: Option<String>) -> Result<Option<String>, Al
     }
 }
 
-/// Why a program isn't verified. Nobody wrote the table, so nothing is said of its ticks.
-fn unverified(
-    alloc: Global,
-    judged: Judged<'_>,
-    lines: &[usize],
-    refusal: Refusal,
-) -> Result<(RefusalKind, Cause), AllocError> {
-    let uncounted = uncounted_text(alloc, judged.program, Roads::Kept(judged), lines)?;
-    let rule = refusal.breach.rule();
-    if rule == Rule::K7 {
-        return Ok(unbounded_cause(judged, uncounted));
-    }
-    let cause = blame_of(alloc, judged, lines, refusal)?;
-    let beside = beside(alloc, uncounted)?;
-    Ok((RefusalKind::Breaks(rule), cause.beside(beside)))
-}
-
-/// Why a program with this text is refused.
+/// Why a program with this text is refused with a table that somebody wrote.
 pub(crate) fn cause_of(
     alloc: Global,
     judged: Judged<'_>,
@@ -246,11 +230,41 @@ pub(crate) fn cause_of(
     refusal: Refusal,
 ) -> Result<(RefusalKind, Cause), AllocError> {
     let lines = place_lines(alloc, text)?;
-    if judged.is_found {
-        return unverified(alloc, judged, &lines, refusal);
-    }
     let cause = blame_of(alloc, judged, &lines, refusal)?;
     Ok((RefusalKind::Breaks(refusal.breach.rule()), cause))
+}
+
+/// Why a program with lines at these places isn't verified, beside what a search for a run came to.
+fn unverified(
+    alloc: Global,
+    judged: Judged<'_>,
+    lines: &[usize],
+    refusal: Refusal,
+    evidence: Option<Evidence>,
+) -> Result<(RefusalKind, Cause), AllocError> {
+    let uncounted = uncounted_text(alloc, judged.program, Roads::Kept(judged), lines)?;
+    let rule = refusal.breach.rule();
+    if rule == Rule::K7 {
+        return Ok(unbounded_cause(judged, uncounted));
+    }
+    let cause = blame_of(alloc, judged, lines, refusal)?;
+    let cause = cause.beside(beside(alloc, uncounted)?);
+    Ok((RefusalKind::Breaks(rule), cause.with(evidence)))
+}
+
+/// Why a program with this text isn't verified. Nobody wrote the table, so nothing is said of its
+/// ticks.
+pub(crate) fn unverified_cause(
+    alloc: Global,
+    verified: &Verified,
+    judged: Judged<'_>,
+    text: &str,
+    refusal: Refusal,
+) -> Result<(RefusalKind, Cause), AllocError> {
+    let lines = place_lines(alloc, text)?;
+    let shown = verified.shown.as_ref();
+    let evidence = evidence_of(alloc, &verified.sequence, &lines, refusal, shown)?;
+    unverified(alloc, judged, &lines, refusal, evidence)
 }
 
 /// The loop that no counter bounds, or else the shortest one through a place.

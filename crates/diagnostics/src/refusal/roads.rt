@@ -20,8 +20,6 @@ pub(crate) struct Judged<'a> {
     pub board: &'a Board,
     pub program: &'a Program,
     pub table: &'a Table,
-    /// Nobody wrote the table: the search found it.
-    pub is_found: bool,
 }
 
 /// Whether a target allows what an instruction may send.

@@ -1,0 +1,157 @@
+//! Notes on what can't be drafted.
+
+ghost use Rattle.std.specs.Prelude.{◌≡◌, IfOk, codes, string_bytes};
+ghost use Rattle.texts.specs.Words.{lines_by_feed};
+ghost use Rattle.diagnostics.specs.Boards.{IsOnSomeLine};
+ghost use Rattle.diagnostics.specs.DraftPlaces.{IsOnBoard, IsOnDraftFault};
+ghost use Rattle.notes.specs.Notes.{IsOn};
+ghost use Rattle.session.specs.Parts.{sections_view};
+
+use crate::boards::{NamedLine, line_or_first, place_of, saying_lines};
+use crate::note::{board_error, error_note};
+use crate::refusal::facts_here::{rail_word, target_word};
+use crate::remark::Remark;
+use crate::sentence::Word::{Command, Count, Entry, Text};
+use crate::sentence::{Advice, say};
+use board::{Board, Place};
+use bundles::{Section, form_word};
+use facts::Rule;
+use notes::{Level, Note};
+use session::{DraftFault, Planned, section_of};
+use smbus::Form;
+use std::alloc::{AllocError, Global};
+
+const WISHES: &str =
+    "a line is one of `voltage RAIL 1.05V`, `retries N`, `poll TICKS N`, `order RAIL RAIL`, \
+     `clear TARGET` and `protect TARGET 80`; docs/DRAFT.md explains them";
+
+const ALL_TOGETHER: &str =
+    "take out one of the `needs`, or of the plan's `order`, through which they wait";
+
+const LOWER: &str =
+    "wish a lower voltage in the plan, or set `limit_uv` to the highest voltage that is safe";
+
+const FEWER: &str =
+    "pages, voltages and reading PAGE back take instructions: leave wishes out, or bring up a part \
+     of the rails by hand";
+
+/// The note on a line of a plan that is no wish.
+fn plan_note(alloc: Global, plan: &str, number: usize) -> Result<Note, AllocError>
+    ensures { IfOk result (IsOn Level.Error (codes "%plan") number (lines_by_feed plan.now)) }
+{
+    let message = say!["this is no wish for this board, or a line above says it"];
+    let remark = Remark::told(alloc, message, Some(say![{ Text(WISHES) }]))?;
+    error_note(alloc, "%plan", plan, number, remark)
+}
+
+/// What is said of an entry that is missing.
+fn no_entry(board: &Board, target: usize, form: Form, code: u8) -> Advice<'_> {
+    let target = target_word(board, target);
+    let entry = Entry(form_word(form), Some(code));
+    Advice {
+        message: say![
+            "the program would send " {Command(code)} " to " {target}
+            ", and no entry of its `allow` permits it with this value"
+        ],
+        help: Some(say!["if its data sheet allows it, add " {entry}]),
+    }
+}
+
+/// What is said of a program that isn't accepted.
+fn not_accepted(place: usize, rule: Rule) -> Advice<'static> {
+    Advice {
+        message: say![
+            "the program that was drafted is refused at place " {Count(place)} " by "
+            {Text(rule.name())}
+        ],
+        help: None,
+    }
+}
+
+/// What is said of a fault that is none of the plan's lines.
+fn advice_on(board: &Board, fault: DraftFault) -> Advice<'_> {
+    match fault {
+        DraftFault::BadPlan(line) => Advice {
+            message: say!["line " {Count(line)} " of the plan is no wish"],
+            help: None,
+        },
+        DraftFault::Circle(rail) => Advice {
+            message: say![
+                "no order can place " {rail_word(board, rail)}
+                ": it waits for rails that wait for one another"
+            ],
+            help: Some(say![{ Text(ALL_TOGETHER) }]),
+        },
+        DraftFault::NoEntry { target, form, code } => no_entry(board, target, form, code),
+        DraftFault::OverLimit(rail) => Advice {
+            message: say![
+                "the voltage that the plan wishes for " {rail_word(board, rail)}
+                " is over its limit"
+            ],
+            help: Some(say![{ Text(LOWER) }]),
+        },
+        DraftFault::TooLong => Advice {
+            message: say!["the program would have over 1024 instructions"],
+            help: Some(say![{ Text(FEWER) }]),
+        },
+        DraftFault::NotAccepted { place, rule } => not_accepted(place, rule),
+    }
+}
+
+/// The table of a board file that a fault is told on, and its key.
+fn site_of(fault: DraftFault) -> (Place, &'static str) {
+    match fault {
+        DraftFault::Circle(rail) => (Place::Rail(rail), "needs"),
+        DraftFault::NoEntry { target, .. } => (Place::Target(target), "allow"),
+        DraftFault::OverLimit(rail) => (Place::Rail(rail), "limit_uv"),
+        _ => (Place::Target(0), "name"),
+    }
+}
+
+/// The note on a line of a board file with this text.
+fn on_board_note(
+    alloc: Global,
+    text: &str,
+    board: &Board,
+    fault: DraftFault,
+) -> Result<Option<Note>, AllocError>
+    ensures { IfOk result (IsOnSomeLine text.now) }
+{
+    let lines = saying_lines(alloc, text)?;
+    let (site, key) = site_of(fault);
+    let place = place_of(&lines, site, Some(key));
+    let NamedLine { number, line } = line_or_first(text, &lines, place);
+    let remark = advice_on(board, fault).told(alloc)?;
+    Ok(Some(board_error(alloc, number, line, remark)?))
+}
+
+/// The note on a bundle's board.
+fn board_note(
+    alloc: Global,
+    sections: &[Section<'_>],
+    board: &Board,
+    fault: DraftFault,
+) -> Result<Option<Note>, AllocError>
+    ensures { IfOk result (IsOnBoard (sections_view sections.now)) }
+{
+    match section_of(alloc, sections, 0)? {
+        Some(text) => on_board_note(alloc, &text, board, fault),
+        None => Ok(None),
+    }
+}
+
+/// The note on why there is no draft.
+pub(crate) fn draft_fault_note(
+    alloc: Global,
+    sections: &[Section<'_>],
+    planned: &Planned,
+    fault: DraftFault,
+) -> Result<Option<Note>, AllocError>
+    ensures { IfOk result
+        (IsOnDraftFault (sections_view sections.now) (string_bytes planned.now.plan) fault) }
+{
+    match fault {
+        DraftFault::BadPlan(line) => Ok(Some(plan_note(alloc, &planned.plan, line)?)),
+        _ => board_note(alloc, sections, &planned.board, fault),
+    }
+}
