@@ -9,7 +9,8 @@ use bundles::Command;
 use diagnostics::Beside;
 
 /// The commands, in the order in which a page of help has them.
-pub(crate) const COMMANDS: [Command; 8] = [
+pub(crate) const COMMANDS: [Command; 9] = [
+    Command::Draft,
     Command::Verify,
     Command::Refute,
     Command::Find,
@@ -41,7 +42,8 @@ pub(crate) struct Options<'a> {
 }
 
 /// A command and the names of the files that it takes, one for each of its first sections. Where
-/// the options have a seed, the last section comes of the run that this plays.
+/// the options have a seed, the last section comes of the run that this plays; a draft without a
+/// plan has an empty one.
 #[derive(Clone, Copy)]
 pub(crate) struct Request<'a> {
     pub command: Command,
@@ -113,6 +115,11 @@ fn wanted_files(command: Command, seed: Option<&str>) -> usize {
         .saturating_sub(usize::from(seed.is_some()))
 }
 
+/// Whether a command takes so many files, beside a seed or without one: `draft` may have no plan.
+fn takes(command: Command, count: usize, seed: Option<&str>) -> bool {
+    count == wanted_files(command, seed) || count == 1 && command == Command::Draft
+}
+
 /// The request of a command for the files with these names.
 fn request_of<'a>(
     command: Command,
@@ -123,7 +130,7 @@ fn request_of<'a>(
     if seed.is_some() && words.len() == 3 && command != Command::Play {
         return Err(Misuse::SeedAndAnswers);
     }
-    if names.len() != wanted_files(command, seed) {
+    if !takes(command, names.len(), seed) {
         let count = words.len();
         return Err(Misuse::WrongCount { command, count });
     }

@@ -1,7 +1,7 @@
 //! The faults, each in a sentence. docs/BUNDLES.md has their order.
 
 /// The name of a fault, and what it says. One name may stand for several.
-pub(crate) const FAULTS: [(&str, &str); 41] = [
+pub(crate) const FAULTS: [(&str, &str); 47] = [
     (
         "Memory",
         "memory ran out; nothing was judged (the exit status is 3)",
@@ -162,5 +162,32 @@ pub(crate) const FAULTS: [(&str, &str); 41] = [
         "BadData",
         "fault frame 3: data of another length than the form's, or a `refuse=` that numbers no \
          byte of the controller",
+    ),
+    (
+        "BadPlan",
+        "fault draft 2 LINE: a line of %plan that is no wish for this board, or stands a second \
+         time",
+    ),
+    (
+        "Circle",
+        "fault draft 3 RAIL: rails wait for one another in a circle, and no order can place this \
+         one",
+    ),
+    (
+        "NoEntry",
+        "fault draft 4 TARGET FORM COMMAND: the program would send this, and no entry of the \
+         target permits it with its value",
+    ),
+    (
+        "OverLimit",
+        "fault draft 5 RAIL: the voltage that the plan wishes is over the rail's limit",
+    ),
+    (
+        "TooLong",
+        "fault draft 6: the program would have over 1024 instructions",
+    ),
+    (
+        "NotAccepted",
+        "fault draft 7 PLACE RULE: the program that was drafted is refused",
     ),
 ];

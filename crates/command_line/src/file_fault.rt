@@ -144,10 +144,11 @@ fn words_of(alloc: Global, fault: FileFault) -> Result<(String, &'static str), A
 pub(crate) fn fault_note(alloc: Global, name: &str, fault: FileFault) -> Result<Note, AllocError> {
     let (message, help) = words_of(alloc, fault)?;
     let help = String::from_str(alloc, help)?;
+    let helps = vec![in alloc; help]?;
     let note = Note::on(alloc, Level::Error, name, "", line_of(fault))?;
     Ok(Note {
         message,
-        help: Some(help),
+        helps,
         ..note
     })
 }

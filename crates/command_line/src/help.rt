@@ -13,6 +13,7 @@ pub(crate) const HELP: &str = "\
 pmseq judges controller programs that bring up a board's supply rails over PMBus, before they
 meet the board.
 
+    pmseq draft BOARD [PLAN]            writes a program that brings up a board, and is accepted
     pmseq verify BOARD PROGRAM          judges a program, and finds the facts that it needs
     pmseq find BOARD PROGRAM            prints the table of facts that verify finds
     pmseq check BOARD PROGRAM TABLE     judges a program with a table of facts
@@ -29,7 +30,7 @@ meet the board.
     pmseq -                             does what a bundle on standard input asks for
     pmseq build                         proves and builds pmseq itself
 
-BOARD, PROGRAM, TABLE, ANSWERS and MESSAGE are files; one of them may be -, standard input. SEED
+BOARD, PLAN, PROGRAM, TABLE, ANSWERS and MESSAGE are files; one of them may be -, standard input. SEED
 is a number; without ANSWERS, run and wave play a run, that of `--seed N` or the plain one.
 
 verify and check print `accepted bound N`: whatever the targets answer within the board's ranges,
@@ -51,6 +52,24 @@ docs/RULES.md has a program for each.
 Notes on standard error say what to mend, at a file's line. Exit status: 0 done, and by verify and
 check accepted; 1 refused, the search gave up, or no run was found; 2 a fault in a file, or a word
 or a file that isn't known; 3 where memory, reading or writing failed, and nothing was judged.
+";
+
+const DRAFT: &str = "\
+pmseq draft BOARD [PLAN]
+
+Writes a program that brings up a board's rails, each behind those that it needs, and turns them
+off in the reverse order where something fails. It is judged before it is printed: only a program
+that is accepted is, with its bound in the first line (status 0). Otherwise a fault tells why there
+is none (status 2). The lines of PLAN are wishes, each in a line of its own:
+
+    voltage RAIL 1.05V     commands a voltage, or a mantissa, before the rail is turned on
+    retries N              tries a message N times more where it isn't done (3); `retries RAIL N`
+    poll TICKS N           asks for STATUS_WORD N times, TICKS apart (200 50); `poll RAIL 1ms 50`
+    order RAIL RAIL        turns on the first before the second
+    clear TARGET           sends CLEAR_FAULTS before a rail of it is turned on
+    protect TARGET 80      writes WRITE_PROTECT at the end
+
+docs/DRAFT.md has an example.
 ";
 
 const VERIFY: &str = "\
@@ -152,6 +171,7 @@ docs/BUNDLES.md has all words of a message.
 /// The page of help on a command.
 pub(crate) fn page_of(command: Command) -> &'static str {
     match command {
+        Command::Draft => DRAFT,
         Command::Verify => VERIFY,
         Command::Find => FIND,
         Command::Check => CHECK,
@@ -166,6 +186,7 @@ pub(crate) fn page_of(command: Command) -> &'static str {
 /// The files that a command takes, as its page names them.
 pub(crate) fn names_of(command: Command) -> &'static str {
     match command {
+        Command::Draft => "BOARD [PLAN]",
         Command::Verify | Command::Find | Command::Refute => "BOARD PROGRAM",
         Command::Check => "BOARD PROGRAM TABLE",
         Command::Run | Command::Wave => "BOARD PROGRAM [ANSWERS]",

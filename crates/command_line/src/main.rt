@@ -127,6 +127,23 @@ fn take_files(
     Ok(())
 }
 
+/// Takes an empty plan, where a draft was asked for without one.
+fn take_plan(
+    rt: &HostRuntime,
+    command: Command,
+    files: &mut Vec<SectionFile>,
+    texts: &mut Vec<Vec<u8>>,
+) -> Result<(), Stop> {
+    if command == Command::Draft && texts.len() == 1 {
+        texts.push(Vec::new(rt.alloc()))?;
+        files.push(SectionFile {
+            header: Header::Plan,
+            name: String::from_str(rt.alloc(), "plan")?,
+        })?;
+    }
+    Ok(())
+}
+
 /// Does what a command asks for on files, and tells what is to be told.
 fn answer_files(
     rt: &HostRuntime,
@@ -191,6 +208,7 @@ fn judge_files(rt: &HostRuntime, request: Request<'_>) -> Result<u8, Stop> {
     let mut files = Vec::new(alloc);
     let mut texts = Vec::new(alloc);
     take_files(rt, request, &mut files, &mut texts)?;
+    take_plan(rt, command, &mut files, &mut texts)?;
     let Some(seed) = options.seed else {
         return answer_files(rt, command, &files, &texts, options);
     };

@@ -47,6 +47,7 @@ fn wanted(command: Command) -> &'static str {
     match command {
         Command::Frame => "one file",
         Command::Verify | Command::Refute | Command::Find | Command::Play => "two files",
+        Command::Draft => "one file, or two",
         Command::Run | Command::Wave => "two files, or three",
         Command::Check => "three files",
     }
