@@ -1,5 +1,6 @@
 //! Answer lines, and the sections of a bundle.
 
+mod forms;
 mod said;
 mod seeds;
 

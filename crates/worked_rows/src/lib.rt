@@ -18,6 +18,8 @@ mod devices;
 #[cfg(test)]
 mod diagnostics_rows;
 #[cfg(test)]
+mod drafts_rows;
+#[cfg(test)]
 mod expected;
 #[cfg(test)]
 mod facts_rows;
@@ -31,6 +33,8 @@ mod lost_rows;
 mod notes_rows;
 #[cfg(test)]
 mod outcome_rows;
+#[cfg(test)]
+mod plans_rows;
 #[cfg(test)]
 mod pmbus_table_rows;
 #[cfg(test)]

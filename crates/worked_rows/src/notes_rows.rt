@@ -16,7 +16,10 @@ fn word_note(alloc: Global) -> Result<Note, AllocError> {
     let mut note = note.marking(alloc, "\twrite core ", "OPERATOIN")?;
     note.message.push_str("unknown command\nand a line more")?;
     note.facts.push(String::from_str(alloc, "a fact")?)?;
-    note.help = suggestion(alloc, "OPERATOIN", &["PAGE", "OPERATION"])?;
+    if let Some(help) = suggestion(alloc, "OPERATOIN", &["PAGE", "OPERATION"])? {
+        note.helps.push(help)?;
+    }
+    note.helps.push(String::from_str(alloc, "more help")?)?;
     Ok(note)
 }
 
@@ -31,6 +34,7 @@ fn notes_have_one_form(rt: HostRuntime) {
     \t           ^^^^^^^^^
 note: a fact
 help: did you mean \"OPERATION\"?
+help: more help
 ";
     says(&rt, word_text(rt.alloc()), want);
     same(&rt, Level::Warning.word(), "warning");
