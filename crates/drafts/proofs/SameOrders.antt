@@ -38,7 +38,8 @@ awaited_before waits count order is i j there there_too waiting =
     elim (cases_lt j i) [
       | inl before ↦ before
       | inr behind ↦
-          absurd (none_twice waits count order is at.0 j (omega (arith, at.1, behind)) there_too at.2)
+          absurd
+          (none_twice waits count order is at.0 j (omega (arith, at.1, behind)) there_too at.2)
     ]
 
 -- one rail is the next

@@ -1,16 +1,16 @@
-//! Labels of a drafted program: the name of a rail or a target, and a word that says what for. No
-//! two of the words are the same, and none has a `_`, so no two labels are the same.
+//! Labels of a drafted program: the name of a rail or a target, `_`, and a word that says what for.
+//! No word has a `_`, and none is used for rails and for targets, so no two labels are the same.
 
 use board::Board;
 use std::alloc::{AllocError, Global};
 
 /// What stands before a rail's name in the label at which it is turned off.
-const OFF_FROM: &str = "off_from_";
-/// What such a label may not be taken for.
-const OFF: &str = "off_from";
-/// The most characters of a name behind which each word for a rail, or for a target, fits.
+pub(crate) const OFF_FROM: &str = "off_from_";
+/// How no name begins, since another label could then be the same as such a one.
+const TAKEN: &str = "off_from";
+/// The most characters of a rail's name: a label has 32 at most, and `off_from_` has 9.
 const LONGEST_RAIL: usize = 23;
-
+/// The most of a target's name: `_reprotect` has 10.
 const LONGEST_TARGET: usize = 22;
 
 /// What stands for a rail or a target in labels.
@@ -22,7 +22,7 @@ pub(crate) enum Labels {
 }
 
 fn serves(name: Option<&str>, most: usize) -> bool {
-    name.is_some_and(|name| name.len() <= most && !name.starts_with(OFF))
+    name.is_some_and(|name| name.len() <= most && !name.starts_with(TAKEN))
 }
 
 fn rails_serve(board: &Board) -> bool {

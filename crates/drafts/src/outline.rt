@@ -36,17 +36,12 @@ fn push_protects(parts: &mut Vec<Part>, targets: &[usize]) -> Result<(), AllocEr
     Ok(())
 }
 
-/// The rails from the last of the order on.
-fn reversed(alloc: Global, order: &[usize]) -> Result<Vec<usize>, AllocError>
-    ensures { IfOk result (λ backward. backward.items ≡ reverse order.now) }
+/// Adds that the rails are turned off, from the last of the order on.
+fn push_off(parts: &mut Vec<Part>, order: &[usize]) -> Result<(), AllocError>
+    ensures { OnOk result
+        (parts.new.items ≡ parts.old.items ++ map Part.TurnOff (reverse order.now)) }
 {
-    order.iter().rev().copied().collect(alloc)
-}
-
-fn push_off(parts: &mut Vec<Part>, backward: &[usize]) -> Result<(), AllocError>
-    ensures { OnOk result (parts.new.items ≡ parts.old.items ++ map Part.TurnOff backward.now) }
-{
-    for rail in backward {
+    for rail in order.iter().rev() {
         parts.push(Part::TurnOff(*rail))?;
     }
     Ok(())
@@ -69,7 +64,6 @@ pub(crate) fn parts_of(
     push_on(&mut parts, order)?;
     let protected = targets_to_protect(alloc, board, plan)?;
     push_protects(&mut parts, &protected)?;
-    let backward = reversed(alloc, order)?;
-    push_off(&mut parts, &backward)?;
+    push_off(&mut parts, order)?;
     Ok(parts)
 }

@@ -8,7 +8,8 @@ ghost use Rattle.drafts.specs.Missing.{IsMissing};
 use board::Board;
 use plans::Plan;
 
-fn needs(board: &Board, rail: usize, other: usize) -> bool
+/// Whether a rail needs another.
+pub(crate) fn needs(board: &Board, rail: usize, other: usize) -> bool
     ensures { result ≡ needs board.now rail other }
 {
     match board.rail(rail) {

@@ -1,5 +1,6 @@
 //! Comments of a drafted program: why a line stands there, in words of the board.
 
+use crate::waiting::needs;
 use crate::writing::output::{Output, Paging};
 use crate::writing::scene::Scene;
 use std::alloc::AllocError;
@@ -22,7 +23,7 @@ pub(crate) fn write_heading(text: &mut String, scene: &Scene<'_>) -> Result<(), 
 fn write_needs(text: &mut String, scene: &Scene<'_>, rail: usize) -> Result<(), AllocError> {
     let mut lead = "; needs ";
     for other in scene.order {
-        if is_needed(scene, rail, *other) {
+        if needs(scene.board, rail, *other) {
             let name = scene.rail_name(*other);
             write!(text, "{lead}{name}")?;
             lead = ", ";
@@ -35,21 +36,13 @@ fn write_needs(text: &mut String, scene: &Scene<'_>, rail: usize) -> Result<(), 
 fn write_wishes(text: &mut String, scene: &Scene<'_>, rail: usize) -> Result<(), AllocError> {
     let mut lead = "; the plan puts it behind ";
     for other in scene.order {
-        if scene.plan.puts_before(*other, rail) && !is_needed(scene, rail, *other) {
+        if scene.plan.puts_before(*other, rail) && !needs(scene.board, rail, *other) {
             let name = scene.rail_name(*other);
             write!(text, "{lead}{name}")?;
             lead = ", ";
         }
     }
     Ok(())
-}
-
-/// Whether a rail needs another.
-pub(crate) fn is_needed(scene: &Scene<'_>, rail: usize, other: usize) -> bool {
-    scene
-        .board
-        .rail(rail)
-        .is_some_and(|output| output.needs().contains(&other))
 }
 
 /// Writes what a rail is, and behind which rails it stands.

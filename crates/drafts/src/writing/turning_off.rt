@@ -1,25 +1,24 @@
 //! How a rail is turned off where the program gives up, and the tries to turn it on above that.
 
-use crate::writing::comments::is_needed;
+use crate::labels::{OFF_FROM, way_to_off};
+use crate::waiting::needs;
 use crate::writing::output::{Output, Paging};
 use crate::writing::scene::{Scene, Sections};
 use std::alloc::{AllocError, Global};
 
-/// The line that goes on with the rail before this one in the order; at the first one the program
-/// fails.
+/// The rail that stands before another in the order.
+fn rail_before(order: &[usize], rail: usize) -> Option<usize> {
+    let place = order.iter().position(|other| *other == rail)?;
+    order.get(place.checked_sub(1)?).copied()
+}
+
+/// The line that goes on with the rail before this one; at the first one the program fails.
 fn way_back(alloc: Global, scene: &Scene<'_>, rail: usize) -> Result<String, AllocError> {
-    let mut before = None;
-    for other in scene.order {
-        if *other == rail {
-            break;
+    match rail_before(scene.order, rail) {
+        Some(before) => {
+            let label = scene.labels.rail(alloc, scene.board, before)?;
+            way_to_off(alloc, &label)
         }
-        before = Some(*other);
-    }
-    match before {
-        Some(other) => match Output::of_rail(alloc, scene, other)? {
-            Some(output) => output.way_to_off(alloc),
-            None => String::from_str(alloc, scene.failure()),
-        },
         None => String::from_str(alloc, scene.failure()),
     }
 }
@@ -54,7 +53,11 @@ fn write_disable(
 ) -> Result<(), AllocError> {
     let target = output.target;
     let message = format!(in alloc; "write {target} OPERATION 0x00")?;
-    let is_need = (0..scene.board.rails().len()).any(|other| is_needed(scene, other, output.rail));
+    let is_need = (0..scene.board.rails().len()).any(|other| needs(
+        scene.board,
+        other,
+        output.rail,
+    ));
     let remark = if is_need { "   # allow need-lost" } else { "" };
     output
         .step("off", "reoff")
@@ -74,7 +77,7 @@ pub(crate) fn write_off(
     let text = &mut sections.down;
     write_tries(alloc, text, scene, &output)?;
     let (label, way_out) = (output.label.as_str(), way_back(alloc, scene, rail)?);
-    write!(text, "off_from_{label}:\n")?;
+    write!(text, "{OFF_FROM}{label}:\n")?;
     let page = output.step("back", "reback");
     output.write_page(alloc, text, page, "backed", &way_out)?;
     write_disable(alloc, text, scene, &output)?;

@@ -1,9 +1,8 @@
-use Rattle.std.proofs.Common.{◌≡◌, ◌++◌, map, drop}
+use Rattle.std.proofs.Common.{◌≡◌, ◌++◌, map, ℕ, Bor}
 use Rattle.drafts.specs.declared.part.Part.TheVariants as part
 use Rattle.drafts.proofs.outline.push_off.Given as goal
 
--- the parts so far, and those that are left, are all
+-- the rails so far are turned off
 abbrev pub invariant-loop-rail : goal.invariant-loop-rail
 invariant-loop-rail l =
-    l.parts.items ++ map part.TurnOff (drop l.rail-index l.backward)
-    ≡ l.fn.parts.items ++ map part.TurnOff l.backward
+    l.parts.items ≡ l.fn.parts.items ++ map part.TurnOff (map (λ (w : Bor ℕ). w.now) l.yielded)
