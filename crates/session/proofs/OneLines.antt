@@ -1,5 +1,6 @@
 -- Comments that are one line: words and numbers have no line feed and no carriage return.
-use Rattle.std.proofs.Common.{◌≡◌, ◌<◌, ℕ, ◌^◌, ◌++◌, ◌&&◌, ◌==◌, Bool, true, false, not, List, codes}
+use Rattle.std.proofs.Common.{◌≡◌, ◌<◌, ℕ, ◌^◌, ◌++◌, ◌&&◌, ◌==◌, Bool, true, false, not, List}
+use Rattle.std.proofs.Common.{codes}
 use Rattle.std.proofs.Common.{refl, ◌∙◌, rules, arith}
 use Rattle.std.specs.Char.{is_ascii_digit}
 use Rattle.std.specs.Fmt.{decimal}

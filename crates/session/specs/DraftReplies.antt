@@ -67,8 +67,8 @@ abbrev pub OnDraftFault : Planned → ReadError DraftFault → Type 0
 OnDraftFault p errors.Memory = Unit {0}
 OnDraftFault p (errors.Fault fault) = IsDraftFault p fault
 
--- an error that says nothing of the plan: memory ran out, or the program that was drafted is none or
--- isn't accepted
+-- an error that says nothing of the plan: memory ran out, or the program that was drafted is none
+-- or isn't accepted
 abbrev pub SparesPlan : ReadError DraftFault → Type 0
 SparesPlan e = (p : Planned) → OnDraftFault p e
 

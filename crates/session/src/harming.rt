@@ -15,8 +15,8 @@ use std::alloc::{AllocError, Global};
 use table_check::Verdict;
 
 /// The most states that are kept beside a refusal, where nobody asked for a run: a search over them
-/// takes some milliseconds.
-const FEW_STATES: usize = 1_000;
+/// takes some milliseconds, and a poll of a thousand turns has some five thousand.
+const FEW_STATES: usize = 6_000;
 
 /// The place of a refusal by a rule that a run may break, if it is refused by one.
 fn harmful_place(judged: &Result<Judged, usize>) -> Option<usize> {
