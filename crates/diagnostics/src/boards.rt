@@ -25,7 +25,7 @@ use board::{BoardFault, FaultKind};
 use draft::Draft;
 use finding::{Finding, finding_in};
 pub(crate) use lines::{NamedLine, SayingLine, line_or_first, saying_lines};
-pub(crate) use lint::{remark_of, site_of};
+pub(crate) use lint::{limit_of, remark_of, site_of};
 use not_toml::not_toml;
 use notes::{Note, line_at};
 pub(crate) use scan::place_of;

@@ -7,23 +7,20 @@ ghost use Rattle.diagnostics.specs.DraftPlaces.{IsOnBoard, IsOnDraftFault};
 ghost use Rattle.notes.specs.Notes.{IsOn};
 ghost use Rattle.session.specs.Parts.{sections_view};
 
-use crate::boards::{NamedLine, line_or_first, place_of, saying_lines};
+use crate::boards::{NamedLine, limit_of, line_or_first, place_of, saying_lines};
 use crate::note::{board_error, error_note};
+use crate::plan_line::line_remark;
+use crate::refusal::detail::greatest_within;
 use crate::refusal::facts_here::{rail_word, target_word};
-use crate::remark::Remark;
-use crate::sentence::Word::{Command, Count, Entry, Text};
-use crate::sentence::{Advice, say};
+use crate::sentence::Word::{Command, Count, Entry, Text, Voltage};
+use crate::sentence::{Advice, Sentence, say};
 use board::{Board, Place};
 use bundles::{Section, form_word};
 use facts::Rule;
-use notes::{Level, Note};
+use notes::{Level, Note, line_at};
 use session::{DraftFault, Planned, section_of};
 use smbus::Form;
 use std::alloc::{AllocError, Global};
-
-const WISHES: &str =
-    "a line is one of `voltage RAIL 1.05V`, `retries N`, `poll TICKS N`, `order RAIL RAIL`, \
-     `clear TARGET` and `protect TARGET 80`; docs/DRAFT.md explains them";
 
 const ALL_TOGETHER: &str =
     "take out one of the `needs`, or of the plan's `order`, through which they wait";
@@ -36,11 +33,10 @@ const FEWER: &str =
      of the rails by hand";
 
 /// The note on a line of a plan that is no wish.
-fn plan_note(alloc: Global, plan: &str, number: usize) -> Result<Note, AllocError>
+fn plan_note(alloc: Global, board: &Board, plan: &str, number: usize) -> Result<Note, AllocError>
     ensures { IfOk result (IsOn Level.Error (codes "%plan") number (lines_by_feed plan.now)) }
 {
-    let message = say!["this is no wish for this board, or a line above says it"];
-    let remark = Remark::told(alloc, message, Some(say![{ Text(WISHES) }]))?;
+    let remark = line_remark(alloc, board, line_at(plan, number).unwrap_or(""))?;
     error_note(alloc, "%plan", plan, number, remark)
 }
 
@@ -54,6 +50,28 @@ fn no_entry(board: &Board, target: usize, form: Form, code: u8) -> Advice<'_> {
             ", and no entry of its `allow` permits it with this value"
         ],
         help: Some(say!["if its data sheet allows it, add " {entry}]),
+    }
+}
+
+/// What a rail's voltages are up to, where the plan wishes one over that.
+fn over_limit(board: &Board, rail: usize) -> Option<Sentence<'_>> {
+    let (limit, exponent) = limit_of(board, rail)?;
+    let greatest = Voltage(greatest_within(exponent, limit)?, u64::from(limit));
+    Some(say![
+        "the voltage that the plan wishes for " {rail_word(board, rail)}
+        " is over its limit: it takes up to " {greatest}
+    ])
+}
+
+/// What is said of a voltage that is over its limit.
+fn limit_advice(board: &Board, rail: usize) -> Advice<'_> {
+    let message = match over_limit(board, rail) {
+        Some(message) => message,
+        None => say!["a voltage that the plan wishes is over the limit of its rail"],
+    };
+    Advice {
+        message,
+        help: Some(say![{ Text(LOWER) }]),
     }
 }
 
@@ -83,13 +101,7 @@ fn advice_on(board: &Board, fault: DraftFault) -> Advice<'_> {
             help: Some(say![{ Text(ALL_TOGETHER) }]),
         },
         DraftFault::NoEntry { target, form, code } => no_entry(board, target, form, code),
-        DraftFault::OverLimit(rail) => Advice {
-            message: say![
-                "the voltage that the plan wishes for " {rail_word(board, rail)}
-                " is over its limit"
-            ],
-            help: Some(say![{ Text(LOWER) }]),
-        },
+        DraftFault::OverLimit(rail) => limit_advice(board, rail),
         DraftFault::TooLong => Advice {
             message: say!["the program would have over 1024 instructions"],
             help: Some(say![{ Text(FEWER) }]),
@@ -151,7 +163,9 @@ pub(crate) fn draft_fault_note(
         (IsOnDraftFault (sections_view sections.now) (string_bytes planned.now.plan) fault) }
 {
     match fault {
-        DraftFault::BadPlan(line) => Ok(Some(plan_note(alloc, &planned.plan, line)?)),
+        DraftFault::BadPlan(line) => {
+            Ok(Some(plan_note(alloc, &planned.board, &planned.plan, line)?))
+        },
         _ => board_note(alloc, sections, &planned.board, fault),
     }
 }

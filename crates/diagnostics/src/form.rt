@@ -2,7 +2,6 @@
 
 use crate::listing::listed;
 use notes::lowercase_suggestion;
-use smbus::{Form, form_named};
 use std::alloc::{AllocError, Global};
 
 /// The words of all forms, the last that of alert responses.
@@ -21,16 +20,6 @@ pub(crate) const NAMES: [&str; 13] = [
     "blockcall",
     "alert",
 ];
-
-/// The word of a form.
-pub(crate) fn form_word(form: Form) -> &'static str {
-    for name in NAMES {
-        if form_named(name) == Some(form) {
-            return name;
-        }
-    }
-    "alert"
-}
 
 /// What may help where a word is no form.
 pub(crate) fn form_help(alloc: Global, word: &str) -> Result<String, AllocError> {

@@ -14,6 +14,7 @@ mod law;
 mod listing;
 mod note;
 mod other_errors;
+mod plan_line;
 mod program;
 mod refusal;
 mod remark;

@@ -15,7 +15,7 @@ mod label;
 pub(crate) mod operand;
 mod units;
 pub(crate) mod unknown_command;
-mod unknown_target;
+pub(crate) mod unknown_target;
 pub(crate) mod unknown_word;
 
 use crate::note::{marked, program_error};

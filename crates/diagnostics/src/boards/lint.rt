@@ -124,7 +124,7 @@ fn microvolts(mantissa: u16, exponent: i8) -> u64 {
 }
 
 /// The limit of a rail, and the exponent of its target's voltages.
-fn limit_of(board: &Board, rail: usize) -> Option<(u32, i8)> {
+pub(crate) fn limit_of(board: &Board, rail: usize) -> Option<(u32, i8)> {
     let rail = board.rail(rail)?;
     let device = board.target(rail.target())?;
     Some((rail.limit_uv(), device.exponent()))

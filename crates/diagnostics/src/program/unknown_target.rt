@@ -41,17 +41,32 @@ fn target_help(alloc: Global, board: &Board, word: &str) -> Result<Option<String
     lowercase_suggestion(alloc, word, &names)
 }
 
+/// What is said of a word that names none of what a board has of a kind.
+pub(crate) fn unnamed(
+    alloc: Global,
+    kind: &str,
+    word: &str,
+    names: &[&str],
+    help: Option<String>,
+) -> Result<Remark, AllocError> {
+    let names = quoted(alloc, names)?;
+    let word = Quoted(word);
+    let message = format!(in alloc; "unknown {kind} {word}: the board has {names}")?;
+    Ok(Remark::new(message, help))
+}
+
 /// What is said of a word that is no target's name.
-fn target_remark(alloc: Global, board: &Board, word: &str) -> Result<Remark, AllocError> {
+pub(crate) fn target_remark(
+    alloc: Global,
+    board: &Board,
+    word: &str,
+) -> Result<Remark, AllocError> {
     let help = match rail_help(board, word) {
         Some(help) => told(alloc, Some(help))?,
         None => target_help(alloc, board, word)?,
     };
     let names = target_names(alloc, board)?;
-    let names = quoted(alloc, &names)?;
-    let word = Quoted(word);
-    let message = format!(in alloc; "unknown target {word}: the board has {names}")?;
-    Ok(Remark::new(message, help))
+    unnamed(alloc, "target", word, &names, help)
 }
 
 /// What is said of a line with such a word.

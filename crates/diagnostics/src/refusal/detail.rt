@@ -51,7 +51,7 @@ fn entry_advice(
 }
 
 /// The greatest mantissa of a voltage that is at most a limit in microvolts.
-fn greatest_within(exponent: i8, limit_uv: u32) -> Option<u64> {
+pub(crate) fn greatest_within(exponent: i8, limit_uv: u32) -> Option<u64> {
     let scale = 1u64.checked_shl(u32::from(exponent.unsigned_abs()))?;
     Some(u64::from(limit_uv).checked_mul(scale)? / 1_000_000)
 }

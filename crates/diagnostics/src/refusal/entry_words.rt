@@ -1,9 +1,9 @@
 //! K1: what an entry doesn't take, in words.
 
-use crate::form::form_word;
 use crate::sentence::Word::{Count, Hex, Name, Number, Text};
 use crate::sentence::{Advice, Sentence, Word, say};
 use board::{Range, Target};
+use bundles::form_word;
 use facts::Span;
 use pmbus_table::code::{OPERATION, PAGE, WRITE_PROTECT};
 use seq_program::Transaction;
