@@ -30,8 +30,8 @@ meet the board.
     pmseq -                             does what a bundle on standard input asks for
     pmseq build                         proves and builds pmseq itself
 
-BOARD, PLAN, PROGRAM, TABLE, ANSWERS and MESSAGE are files; one of them may be -, standard input. SEED
-is a number; without ANSWERS, run and wave play a run, that of `--seed N` or the plain one.
+BOARD, PLAN, PROGRAM, TABLE, ANSWERS and MESSAGE are files; one of them may be -, standard input.
+SEED is a number; without ANSWERS, run and wave play a run, that of `--seed N` or the plain one.
 
 verify and check print `accepted bound N`: whatever the targets answer within the board's ranges,
 the program ends within N ticks of 5 microseconds with both lines high, sends only what the board
