@@ -15,6 +15,19 @@ pub enum Command {
     Draft,
 }
 
+/// All commands, in the order in which help and notes list them.
+pub const COMMANDS: [Command; 9] = [
+    Command::Draft,
+    Command::Verify,
+    Command::Refute,
+    Command::Find,
+    Command::Check,
+    Command::Run,
+    Command::Wave,
+    Command::Play,
+    Command::Frame,
+];
+
 /// What a section holds, by the line above it.
 #[derive(Clone, Copy, Debug, PartialEq, Eq)]
 pub enum Header {

@@ -27,7 +27,7 @@ pub use answer_list::AnswerLines;
 pub use answer_text::{AnswersText, is_one_line};
 pub use answers::{Answers, answers_in};
 pub use bundle::{Bundle, read_bundle};
-pub use command::{Command, Header};
+pub use command::{COMMANDS, Command, Header};
 pub use composing::{compose, end_last_line};
 pub use counted::is_counted;
 pub use fault::BundleFault;

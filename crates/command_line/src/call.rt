@@ -5,21 +5,8 @@ ghost use Rattle.texts.specs.Ascii as ascii;
 ghost use Rattle.bundles.specs.Bundles.{command_text};
 
 use crate::misuse::Misuse;
-use bundles::Command;
+use bundles::{COMMANDS, Command};
 use diagnostics::Beside;
-
-/// The commands, in the order in which a page of help has them.
-pub(crate) const COMMANDS: [Command; 9] = [
-    Command::Draft,
-    Command::Verify,
-    Command::Refute,
-    Command::Find,
-    Command::Check,
-    Command::Run,
-    Command::Wave,
-    Command::Play,
-    Command::Frame,
-];
 
 /// The seed of the plain run.
 const PLAIN_SEED: &str = "0";

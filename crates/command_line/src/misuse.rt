@@ -1,8 +1,8 @@
 //! Words that can't be understood, and what is said of them.
 
-use crate::call::{COMMANDS, word_of};
+use crate::call::word_of;
 use crate::help::names_of;
-use bundles::Command;
+use bundles::{COMMANDS, Command};
 use notes::nearest;
 use std::alloc::{AllocError, Global};
 

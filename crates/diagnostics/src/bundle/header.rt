@@ -4,18 +4,23 @@ use crate::listing::listed;
 use crate::remark::Remark;
 use crate::sentence::Word::{Name, Text};
 use crate::sentence::{say, told};
-use bundles::{Command, Header};
+use bundles::{COMMANDS, Command, Header};
 use notes::{line_at, lowercase_suggestion};
 use std::alloc::{AllocError, Global};
 use texts::first_line;
 
-const COMMANDS: [&str; 8] = [
-    "%frame", "%run", "%wave", "%check", "%find", "%verify", "%play", "%refute",
-];
+/// The lines of all commands.
+fn command_lines(alloc: Global) -> Result<Vec<&'static str>, AllocError> {
+    let mut lines = Vec::new(alloc);
+    for command in COMMANDS {
+        lines.push(command.text())?;
+    }
+    Ok(lines)
+}
 
 /// What the first line has to be.
-fn commands_help(alloc: Global) -> Result<Option<String>, AllocError> {
-    let commands = listed(alloc, &COMMANDS)?;
+fn commands_help(alloc: Global, commands: &[&str]) -> Result<Option<String>, AllocError> {
+    let commands = listed(alloc, commands)?;
     let sentence = say![
         "the first line is a command alone, one of " {Text(&commands)} ", and its sections follow"
     ];
@@ -24,9 +29,10 @@ fn commands_help(alloc: Global) -> Result<Option<String>, AllocError> {
 
 /// What is said of a first line that is no command.
 pub(crate) fn unknown_command(alloc: Global, line: &str) -> Result<Remark, AllocError> {
-    let help = match lowercase_suggestion(alloc, line, &COMMANDS)? {
+    let commands = command_lines(alloc)?;
+    let help = match lowercase_suggestion(alloc, line, &commands)? {
         Some(help) => Some(help),
-        None => commands_help(alloc)?,
+        None => commands_help(alloc, &commands)?,
     };
     say!["unknown command " {Name(line)}].helped_by(alloc, help)
 }
