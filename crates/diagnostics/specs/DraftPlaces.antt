@@ -18,8 +18,8 @@ IsOnBoard sections note =
 
 -- on the line of the plan that is no wish, or else on one of the board
 abbrev pub IsOnDraftFault : List Section → List ℕ → DraftFault → Option Note → Type 0
-IsOnDraftFault sections plan (faults.BadPlan line) note =
-    IsSomeAnd note (IsOn Error (codes "%plan") line (lines_by_feed plan))
+IsOnDraftFault sections plan (faults.BadPlan fault) note =
+    IsSomeAnd note (IsOn Error (codes "%plan") fault.line (lines_by_feed plan))
 IsOnDraftFault sections plan (faults.Circle rail) note = IsOnBoard sections note
 IsOnDraftFault sections plan (faults.NoEntry target form code) note = IsOnBoard sections note
 IsOnDraftFault sections plan (faults.OverLimit rail) note = IsOnBoard sections note

@@ -20,14 +20,14 @@ mod twice;
 mod values;
 mod words;
 
-use crate::note::{error_note, marked};
+use crate::note::{marked, note_in};
 use board::{BoardFault, FaultKind};
 use draft::Draft;
 use finding::{Finding, finding_in};
 pub(crate) use lines::{NamedLine, SayingLine, line_or_first, saying_lines};
 pub(crate) use lint::{limit_of, remark_of, site_of};
 use not_toml::not_toml;
-use notes::{Note, line_at};
+use notes::{Level, Note, line_at};
 pub(crate) use scan::place_of;
 use std::alloc::{AllocError, Global};
 use toml::Table;
@@ -94,6 +94,6 @@ pub fn board_note(alloc: Global, text: &str, fault: BoardFault) -> Result<Option
     let finding = finding_on(alloc, text, fault)?;
     let Finding { number, remark, at } = finding;
     let number = number_within(text, number);
-    let note = error_note(alloc, "%board", text, number, remark)?;
+    let note = note_in(alloc, Level::Error, "%board", text, number, remark)?;
     Ok(Some(marked(alloc, note, at)?))
 }

@@ -10,7 +10,7 @@ mod dearest;
 
 use crate::bound::dearest::{Dearest, Turns, dearest_way};
 use crate::input::{as_found, program_text};
-use crate::note::told_note;
+use crate::note::note_in;
 use crate::refusal::roads::Judged as Judging;
 use crate::remark::Remark;
 use bundles::Section;
@@ -123,7 +123,7 @@ fn accepted_note(
         return Ok(None);
     };
     let remark = remark_on(alloc, bound)?;
-    let note = told_note(alloc, text, number, remark)?;
+    let note = note_in(alloc, Level::Info, "%program", text, number, remark)?;
     let facts = match dearest_way(alloc, judging)? {
         Some(dearest) => facts_on(alloc, &lines, &dearest, bound)?,
         None => Vec::new(alloc),

@@ -13,10 +13,10 @@ mod spot;
 use crate::bundle::field::Flaw;
 use crate::bundle::header::{missing_section, unexpected_line, unknown_command};
 use crate::bundle::spot::{Spot, flawed_word, spot_flaw};
-use crate::note::{error_note, marked};
+use crate::note::{marked, note_in};
 use crate::remark::{Remark, help_of};
 use bundles::{BundleFault, Header, Section};
-use notes::{Note, line_at};
+use notes::{Level, Note, line_at};
 use session::section_text;
 use std::alloc::{AllocError, Global};
 
@@ -29,7 +29,7 @@ fn bundle_line_note(
 ) -> Result<Note, AllocError>
     ensures { IfOk result (IsOnBundleLine text.now line) }
 {
-    error_note(alloc, "bundle", text, line, remark)
+    note_in(alloc, Level::Error, "bundle", text, line, remark)
 }
 
 /// A line from its beginning on, as a word, if it begins with `%`.
@@ -66,7 +66,7 @@ fn part_note(
         number,
     };
     let Flaw { remark, at } = spot_flaw(alloc, header, spot)?;
-    let note = error_note(alloc, header.text(), &text, number, remark)?;
+    let note = note_in(alloc, Level::Error, header.text(), &text, number, remark)?;
     marked(alloc, note, flawed_word(spot, at))
 }
 

@@ -8,8 +8,9 @@ ghost use Rattle.notes.specs.Notes.{IsOn};
 ghost use Rattle.session.specs.Parts.{sections_view};
 
 use crate::boards::{NamedLine, limit_of, line_or_first, place_of, saying_lines};
-use crate::note::{board_error, error_note};
-use crate::plan_line::line_remark;
+use crate::note::{marked, note_in, note_on};
+use crate::plan_line::{blamed_at, line_remark};
+use crate::program::column::word_at;
 use crate::refusal::detail::greatest_within;
 use crate::refusal::facts_here::{rail_word, target_word};
 use crate::sentence::Word::{Command, Count, Entry, Text, Voltage};
@@ -18,6 +19,8 @@ use board::{Board, Place};
 use bundles::{Section, form_word};
 use facts::Rule;
 use notes::{Level, Note, line_at};
+use plans::PlanFault;
+use seq_program::without_comment;
 use session::{DraftFault, Planned, section_of};
 use smbus::Form;
 use std::alloc::{AllocError, Global};
@@ -32,12 +35,19 @@ const FEWER: &str =
     "pages, voltages and reading PAGE back take instructions: leave wishes out, or bring up a part \
      of the rails by hand";
 
-/// The note on a line of a plan that is no wish.
-fn plan_note(alloc: Global, board: &Board, plan: &str, number: usize) -> Result<Note, AllocError>
-    ensures { IfOk result (IsOn Level.Error (codes "%plan") number (lines_by_feed plan.now)) }
+/// The note on a plan's bad line.
+fn plan_note(alloc: Global, board: &Board, plan: &str, fault: PlanFault) -> Result<Note, AllocError>
+    ensures { IfOk result
+        (IsOn Level.Error (codes "%plan") fault.line (lines_by_feed plan.now)) }
 {
-    let remark = line_remark(alloc, board, line_at(plan, number).unwrap_or(""))?;
-    error_note(alloc, "%plan", plan, number, remark)
+    let line = line_at(plan, fault.line).unwrap_or("");
+    let remark = line_remark(alloc, board, line, fault.why)?;
+    let note = note_in(alloc, Level::Error, "%plan", plan, fault.line, remark)?;
+    marked(
+        alloc,
+        note,
+        word_at(without_comment(line), blamed_at(fault.why)),
+    )
 }
 
 /// What is said of an entry that is missing.
@@ -89,8 +99,8 @@ fn not_accepted(place: usize, rule: Rule) -> Advice<'static> {
 /// What is said of a fault that is none of the plan's lines.
 fn advice_on(board: &Board, fault: DraftFault) -> Advice<'_> {
     match fault {
-        DraftFault::BadPlan(line) => Advice {
-            message: say!["line " {Count(line)} " of the plan is no wish"],
+        DraftFault::BadPlan(fault) => Advice {
+            message: say!["line " {Count(fault.line)} " of the plan is no wish"],
             help: None,
         },
         DraftFault::Circle(rail) => Advice {
@@ -134,7 +144,7 @@ fn on_board_note(
     let place = place_of(&lines, site, Some(key));
     let NamedLine { number, line } = line_or_first(text, &lines, place);
     let remark = advice_on(board, fault).told(alloc)?;
-    Ok(Some(board_error(alloc, number, line, remark)?))
+    Ok(Some(note_on(alloc, Level::Error, "%board", number, line, remark)?))
 }
 
 /// The note on a bundle's board.
@@ -163,9 +173,9 @@ pub(crate) fn draft_fault_note(
         (IsOnDraftFault (sections_view sections.now) (string_bytes planned.now.plan) fault) }
 {
     match fault {
-        DraftFault::BadPlan(line) => {
-            Ok(Some(plan_note(alloc, &planned.board, &planned.plan, line)?))
-        },
+        DraftFault::BadPlan(fault) => {
+            Ok(Some(plan_note(alloc, &planned.board, &planned.plan, fault)?))
+        }
         _ => board_note(alloc, sections, &planned.board, fault),
     }
 }

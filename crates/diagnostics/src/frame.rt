@@ -5,12 +5,12 @@ ghost use Rattle.diagnostics.specs.Inputs.{IsOnMessage};
 ghost use Rattle.session.specs.Parts.{sections_view};
 
 use crate::counted::counted_line;
-use crate::note::error_note;
+use crate::note::note_in;
 use crate::run::misfit::refuse_misfit;
 use crate::sentence::Word::{Count, Text};
 use crate::sentence::{Advice, say};
 use bundles::{Exchange, Section};
-use notes::Note;
+use notes::{Level, Note};
 use session::section_of;
 use smbus::{Form, Message, SmbusFault};
 use std::alloc::{AllocError, Global};
@@ -89,5 +89,5 @@ pub(crate) fn frame_note(
     };
     let number = counted_line(&text, 0).unwrap_or(1);
     let remark = advice_on(exchange, fault).told(alloc)?;
-    Ok(Some(error_note(alloc, "%message", &text, number, remark)?))
+    Ok(Some(note_in(alloc, Level::Error, "%message", &text, number, remark)?))
 }

@@ -18,7 +18,7 @@ use crate::boards::board_note;
 use crate::bundle::bundle_note;
 use crate::drafted::draft_fault_note;
 use crate::frame::frame_note;
-use crate::note::error_note;
+use crate::note::note_in;
 use crate::program::program_note;
 use crate::refusal::reason::{cause_of, loop_cause, unverified_cause};
 use crate::refusal::roads::Judged as Judging;
@@ -169,7 +169,7 @@ fn table_note(alloc: Global, table: &str, number: usize) -> Result<Note, AllocEr
 {
     let message = String::from_str(alloc, "no table of this board goes on with this line")?;
     let remark = Remark::new(message, version_help(alloc, number)?);
-    error_note(alloc, "%table", table, number, remark)
+    note_in(alloc, Level::Error, "%table", table, number, remark)
 }
 
 /// The note on a message and its answer, if they have no frame.

@@ -1,6 +1,6 @@
 //! Notes on lines of sections.
 
-ghost use Rattle.std.specs.Prelude.{IfOk, codes, option_copied};
+ghost use Rattle.std.specs.Prelude.{IfOk, option_copied};
 ghost use Rattle.texts.specs.Words.{lines_by_feed};
 ghost use Rattle.notes.specs.Notes.{IsOn, IsQuoting, StaysOn};
 
@@ -15,8 +15,8 @@ fn listed(alloc: Global, help: Option<String>) -> Result<Vec<String>, AllocError
     Ok(helps)
 }
 
-/// The note of a level on a line of a section, which has this number.
-fn note_on(
+/// The note of a level on this line of a section, which has this number.
+pub(crate) fn note_on(
     alloc: Global,
     level: Level,
     section: &str,
@@ -36,115 +36,18 @@ fn note_on(
     })
 }
 
-/// The note on an error in this line of a program.
-pub(crate) fn program_error(
+/// The note of a level on the line of a section with this number.
+pub(crate) fn note_in(
     alloc: Global,
-    number: usize,
-    line: Option<&str>,
-    remark: Remark,
-) -> Result<Note, AllocError>
-    ensures { IfOk result
-        (IsQuoting Level.Error (codes "%program") number (option_copied line.entry)) }
-{
-    note_on(alloc, Level::Error, "%program", number, line, remark)
-}
-
-/// The note on what is no error in this line of a program, and may become one.
-pub(crate) fn program_warning(
-    alloc: Global,
-    number: usize,
-    line: Option<&str>,
-    remark: Remark,
-) -> Result<Note, AllocError>
-    ensures { IfOk result
-        (IsQuoting Level.Warning (codes "%program") number (option_copied line.entry)) }
-{
-    note_on(alloc, Level::Warning, "%program", number, line, remark)
-}
-
-/// The note on what is no error in this line of a board file, and may become one.
-pub(crate) fn board_warning(
-    alloc: Global,
-    number: usize,
-    line: Option<&str>,
-    remark: Remark,
-) -> Result<Note, AllocError>
-    ensures { IfOk result
-        (IsQuoting Level.Warning (codes "%board") number (option_copied line.entry)) }
-{
-    note_on(alloc, Level::Warning, "%board", number, line, remark)
-}
-
-/// The note on an error in this line of a board file.
-pub(crate) fn board_error(
-    alloc: Global,
-    number: usize,
-    line: Option<&str>,
-    remark: Remark,
-) -> Result<Note, AllocError>
-    ensures { IfOk result
-        (IsQuoting Level.Error (codes "%board") number (option_copied line.entry)) }
-{
-    note_on(alloc, Level::Error, "%board", number, line, remark)
-}
-
-/// The note on an error.
-pub(crate) fn error_note(
-    alloc: Global,
+    level: Level,
     section: &str,
     text: &str,
     number: usize,
     remark: Remark,
 ) -> Result<Note, AllocError>
-    ensures { IfOk result (IsOn Level.Error section.now number (lines_by_feed text.now)) }
+    ensures { IfOk result (IsOn level section.now number (lines_by_feed text.now)) }
 {
-    note_on(
-        alloc,
-        Level::Error,
-        section,
-        number,
-        line_at(text, number),
-        remark,
-    )
-}
-
-/// The note on what is no error, and may become one.
-pub(crate) fn warning_note(
-    alloc: Global,
-    section: &str,
-    text: &str,
-    number: usize,
-    remark: Remark,
-) -> Result<Note, AllocError>
-    ensures { IfOk result (IsOn Level.Warning section.now number (lines_by_feed text.now)) }
-{
-    note_on(
-        alloc,
-        Level::Warning,
-        section,
-        number,
-        line_at(text, number),
-        remark,
-    )
-}
-
-/// The note on a line of a program of which nothing is wrong.
-pub(crate) fn told_note(
-    alloc: Global,
-    text: &str,
-    number: usize,
-    remark: Remark,
-) -> Result<Note, AllocError>
-    ensures { IfOk result (IsOn Level.Info (codes "%program") number (lines_by_feed text.now)) }
-{
-    note_on(
-        alloc,
-        Level::Info,
-        "%program",
-        number,
-        line_at(text, number),
-        remark,
-    )
+    note_on(alloc, level, section, number, line_at(text, number), remark)
 }
 
 /// The same note with a mark below a word, which stands behind this in its line, if one is known.

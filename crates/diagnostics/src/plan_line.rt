@@ -1,15 +1,16 @@
-//! What is said of a plan's line that is no wish.
+//! What is said of a plan's bad line.
 
+use crate::program::habit::habit_in;
 use crate::program::unknown_target::{target_remark, unnamed};
 use crate::remark::{Remark, help_of};
-use crate::sentence::Word::Name;
-use crate::sentence::say;
+use crate::sentence::Word::{Name, Number};
+use crate::sentence::{Sentence, say};
 use board::Board;
 use notes::lowercase_suggestion;
-use plans::read_plan;
+use plans::{LineFault, MOST_TICKS, MOST_TIMES};
 use seq_program::without_comment;
 use std::alloc::{AllocError, Global};
-use texts::{ReadError, words_of};
+use texts::words_of;
 
 /// The words that wishes begin with, and how each goes on.
 const WISHES: [(&str, &str); 6] = [
@@ -20,12 +21,12 @@ const WISHES: [(&str, &str); 6] = [
     ),
     (
         "retries",
-        "write `retries N`, or `retries RAIL N` for one rail; N is 0 to 1000",
+        "write `retries N`, or `retries RAIL N` for one rail",
     ),
     (
         "poll",
         "write `poll 1ms 50`, or `poll RAIL 1ms 50` for one rail: how long is waited, in ticks, ms \
-         or us, and how many times is asked, 1 to 1000",
+         or us, and how many times is asked",
     ),
     (
         "protect",
@@ -66,36 +67,10 @@ fn word_help(alloc: Global, word: &str) -> Result<Option<String>, AllocError> {
     }
 }
 
-/// What is said of a line by its first word.
-fn shape_remark(alloc: Global, word: &str) -> Result<Remark, AllocError> {
-    match shape_of(word) {
-        Some(shape) => {
-            let help = help_of(alloc, Some(shape))?;
-            say!["this is no wish for this board"].helped_by(alloc, help)
-        }
-        None => {
-            let help = word_help(alloc, word)?;
-            say!["unknown wish " {Name(word)}].helped_by(alloc, help)
-        }
-    }
-}
-
-/// How many of a wish's operands, from the first on, have to name rails.
-fn rail_count(word: &str, operands: usize) -> usize {
-    match word {
-        "voltage" | "retries" if operands == 2 => 1,
-        "poll" if operands == 3 => 1,
-        "order" => operands,
-        _ => 0,
-    }
-}
-
-/// How many of them have to name targets.
-fn target_count(word: &str) -> usize {
-    match word {
-        "protect" | "clear" => 1,
-        _ => 0,
-    }
+/// What is said of a word with which no wish begins.
+fn wish_remark(alloc: Global, word: &str) -> Result<Remark, AllocError> {
+    let help = word_help(alloc, word)?;
+    say!["unknown wish " {Name(word)}].helped_by(alloc, help)
 }
 
 /// The names of a board's rails, in its order.
@@ -114,54 +89,66 @@ fn rail_remark(alloc: Global, board: &Board, word: &str) -> Result<Remark, Alloc
     unnamed(alloc, "rail", word, &names, help)
 }
 
-/// The first word that has to name a rail, and doesn't.
-fn unknown_rail<'a>(board: &Board, words: &[&'a str]) -> Option<&'a str> {
-    let [word, operands @ ..] = words else {
-        return None;
+/// What is said of a line with this first word, and how it goes on.
+fn shaped(alloc: Global, first: &str, message: Sentence<'_>) -> Result<Remark, AllocError> {
+    let help = help_of(alloc, shape_of(first))?;
+    message.helped_by(alloc, help)
+}
+
+/// The index of the word that is to blame: of one that isn't what it has to be, else of the first.
+pub(crate) fn blamed_at(why: LineFault) -> usize {
+    match why {
+        LineFault::NoRail(at)
+        | LineFault::NoTarget(at)
+        | LineFault::NoVoltage(at)
+        | LineFault::NoRetries(at)
+        | LineFault::NoTicks(at)
+        | LineFault::NoCount(at)
+        | LineFault::NoProtection(at) => at,
+        LineFault::SameRail => 2,
+        LineFault::NoWish | LineFault::WordCount | LineFault::Twice => 0,
+    }
+}
+
+/// What is said of a line with this first word, and of the word that is to blame.
+fn word_remark(
+    alloc: Global,
+    board: &Board,
+    first: &str,
+    word: &str,
+    why: LineFault,
+) -> Result<Remark, AllocError> {
+    let found = Name(word);
+    let message = match why {
+        LineFault::NoWish => return wish_remark(alloc, word),
+        LineFault::NoRail(_) => return rail_remark(alloc, board, word),
+        LineFault::NoTarget(_) => return target_remark(alloc, board, word),
+        LineFault::WordCount => say!["too few or too many words behind " {found}],
+        LineFault::NoVoltage(_) => say![{found} " is no voltage that can be commanded"],
+        LineFault::NoRetries(_) => say!["expected 0 to " {Number(MOST_TIMES)} ", found " {found}],
+        LineFault::NoTicks(_) =>
+            say!["expected 1 to " {Number(MOST_TICKS)} " ticks, found " {found}],
+        LineFault::NoCount(_) => say!["expected 1 to " {Number(MOST_TIMES)} ", found " {found}],
+        LineFault::NoProtection(_) => say![{found} " is no value of WRITE_PROTECT"],
+        LineFault::SameRail => say![{found} " can't be turned on before itself"],
+        LineFault::Twice => return Remark::plain(alloc, "a line above wishes this already"),
     };
-    for operand in operands.iter().take(rail_count(word, operands.len())) {
-        if board.rail_named(operand).is_none() {
-            return Some(operand);
-        }
-    }
-    None
+    shaped(alloc, first, message)
 }
 
-/// The first word that has to name a target, and doesn't.
-fn unknown_target<'a>(board: &Board, words: &[&'a str]) -> Option<&'a str> {
-    let [word, operands @ ..] = words else {
-        return None;
-    };
-    for operand in operands.iter().take(target_count(word)) {
-        if board.target_named(operand).is_none() {
-            return Some(operand);
-        }
-    }
-    None
-}
-
-/// What is said of the words of a line that is no wish.
-fn words_remark(alloc: Global, board: &Board, words: &[&str]) -> Result<Remark, AllocError> {
-    if let Some(word) = unknown_rail(board, words) {
-        return rail_remark(alloc, board, word);
-    }
-    if let Some(word) = unknown_target(board, words) {
-        return target_remark(alloc, board, word);
-    }
-    match words.first() {
-        Some(word) => shape_remark(alloc, word),
-        None => Remark::plain(alloc, "this is no wish for this board"),
-    }
-}
-
-/// What is said of a plan's bad line. One that is a wish by itself stands a second time.
-pub(crate) fn line_remark(alloc: Global, board: &Board, line: &str) -> Result<Remark, AllocError> {
-    match read_plan(alloc, board, line) {
-        Ok(_) => Remark::plain(alloc, "a line above wishes this already"),
-        Err(ReadError::Memory) => Err(AllocError),
-        Err(ReadError::Fault(_)) => {
-            let words = words_of(alloc, without_comment(line))?;
-            words_remark(alloc, board, &words)
-        }
+/// What is said of a plan's bad line.
+pub(crate) fn line_remark(
+    alloc: Global,
+    board: &Board,
+    line: &str,
+    why: LineFault,
+) -> Result<Remark, AllocError> {
+    let words = words_of(alloc, without_comment(line))?;
+    let first = words.first().copied().unwrap_or("");
+    let word = words.get(blamed_at(why)).copied().unwrap_or("");
+    let remark = word_remark(alloc, board, first, word, why)?;
+    match habit_in(&words) {
+        Some(habit) => Ok(Remark::new(remark.message, help_of(alloc, Some(habit))?)),
+        None => Ok(remark),
     }
 }

@@ -10,7 +10,7 @@ mod bad_number;
 mod bad_operand;
 pub(crate) mod column;
 mod ending;
-mod habit;
+pub(crate) mod habit;
 mod label;
 pub(crate) mod operand;
 mod units;
@@ -18,7 +18,7 @@ pub(crate) mod unknown_command;
 pub(crate) mod unknown_target;
 pub(crate) mod unknown_word;
 
-use crate::note::{marked, program_error};
+use crate::note::{marked, note_on};
 use crate::program::bad_number::bad_number;
 use crate::program::bad_operand::bad_operand;
 use crate::program::column::blamed_word;
@@ -100,7 +100,7 @@ pub(crate) fn note_at(
     let words = words_of(alloc, without_comment(said))?;
     let remark = remark_on(alloc, written, &words, fault)?;
     let at = blamed_word(alloc, said, &words, fault)?;
-    let note = program_error(alloc, number, line, remark)?;
+    let note = note_on(alloc, Level::Error, "%program", number, line, remark)?;
     marked(alloc, note, at)
 }
 

@@ -14,7 +14,7 @@ mod program_lint;
 mod program_warning;
 
 use crate::input::program_text;
-use crate::note::warning_note;
+use crate::note::note_in;
 use crate::refusal::cause::Cause;
 use crate::refusal::detail::instr_cause;
 use crate::refusal::{RefusalKind, blaming, page_of};
@@ -25,7 +25,7 @@ use crate::warning::program_warning::program_warnings;
 use board::Board;
 use bundles::Section;
 use facts::{Row, Rule};
-use notes::Note;
+use notes::{Level, Note};
 use run_monitor::{Breach, Reached};
 use seq_program::Program;
 use session::{Case, Judged, Outcome, Scenario, Sequence, Trial, place_line};
@@ -90,7 +90,7 @@ fn breach_warning(
     let text = program_text(alloc, sections)?;
     let number = place_line(alloc, &text, breach.place)?.unwrap_or(1);
     let remark = remark_on(alloc, board, program, breach, row)?;
-    let note = warning_note(alloc, "%program", &text, number, remark)?;
+    let note = note_in(alloc, Level::Warning, "%program", &text, number, remark)?;
     let page = page_of(RefusalKind::Breaks(breach.rule));
     Ok(Note { page, ..note })
 }

@@ -1,18 +1,15 @@
--- The lines above a line of a plan are a plan, so only one line is the first bad one.
-use Rattle.std.proofs.Common.{◌≡◌, ℕ, ◌+◌, ◌≤◌, ◌<◌, List, [], ◌∷◌, ◌++◌, length, take, drop, Bool}
-use Rattle.std.proofs.Common.{true, false, ◌&&◌, ◌||◌, not, refl, sym, ap, ◌∙◌, arith, append_assoc}
-use Rattle.std.proofs.Common.{length-append, inl, inr}
+-- The lines above a line of a plan are a plan, so with a bad line there is none.
+use Rattle.std.proofs.Common.{◌≡◌, ℕ, List, [], ◌∷◌, ◌++◌, Bool, true, false, ◌&&◌, ◌||◌, not, refl}
+use Rattle.std.proofs.Common.{sym, ap, ◌∙◌, append_assoc, inl, inr}
 use Rattle.std.specs.List.{list_all, list_any}
 use Rattle.std.proofs.lemmas.Bool.{cases_Bool}
-use Rattle.std.proofs.lemmas.List.{take-append-le, take-append-drop}
 use Rattle.std.proofs.lemmas.List.Elements.{filter_map-append}
 use Rattle.std.proofs.lemmas.List.Folds.{list_all-append, list_any-append}
-use Rattle.std.proofs.Math.Seq.{take-append_seam}
 use Rattle.board.specs.Boards.{Board}
 use Rattle.plans.specs.declared.wish.Wish.{Wish}
 use Rattle.plans.specs.Wishes.{is_about, subject_of}
-use Rattle.plans.specs.Plans.{is_good, wish_on, wishes_in, are_apart, is_plan, IsFirstBad}
-use Rattle.plans.specs.OneReading.{BadIsNoPlan, FirstBadIsOne}
+use Rattle.plans.specs.Plans.{is_good, wish_on, wishes_in, are_apart, is_plan}
+use Rattle.plans.specs.OneReading.{BadIsNoPlan}
 
 front_of : (a b c d : Bool) → (d ≡ true → c ≡ true) → (not (a || b) && d) ≡ true
     → (not a && c) ≡ true
@@ -46,17 +43,8 @@ is_plan-front board above below t =
     ∙ ap (λ ws. list_all (is_good board) (above ++ below) && are_apart ws)
     (sym (filter_map-append (wish_on board) above below)) ∙ t)
 
--- of two beginnings of a list the longer one begins with the shorter one
-beginning : (short long rest later : List (List ℕ)) → short ++ rest ≡ long ++ later
-    → length short ≤ length long → long ≡ short ++ drop (length short) long
-beginning short long rest later e few =
-    let front : take (length short) long ≡ short =
-    sym (take-append-le (length short) long later few)
-    ∙ ap (take (length short)) (sym e) ∙ take-append_seam short rest in
-    sym (take-append-drop (length short) long) ∙ ap (λ l. l ++ drop (length short) long) front
-
 pub bad_is_no_plan : BadIsNoPlan
-bad_is_no_plan board lines number bad =
+bad_is_no_plan board lines fault bad =
     let all : lines ≡ (bad.above ++ bad.line ∷ []) ++ bad.below =
     bad.parts ∙ sym (append_assoc bad.above (bad.line ∷ []) bad.below) in
     elim (cases_Bool (is_plan board lines)) [
@@ -68,27 +56,3 @@ bad_is_no_plan board lines number bad =
           cc
       | inr f ↦ f
     ]
-
--- a line below the first bad one is not the first
-not_below : (board : Board) (lines : List (List ℕ)) (one other : ℕ) → IsFirstBad board lines one
-    → IsFirstBad board lines other → one < other → ⊥
-not_below board lines one other a b less =
-    let short = a.above ++ a.line ∷ [] in
-    let same : short ++ a.below ≡ b.above ++ b.line ∷ b.below =
-    append_assoc a.above (a.line ∷ []) a.below ∙ sym a.parts ∙ b.parts in
-    let count : length short ≡ length a.above + 1 = length-append a.above (a.line ∷ []) in
-    let begins : b.above ≡ short ++ drop (length short) b.above =
-    beginning short b.above a.below (b.line ∷ b.below) same
-    (omega (arith, a.counted, b.counted, count, less)) in
-    let with_line : is_plan board short ≡ true =
-    is_plan-front board short (drop (length short) b.above)
-    (ap (is_plan board) (sym begins) ∙ b.good) in
-    let no_plan : is_plan board short ≡ false = a.bad in
-    cc
-
-neither : (one other : ℕ) → (one < other → ⊥) → (other < one → ⊥) → one ≡ other
-neither one other a b = grind arith
-
-pub first_bad_is_one : FirstBadIsOne
-first_bad_is_one board lines one other a b =
-    neither one other (not_below board lines one other a b) (not_below board lines other one b a)

@@ -1,5 +1,4 @@
 pub mod Wishes
-pub mod Maybe
 pub mod Numbers
 pub mod Volts
 pub mod WishLines

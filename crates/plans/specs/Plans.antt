@@ -1,13 +1,18 @@
 -- The plan of a text: what its lines wish, or its first bad line.
 use Rattle.std.specs.Prelude.{◌≡◌, ℕ, ◌+◌, List, [], ◌∷◌, ◌++◌, length, filter_map, Bool, true}
-use Rattle.std.specs.Prelude.{false, not, ◌&&◌, ◌==◌, Option, Some, None, is_some, option_map}
-use Rattle.std.specs.Prelude.{unwrap_or, Result, Ok, Err, if◌then◌else◌}
+use Rattle.std.specs.Prelude.{false, not, ◌&&◌, ◌==◌, Option, Some, None, is_some, Result, Ok, Err}
+use Rattle.std.specs.Prelude.{is_ok, if◌then◌else◌}
 use Rattle.std.specs.List.{list_all, list_any, before_first}
+use Rattle.std.specs.Result.{result_unwrap_or, result_err}
 use Rattle.texts.specs.Ascii as ascii
+use Rattle.texts.specs.Reading.{◌>>=◌}
 use Rattle.texts.specs.Words.{words_of}
 use Rattle.texts.specs.declared.reading.ReadError.{ReadError}
 use Rattle.texts.specs.declared.reading.ReadError.TheVariants as errors
 use Rattle.board.specs.Boards.{Board}
+use Rattle.plans.specs.declared.fault.LineFault.{LineFault}
+use Rattle.plans.specs.declared.fault.LineFault.TheVariants as line_fault
+use Rattle.plans.specs.declared.fault.PlanFault.{PlanFault}
 use Rattle.plans.specs.declared.wish.Wish.{Wish}
 use Rattle.plans.specs.Wishes.{is_about, subject_of, wish_about}
 use Rattle.plans.specs.WishLines.{wish_of}
@@ -17,18 +22,20 @@ abbrev pub without_comment : List ℕ → List ℕ
 without_comment line = before_first (λ b. b == ascii.number_sign) line
 
 -- what the words of a line say: nothing where there are none, or a wish, or they are bad
-abbrev pub said_by : Board → List (List ℕ) → Option (Option Wish)
-said_by board [] = Some None
-said_by board (word ∷ words) = option_map Some (wish_of board (word ∷ words))
+abbrev pub said_by : Board → List (List ℕ) → Result (Option Wish) LineFault
+said_by board [] = Ok None
+said_by board (word ∷ words) = do
+  wish ← wish_of board (word ∷ words)
+  Ok (Some wish)
 
-unfoldable pub said_on : Board → List ℕ → Option (Option Wish)
+unfoldable pub said_on : Board → List ℕ → Result (Option Wish) LineFault
 said_on board line = said_by board (words_of (without_comment line))
 
 abbrev pub is_good : Board → List ℕ → Bool
-is_good board line = is_some (said_on board line)
+is_good board line = is_ok (said_on board line)
 
 abbrev pub wish_on : Board → List ℕ → Option Wish
-wish_on board line = unwrap_or (said_on board line) None
+wish_on board line = result_unwrap_or (said_on board line) None
 
 -- the wishes of lines
 abbrev pub wishes_in : Board → List (List ℕ) → List Wish
@@ -49,39 +56,51 @@ pub record IsPlanOf (board : Board) (lines : List (List ℕ)) (wishes : List Wis
   pub good : is_plan board lines ≡ true
   pub wishes_are : wishes ≡ wishes_in board lines
 
--- the number of the first bad line: the lines above it are a plan, and with it they are none
-pub record IsFirstBad (board : Board) (lines : List (List ℕ)) (number : ℕ) : Type 0 where
+-- wishes and what one line more says, or why that line is bad by itself or below them
+abbrev pub with_said : List Wish → Result (Option Wish) LineFault → Result (List Wish) LineFault
+with_said wishes (Err why) = Err why
+with_said wishes (Ok None) = Ok wishes
+with_said wishes (Ok (Some wish)) =
+    if is_some (wish_about wishes (subject_of wish)) then Err line_fault.Twice
+    else Ok (wishes ++ wish ∷ [])
+
+-- what a line gives, or its fault with the line's number
+abbrev pub at_line : {A : Type 0} → ℕ → Result A LineFault → Result A PlanFault
+at_line number (Ok x) = Ok x
+at_line number (Err why) = Err (record { line = number; why = why })
+
+-- the first bad line: the lines above it are a plan, with it they are none, and this is why
+pub record IsFirstBad (board : Board) (lines : List (List ℕ)) (fault : PlanFault) : Type 0 where
   pub above : List (List ℕ)
   pub line : List ℕ
   pub below : List (List ℕ)
   pub parts : lines ≡ above ++ line ∷ below
-  pub counted : number ≡ length above + 1
+  pub counted : fault.line ≡ length above + 1
   pub good : is_plan board above ≡ true
   pub bad : is_plan board (above ++ line ∷ []) ≡ false
+  pub why : with_said (wishes_in board above) (said_on board line) ≡ Err fault.why
 
--- the same number, where the lines above are a plan, if a line below them is bad
-abbrev pub first_bad_below : Board → List (List ℕ) → List (List ℕ) → Option ℕ
+-- the fault of a line below these
+abbrev pub fault_at : Board → List (List ℕ) → List ℕ → Option PlanFault
+fault_at board above line =
+    result_err (at_line (length above + 1) (with_said (wishes_in board above) (said_on board line)))
+
+-- the first fault, where the lines above are a plan, if a line below them is bad
+abbrev pub first_bad_below : Board → List (List ℕ) → List (List ℕ) → Option PlanFault
 first_bad_below board above [] = None
 first_bad_below board above (line ∷ below) =
     if is_plan board (above ++ line ∷ [])
-    then first_bad_below board (above ++ line ∷ []) below else Some (length above + 1)
+    then first_bad_below board (above ++ line ∷ []) below else fault_at board above line
 
--- the wishes of lines that are a plan, or the number of the first bad line
-abbrev pub plan_unless : List Wish → Option ℕ → Result (List Wish) ℕ
+-- the wishes of lines that are a plan, or the first bad line
+abbrev pub plan_unless : List Wish → Option PlanFault → Result (List Wish) PlanFault
 plan_unless wishes None = Ok wishes
-plan_unless wishes (Some number) = Err number
+plan_unless wishes (Some fault) = Err fault
 
-unfoldable pub plan_of : Board → List (List ℕ) → Result (List Wish) ℕ
+unfoldable pub plan_of : Board → List (List ℕ) → Result (List Wish) PlanFault
 plan_of board lines = plan_unless (wishes_in board lines) (first_bad_below board [] lines)
 
 -- a fault is this, unless memory ran out
 abbrev pub OnFault : {F : Type 0} → ReadError F → (F → Type 0) → Type 0
 OnFault errors.Memory P = Unit {0}
 OnFault (errors.Fault fault) P = P fault
-
--- wishes and what one line more says, if that is good and about nothing that they are about
-abbrev pub with_said : List Wish → Option (Option Wish) → Option (List Wish)
-with_said wishes None = None
-with_said wishes (Some None) = Some wishes
-with_said wishes (Some (Some wish)) =
-    if is_some (wish_about wishes (subject_of wish)) then None else Some (wishes ++ wish ∷ [])

@@ -12,6 +12,7 @@
 //! - `order RAIL RAIL`: the first rail before the second.
 #![tactic(auto)]
 
+mod fault;
 mod law;
 mod number;
 mod plan;
@@ -21,7 +22,9 @@ mod volts;
 mod wish;
 mod wish_line;
 
+pub use fault::{LineFault, PlanFault};
 pub use law::{texts_have_one_reading, volts_are_nearest};
+pub use number::{MOST_TICKS, MOST_TIMES};
 pub use plan::Plan;
 pub use reading::read_plan;
 pub use wish::{Poll, Wish};

@@ -13,11 +13,11 @@ const TICKS_OF_MILLISECOND: u64 = 200;
 /// The microseconds of a tick.
 const MICROSECONDS_OF_TICK: u64 = 5;
 
-/// The most ticks before power is asked about again: 50 seconds.
-const MOST_TICKS: u64 = 10_000_000;
+/// The most ticks of 5 µs before power is asked about again: 50 seconds.
+pub const MOST_TICKS: u64 = 10_000_000;
 
-/// The most times that something is done again.
-const MOST_TIMES: u64 = 1000;
+/// The most times that a message is tried again, and that STATUS_WORD is asked.
+pub const MOST_TIMES: u64 = 1000;
 
 /// What stands before an ending.
 pub(crate) fn before_ending<'a>(ending: &str, word: &'a str) -> Option<&'a str>

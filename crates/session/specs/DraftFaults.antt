@@ -11,7 +11,7 @@ use Rattle.session.specs.declared.draft_fault.DraftFault.TheVariants as faults
 use Rattle.session.specs.Faults.{line_text}
 
 abbrev pub number_of : DraftFault → ℕ
-number_of (faults.BadPlan line) = 2
+number_of (faults.BadPlan fault) = 2
 number_of (faults.Circle rail) = 3
 number_of (faults.NoEntry target form code) = 4
 number_of (faults.OverLimit rail) = 5
@@ -19,7 +19,7 @@ number_of faults.TooLong = 6
 number_of (faults.NotAccepted place rule) = 7
 
 abbrev pub name_of : DraftFault → List ℕ
-name_of (faults.BadPlan line) = codes "BadPlan"
+name_of (faults.BadPlan fault) = codes "BadPlan"
 name_of (faults.Circle rail) = codes "Circle"
 name_of (faults.NoEntry target form code) = codes "NoEntry"
 name_of (faults.OverLimit rail) = codes "OverLimit"
@@ -39,7 +39,7 @@ command_word code = unwrap_or (option_map name_text (command_at code)) []
 
 -- the line, the rail, the entry that is missing, or the place and the rule
 abbrev pub detail_of : Board → DraftFault → List ℕ
-detail_of b (faults.BadPlan line) = codes " " ++ decimal line
+detail_of b (faults.BadPlan fault) = codes " " ++ decimal fault.line
 detail_of b (faults.Circle rail) = codes " " ++ rail_word b rail
 detail_of b (faults.NoEntry target form code) =
     codes " " ++ (target_word b target ++ (codes " " ++ (form_word form

@@ -54,7 +54,7 @@ pub record IsUndraftable (p : Planned) (x : Undraftable) : Type 0 where
 
 -- the first fault; of the program that was drafted nothing is said, where that isn't accepted
 abbrev pub IsDraftFault : Planned → DraftFault → Type 0
-IsDraftFault p (faults.BadPlan line) = IsFirstBad p.board (lines_by_feed p.plan) line
+IsDraftFault p (faults.BadPlan fault) = IsFirstBad p.board (lines_by_feed p.plan) fault
 IsDraftFault p (faults.Circle rail) = IsUndraftable p (why.Circle rail)
 IsDraftFault p (faults.NoEntry target form code) =
     IsUndraftable p (why.NoEntry target form code)

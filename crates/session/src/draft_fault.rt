@@ -7,6 +7,7 @@ ghost use Rattle.session.specs.DraftFaults.{number_of, rail_word, target_word};
 use board::Board;
 use bundles::form_word;
 use facts::Rule;
+use plans::PlanFault;
 use pmbus_table::{by_code, name_of};
 use smbus::Form;
 use std::alloc::{AllocError, Global};
@@ -15,8 +16,9 @@ use thiserror::Error;
 /// Why no program is drafted for a board and a plan.
 #[derive(Clone, Copy, Debug, PartialEq, Eq, Error)]
 pub enum DraftFault {
-    #[error("line {0} of the plan is no wish for this board")]
-    BadPlan(usize),
+    /// The first bad line of the plan, and why it is bad.
+    #[error("line {} of the plan is no wish for this board", .0.line)]
+    BadPlan(PlanFault),
     /// The rail, by its index.
     #[error("rails wait for one another in a circle")]
     Circle(usize),
@@ -89,7 +91,10 @@ fn detail_of(alloc: Global, board: &Board, fault: DraftFault) -> Result<String, 
     ensures { IfOk result (λ text. string_bytes text ≡ detail_of board.now fault) }
 {
     match fault {
-        DraftFault::BadPlan(line) => { format!(in alloc; " {line}") }
+        DraftFault::BadPlan(fault) => {
+            let line = fault.line;
+            format!(in alloc; " {line}")
+        }
         DraftFault::Circle(rail) | DraftFault::OverLimit(rail) => {
             let name = rail_word(board, rail);
             format!(in alloc; " {name}")

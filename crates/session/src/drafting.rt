@@ -29,12 +29,13 @@ fn plan_of(alloc: Global, planned: &Planned) -> Result<Plan, ReadError<DraftFaul
 {
     match read_plan(alloc, &planned.board, &planned.plan) {
         Ok(plan) => Ok(plan),
-        Err(ReadError::Fault(line)) => Err(ReadError::Fault(DraftFault::BadPlan(line))),
+        Err(ReadError::Fault(fault)) => Err(ReadError::Fault(DraftFault::BadPlan(fault))),
         Err(ReadError::Memory) => Err(ReadError::Memory),
     }
 }
 
-/// The program of a draft's text, which is none only where it has too many instructions.
+/// The program of a draft's text. Where it is none, what is told is that it has too many
+/// instructions: nothing else is known that it could have.
 fn program_in(alloc: Global, board: &Board, text: &str) -> Result<Program, ReadError<DraftFault>>
     ensures program { IfOk result (λ p. program_of board.now text.now ≡ Ok p) }
     ensures fault { IfErr result SparesPlan }

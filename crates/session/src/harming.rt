@@ -15,7 +15,7 @@ use std::alloc::{AllocError, Global};
 use table_check::Verdict;
 
 /// The most states that are kept beside a refusal, where nobody asked for a run: a search over them
-/// takes some milliseconds, and a poll of a thousand turns has some five thousand.
+/// takes some tens of milliseconds, and a poll of a thousand turns has some five thousand.
 const FEW_STATES: usize = 6_000;
 
 /// The place of a refusal by a rule that a run may break, if it is refused by one.

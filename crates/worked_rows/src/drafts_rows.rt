@@ -4,7 +4,7 @@ use crate::boards::two_board;
 use crate::expected::{holds, same};
 use drafts::{Draft, Part, Undraftable, draft};
 use facts::Rule;
-use plans::read_plan;
+use plans::{LineFault, PlanFault, read_plan};
 use session::DraftFault;
 use smbus::Form;
 use std::alloc::Global;
@@ -77,6 +77,9 @@ fn faults_of_drafts(rt: HostRuntime) {
         rule: Rule::K1,
     };
     same(&rt, (refused.number(), refused.name()), (7, "NotAccepted"));
-    let bad = DraftFault::BadPlan(1);
+    let bad = DraftFault::BadPlan(PlanFault {
+        line: 1,
+        why: LineFault::NoWish,
+    });
     same(&rt, (bad.number(), bad.name()), (2, "BadPlan"));
 }

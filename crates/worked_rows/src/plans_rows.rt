@@ -2,7 +2,7 @@
 
 use crate::boards::two_board;
 use crate::expected::same;
-use plans::{Plan, Poll, read_plan};
+use plans::{LineFault, Plan, PlanFault, Poll, read_plan};
 use std::alloc::Global;
 use std::test::*;
 use texts::ReadError;
@@ -13,11 +13,11 @@ fn plan_in(alloc: Global, text: &str) -> Option<Plan> {
     read_plan(alloc, &board, text).ok()
 }
 
-/// The number of the first bad line of a plan for TWO.
-fn bad_line(alloc: Global, text: &str) -> Option<usize> {
+/// The number of the first bad line of a plan for TWO, and why it is bad.
+fn bad_line(alloc: Global, text: &str) -> Option<(usize, LineFault)> {
     let board = two_board(alloc).ok()?;
     match read_plan(alloc, &board, text) {
-        Err(ReadError::Fault(line)) => Some(line),
+        Err(ReadError::Fault(PlanFault { line, why })) => Some((line, why)),
         _ => None,
     }
 }
@@ -78,16 +78,26 @@ fn wishes_of_targets_and_orders(rt: HostRuntime) {
 
 #[test]
 fn bad_lines(rt: HostRuntime) {
-    for (text, line) in [
-        ("voltage vz 1.0V\n", 1),
-        ("voltage va 16.0V\n", 1),
-        ("clear a\n\nclear a\n", 3),
-        ("order va va\n", 1),
-        ("poll 0 1\n", 1),
-        ("retries 1001\n", 1),
-        ("# protections\nprotect a 10\n", 2),
-        ("turn va on\n", 1),
+    for (text, line, why) in [
+        ("turn va on\n", 1, LineFault::NoWish),
+        ("poll 1ms\n", 1, LineFault::WordCount),
+        ("clear a b\n", 1, LineFault::WordCount),
+        ("voltage vz 1.0\n", 1, LineFault::NoRail(1)),
+        ("order va vz\n", 1, LineFault::NoRail(2)),
+        ("clear va\n", 1, LineFault::NoTarget(1)),
+        ("voltage va 16.0V\n", 1, LineFault::NoVoltage(2)),
+        ("retries 1001\n", 1, LineFault::NoRetries(1)),
+        ("retries va -1\n", 1, LineFault::NoRetries(2)),
+        ("poll 0 1\n", 1, LineFault::NoTicks(1)),
+        ("poll va 1ms 0\n", 1, LineFault::NoCount(3)),
+        (
+            "# protections\nprotect a 10\n",
+            2,
+            LineFault::NoProtection(2),
+        ),
+        ("order va va\n", 1, LineFault::SameRail),
+        ("clear a\n\nclear a\n", 3, LineFault::Twice),
     ] {
-        same(&rt, bad_line(rt.alloc(), text), Some(line));
+        same(&rt, bad_line(rt.alloc(), text), Some((line, why)));
     }
 }

@@ -7,7 +7,7 @@ ghost use Rattle.diagnostics.specs.AnswerPlaces.{run_line};
 ghost use Rattle.notes.specs.Notes.{IsOn};
 
 use crate::counted::run_line;
-use crate::note::error_note;
+use crate::note::note_in;
 use crate::remark::Remark;
 use crate::run::bad_start::bad_start;
 use crate::run::misfit::misfit;
@@ -109,5 +109,5 @@ pub(crate) fn answer_note(
         return Ok(None);
     };
     let remark = remark_on(alloc, ran, program, fault)?;
-    Ok(Some(error_note(alloc, "%answers", answers, number, remark)?))
+    Ok(Some(note_in(alloc, Level::Error, "%answers", answers, number, remark)?))
 }

@@ -9,11 +9,11 @@ ghost use Rattle.texts.specs.Words.{lines_by_feed};
 use crate::boards::{
     NamedLine, SayingLine, line_or_first, place_of, remark_of, saying_lines, site_of,
 };
-use crate::note::board_warning;
+use crate::note::note_on;
 use board::Board;
 use board_lints::{Lint, lints_on};
 use bundles::Section;
-use notes::Note;
+use notes::{Level, Note};
 use seq_program::Program;
 use session::section_of;
 use std::alloc::{AllocError, Global};
@@ -33,7 +33,7 @@ fn warning_on(
     let place = place_of(lines, site, Some(key));
     let NamedLine { number, line } = line_or_first(text, lines, place);
     let remark = remark_of(alloc, board, lint)?;
-    board_warning(alloc, number, line, remark)
+    note_on(alloc, Level::Warning, "%board", number, line, remark)
 }
 
 /// The warnings of lints of a board file, each on a line of it.

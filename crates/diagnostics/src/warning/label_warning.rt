@@ -6,7 +6,7 @@ ghost use Rattle.diagnostics.specs.LabelWarnings.{AreLabelsTold, AreLinesTold, u
 ghost use Rattle.notes.specs.Notes.{IsQuoting};
 ghost use Rattle.texts.specs.Words.{lines_by_feed};
 
-use crate::note::program_warning;
+use crate::note::note_on;
 use crate::remark::Remark;
 use crate::sentence::Word::Text;
 use crate::sentence::say;
@@ -34,7 +34,7 @@ fn label_warning(
     }
     let help = Some(say![{ Text(UNUSED) }]);
     let remark = Remark::told(alloc, say!["no line jumps to this label"], help)?;
-    Ok(Some(program_warning(alloc, number, line, remark)?))
+    Ok(Some(note_on(alloc, Level::Warning, "%program", number, line, remark)?))
 }
 
 /// The warnings of labels on these lines, each on its own, where no comment allows it.

@@ -9,7 +9,7 @@ ghost use Rattle.table_check.specs.Tables.{table_view};
 ghost use Rattle.texts.specs.Words.{lines_by_feed};
 
 use crate::input::program_text;
-use crate::note::program_warning;
+use crate::note::note_on;
 use crate::warning::allowed::is_allowed;
 use crate::warning::program_lint::lint_remark;
 use board::Board;
@@ -39,7 +39,7 @@ fn lint_warning(
         return Ok(None);
     }
     let remark = lint_remark(alloc, board, program, lint)?;
-    Ok(Some(program_warning(alloc, number, line, remark)?))
+    Ok(Some(note_on(alloc, Level::Warning, "%program", number, line, remark)?))
 }
 
 /// The number of a place's line, or 1 where that isn't known.

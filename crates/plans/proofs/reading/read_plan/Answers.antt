@@ -6,7 +6,7 @@ use Rattle.plans.proofs.PlanRead.{all_read, fault_read, on_err, gives_err}
 use Rattle.plans.proofs.reading.read_plan.Goals as goal
 
 fault_of : (c : goal.After-drop-plan) → OnFault c.in_err-add_line.field-0.0
-    (λ n. IsFirstBad c.args.board.now (lines_by_feed c.args.text.now) n)
+    (λ fault. IsFirstBad c.args.board.now (lines_by_feed c.args.text.now) fault)
 fault_of c =
     fault_line c.args.board.now _ _ _ c.in-Some.line.now c.loop-line.number _
     c.in_err-add_line.field-0.0 c.loop-line.invariant.read c.in-Some.ensures.lines

@@ -11,7 +11,7 @@ pub returns : goal.returns
 returns c =
     let number = c.line_or_first-number.result.number in
     let there = c.line_or_first-number.ensures in
-    IfOk-weaker c.board_warning.result _ (IsBoardWarning (lines_by_feed c.args.text.now))
+    IfOk-weaker c.note_on.result _ (IsBoardWarning (lines_by_feed c.args.text.now))
     (λ note quotes. (
       number,
       (
@@ -19,4 +19,4 @@ returns c =
         subst (λ (line : Option (List ℕ)). IsQuoting Warning (codes "%board") number line note)
             there.line quotes,
       ),
-    )) c.board_warning.ensures
+    )) c.note_on.ensures
