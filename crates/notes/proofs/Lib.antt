@@ -1,1 +1,2 @@
 mod NearestSoFar
+mod QuotedWords

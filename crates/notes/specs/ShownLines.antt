@@ -5,8 +5,8 @@ use Rattle.std.specs.Prelude.{List, [], length, take, flat_map, nat_lt, MatchBoo
 use Rattle.std.specs.Prelude.{Option, Some, None, IsSomeAnd, MatchOption, codes, if◌then◌else◌}
 use Rattle.std.specs.List.{list_all}
 use Rattle.std.specs.Str.{chars, IsCharBoundary}
-use Rattle.std.specs.Char.{encode_utf8, is_control}
-use Rattle.std.specs.Fmt.{radix_digits}
+use Rattle.std.specs.Char.{encode_utf8, is_ascii, is_control}
+use Rattle.std.specs.Fmt.{radix_digits, debug_str, ◌++?◌}
 
 -- the most bytes of a line that are shown
 abbrev pub most_shown : ℕ
@@ -55,6 +55,13 @@ IsBeginningOf word beginning =
 -- two dots where a line goes on
 abbrev pub dots_if : Bool → List ℕ
 dots_if goes_on = if goes_on then codes ".." else []
+
+-- a word of ASCII in quotes, escaped as `{:?}` does: of a long one the beginning, and two dots
+abbrev pub quoted : List ℕ → Option (List ℕ)
+quoted word =
+    if list_all is_ascii word
+    then debug_str (take most_quoted word) ++? Some (dots_if (nat_lt most_quoted (length word)))
+    else None
 
 -- the beginning of a line, character by character
 pub record IsEscaped (line text : List ℕ) : Type 0 where

@@ -1,7 +1,7 @@
 //! Words of a text in messages.
 
 ghost use Rattle.std.specs.Prelude.{option_copied};
-ghost use Rattle.notes.specs.ShownLines.{most_quoted, IsWholeFront, IsBeginningOf};
+ghost use Rattle.notes.specs.ShownLines.{most_quoted, IsWholeFront, IsBeginningOf, quoted};
 
 use std::fmt;
 
@@ -30,6 +30,8 @@ pub fn beginning_of(word: &str) -> Option<&str>
 }
 
 impl fmt::Display for Quoted<'_> {
+    ghost output = { λ q. quoted q.0.now };
+
     fn fmt<W: fmt::Write>(&self, f: &mut fmt::Formatter<W>) -> fmt::Result {
         let word = self.0;
         match beginning_of(word) {

@@ -1,8 +1,5 @@
-use Rattle.std.proofs.Common.{rules, sym, subst, length}
 use Rattle.std.proofs.lemmas.Iterator.{YieldsList-from_chars}
 use Rattle.std.proofs.lemmas.Iterator.Consumers.{count_from_yields_List}
-use Rattle.std.specs.Prelude.{◌≤◌, ℕ}
-use Rattle.strsim.proofs.EditLemmas.{chars_fit}
 use Rattle.notes.proofs.mark.char_count.Goals as goal
 
 pub returns-clause-count : goal.returns-clause-count
