@@ -1,7 +1,9 @@
 -- Labels of an accepted program to which no line jumps.
-use Rattle.std.specs.Prelude.{◌≡◌, ℕ, List, [], Option, Some, None, All, codes}
-use Rattle.std.specs.Prelude.{if◌then◌else◌, map, unwrap_or}
-use Rattle.std.specs.List.{filter_map}
+use Rattle.std.specs.Prelude.{◌≡◌, ◌==◌, ◌++◌, ◌∷◌, ⊤, ℕ, zero, suc, List, [], Option, Some, None}
+use Rattle.std.specs.Prelude.{All, IsSomeAnd, codes, drop, if◌then◌else◌, length, map, string_bytes}
+use Rattle.std.specs.Prelude.{take, unwrap_or}
+use Rattle.std.specs.Fmt.{decimal}
+use Rattle.std.specs.List.{filter_map, last_or}
 use Rattle.bundles.specs.Bundles.{Section}
 use Rattle.program_lints.specs.UnusedLabels.{unused_labels}
 use Rattle.table_check.specs.declared.checker.breach.Judgement.{Judgement}
@@ -20,15 +22,44 @@ unused_number number line =
 abbrev pub unused_line : List (List ℕ) → ℕ → Option ℕ
 unused_line lines number = unused_number number (line_at number lines)
 
--- each of these lines has a warning, if that isn't allowed there
-pub record AreLinesTold (lines : List (List ℕ)) (numbers : List ℕ) (warnings : List Note)
+-- so many labels are warned of by themselves at most
+abbrev pub most_labels : ℕ
+most_labels = 20
+
+-- a warning on each of these lines
+pub record AreOnLines (lines : List (List ℕ)) (numbers : List ℕ) (warnings : List Note)
     : Type 0 where
   pub warn : All (IsProgramWarning lines) warnings
-  pub told : map (λ n. n.line) warnings ≡ filter_map (unused_line lines) numbers
+  pub on : map (λ n. n.line) warnings ≡ numbers
 
--- each label to which no line jumps has one on its line
+-- the second warnings are on each lines that the first are on
+abbrev pub StayOnLines : List Note → List Note → Type 0
+StayOnLines old new =
+    (lines : List (List ℕ)) (numbers : List ℕ) → AreOnLines lines numbers old
+    → AreOnLines lines numbers new
+
+abbrev pub more_labels : ℕ → List ℕ
+more_labels count =
+    if count == 1 then codes "no line jumps to 1 more label below"
+    else codes "no line jumps to " ++ (decimal count ++ codes " more labels below")
+
+-- where there are more labels, the last warning tells how many
+abbrev pub TellMore : ℕ → List Note → Type 0
+TellMore zero warnings = ⊤
+TellMore (suc more) warnings =
+    IsSomeAnd (last_or None warnings)
+    (λ n. map string_bytes n.facts.items ≡ more_labels (suc more) ∷ [])
+
+-- of labels on these lines the first have a warning each, and the others are counted
+pub record AreLinesTold (lines : List (List ℕ)) (numbers : List ℕ) (warnings : List Note)
+    : Type 0 where
+  pub first : AreOnLines lines (take most_labels numbers) warnings
+  pub more : TellMore (length (drop most_labels numbers)) warnings
+
+-- so are those to which no line jumps, and no comment allows it
 abbrev pub AreLabelsTold : List (List ℕ) → List Note → Type 0
-AreLabelsTold lines warnings = AreLinesTold lines (unused_labels lines) warnings
+AreLabelsTold lines warnings =
+    AreLinesTold lines (filter_map (unused_line lines) (unused_labels lines)) warnings
 
 abbrev pub WarnsOfLabelsIn : List Section → Judgement → List Note → Type 0
 WarnsOfLabelsIn sections (Accepted bound) warnings =

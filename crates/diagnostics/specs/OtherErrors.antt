@@ -1,5 +1,7 @@
 -- What is told of the other lines of a program, beside the fault that its reply tells.
-use Rattle.std.specs.Prelude.{◌≡◌, ◌-◌, ℕ, List, [], All, MatchOption, codes, length, map, take}
+use Rattle.std.specs.Prelude.{◌≡◌, ◌-◌, ◌++◌, ◌==◌, ℕ, List, [], All, MatchOption, codes, length}
+use Rattle.std.specs.Prelude.{map, take, if◌then◌else◌}
+use Rattle.std.specs.Fmt.{decimal}
 use Rattle.std.specs.List.{filter_map}
 use Rattle.board.specs.Boards.{Board}
 use Rattle.bundles.specs.Bundles.{Section}
@@ -18,6 +20,13 @@ use Rattle.diagnostics.specs.declared.other_errors.OtherErrors.{OtherErrors}
 -- an error on a line of a program
 abbrev pub IsError : List (List ℕ) → Note → Type 0
 IsError lines note = IsOn Error (codes "%program") note.line lines note
+
+-- a line that counts the lines whose faults aren't told, if there are some
+abbrev pub untold_text : ℕ → List ℕ
+untold_text count =
+    if count == 0 then []
+    else if count == 1 then codes "1 more line of the program has a fault\n"
+    else decimal count ++ codes " more lines of the program have faults\n"
 
 pub record NoneIsLeft (others : OtherErrors) : Type 0 where
   pub notes : others.notes.items ≡ []

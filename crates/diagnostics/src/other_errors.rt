@@ -1,8 +1,9 @@
 //! What is wrong in the other lines of a program, beside the fault that its reply tells.
 
-ghost use Rattle.std.specs.Prelude.{◌≡◌, IfOk, map, All};
+ghost use Rattle.std.specs.Prelude.{◌≡◌, Some, IfOk, map, All};
 ghost use Rattle.std.specs.List.{filter_map};
 ghost use Rattle.diagnostics.specs.OtherErrors.{AreOthers, AreOthersOf, IsError, NoneIsLeft};
+ghost use Rattle.diagnostics.specs.OtherErrors.{untold_text};
 ghost use Rattle.diagnostics.specs.ProgramPlaces.{program_lines};
 ghost use Rattle.seq_program.specs.Faults.{line_of};
 ghost use Rattle.session.specs.Parts.{sections_view};
@@ -27,6 +28,8 @@ pub struct Untold(pub usize);
 
 /// A line that counts them, or nothing.
 impl fmt::Display for Untold {
+    ghost output = { λ u. Some (untold_text u.0) };
+
     fn fmt<W: fmt::Write>(&self, f: &mut fmt::Formatter<W>) -> fmt::Result {
         match self.0 {
             0 => Ok(()),

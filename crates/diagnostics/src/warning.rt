@@ -121,7 +121,7 @@ pub struct Warnings {
     pub of_board: Vec<Note>,
     /// What of an accepted program may be meant otherwise.
     pub of_program: Vec<Note>,
-    /// The labels of an accepted program to which no line jumps.
+    /// The labels of an accepted program to which no line jumps: the first 20, and how many more.
     pub of_labels: Vec<Note>,
     /// The first step of a run that breaks a rule.
     pub of_run: Option<Note>,
@@ -228,7 +228,8 @@ fn judged_in(judged: &Result<Judged, usize>) -> Option<&Judged>
 /// Of a program that is accepted: `fail` where rails may be on, a rail that may be turned on before
 /// a voltage was written to it, and one that may be turned off while another may be on that needs
 /// it, and what else `program_lints` finds. Each is on the line of its place, and a comment there
-/// allows it: `# allow on-at-fail`. So has each label to which no line jumps, on its own line.
+/// allows it: `# allow on-at-fail`. So has each label to which no line jumps, on its own line; the
+/// first 20 are told, and the last of these says how many there are more.
 ///
 /// Of a run: the first step that breaks what programs are checked by, a message that no entry
 /// allows, a write that is protected, a voltage over its limit, a rail that is turned on before its

@@ -1,8 +1,9 @@
 //! Warnings of labels to which no line of an accepted program jumps.
 
-ghost use Rattle.std.specs.Prelude.{◌≡◌, codes, option_copied};
-ghost use Rattle.std.specs.Prelude.{IfOk, IsSomeAnd, MatchOption, None};
-ghost use Rattle.diagnostics.specs.LabelWarnings.{AreLabelsTold, AreLinesTold, unused_number};
+ghost use Rattle.std.specs.Prelude.{◌≡◌, ◌≤◌, codes, length, option_copied, string_bytes, IfOk};
+ghost use Rattle.std.specs.List.{filter_map};
+ghost use Rattle.diagnostics.specs.LabelWarnings.{AreLabelsTold, AreOnLines, StayOnLines, TellMore};
+ghost use Rattle.diagnostics.specs.LabelWarnings.{more_labels, unused_line};
 ghost use Rattle.notes.specs.Notes.{IsQuoting};
 ghost use Rattle.texts.specs.Words.{lines_by_feed};
 
@@ -15,48 +16,90 @@ use notes::{Level, LineFinder, Note};
 use program_lints::unused_labels;
 use std::alloc::{AllocError, Global};
 
+/// How many labels are warned of by themselves at most.
+const MOST_LABELS: usize = 20;
+
 const UNUSED: &str =
     "take it out, or say with a comment `# allow unused-label` on this line that it is meant";
 
-/// The warning of the label on this line, if no comment there allows it.
-fn label_warning(
-    alloc: Global,
-    number: usize,
-    line: Option<&str>,
-) -> Result<Option<Note>, AllocError>
-    ensures { IfOk result (λ note. MatchOption
-        (unused_number number (option_copied line.entry)) (note ≡ None)
-        (λ n. IsSomeAnd note
-        (IsQuoting Level.Warning (codes "%program") n (option_copied line.entry)))) }
+/// The warning of the label on this line.
+fn label_warning(alloc: Global, number: usize, line: Option<&str>) -> Result<Note, AllocError>
+    ensures { IfOk result
+        (IsQuoting Level.Warning (codes "%program") number (option_copied line.entry)) }
 {
-    if is_allowed(alloc, line.unwrap_or(""), "unused-label")? {
-        return Ok(None);
-    }
     let help = Some(say![{ Text(UNUSED) }]);
     let remark = Remark::told(alloc, say!["no line jumps to this label"], help)?;
-    Ok(Some(note_on(alloc, Level::Warning, "%program", number, line, remark)?))
+    note_on(alloc, Level::Warning, "%program", number, line, remark)
 }
 
-/// The warnings of labels on these lines, each on its own, where no comment allows it.
-fn told_labels(alloc: Global, text: &str, numbers: &[usize]) -> Result<Vec<Note>, AllocError>
+/// A warning of the label on each of these lines.
+fn warnings_on(alloc: Global, text: &str, numbers: &[usize]) -> Result<Vec<Note>, AllocError>
     ensures { IfOk result
-        (λ warnings. AreLinesTold (lines_by_feed text.now) numbers.now warnings.items) }
+        (λ warnings. AreOnLines (lines_by_feed text.now) numbers.now warnings.items) }
 {
     let mut lines = LineFinder::of(text);
     let mut warnings = Vec::new(alloc);
     for number in numbers {
         let line = lines.line_at(*number);
-        if let Some(note) = label_warning(alloc, *number, line)? {
-            warnings.push(note)?;
-        }
+        warnings.push(label_warning(alloc, *number, line)?)?;
     }
     Ok(warnings)
 }
 
-/// The warnings of labels that no line jumps to, each on its line, where no comment allows it.
+/// Those of some lines on which no comment allows a label that no line jumps to.
+fn not_allowed(alloc: Global, text: &str, numbers: &[usize]) -> Result<Vec<usize>, AllocError>
+    ensures { IfOk result (λ told.
+        told.items ≡ filter_map (unused_line (lines_by_feed text.now)) numbers.now) }
+{
+    let mut lines = LineFinder::of(text);
+    let mut told = Vec::new(alloc);
+    for number in numbers {
+        let line = lines.line_at(*number).unwrap_or("");
+        if !is_allowed(alloc, line, "unused-label")? {
+            told.push(*number)?;
+        }
+    }
+    Ok(told)
+}
+
+/// How many labels there are more.
+fn more_text(alloc: Global, more: usize) -> Result<String, AllocError>
+    ensures { IfOk result (λ text. string_bytes text ≡ more_labels more) }
+{
+    if more == 1 {
+        String::from_str(alloc, "no line jumps to 1 more label below")
+    } else {
+        format!(in alloc; "no line jumps to {more} more labels below")
+    }
+}
+
+/// The same warnings, where the last tells how many labels there are more.
+fn telling_more(
+    alloc: Global,
+    mut warnings: Vec<Note>,
+    more: usize,
+) -> Result<Vec<Note>, AllocError>
+    ensures lines { IfOk result (λ told. StayOnLines warnings.items told.items) }
+    ensures more { IfOk result (λ told. 1 ≤ length warnings.items → TellMore more told.items) }
+{
+    if more == 0 {
+        return Ok(warnings);
+    }
+    let facts = vec![in alloc; more_text(alloc, more)?]?;
+    if let Some(last) = warnings.pop() {
+        warnings.push(Note { facts, ..last })?;
+    }
+    Ok(warnings)
+}
+
+/// The warnings of labels that no line jumps to and no comment allows: of the first 20 each on its
+/// line, and how many there are more.
 pub(crate) fn label_warnings(alloc: Global, text: &str) -> Result<Vec<Note>, AllocError>
     ensures { IfOk result (λ warnings. AreLabelsTold (lines_by_feed text.now) warnings.items) }
 {
-    let numbers = unused_labels(alloc, text)?;
-    told_labels(alloc, text, &numbers)
+    let unused = unused_labels(alloc, text)?;
+    let told = not_allowed(alloc, text, &unused)?;
+    let (first, more) = told.split_at(MOST_LABELS.min(told.len()));
+    let warnings = warnings_on(alloc, text, first)?;
+    telling_more(alloc, warnings, more.len())
 }
