@@ -104,18 +104,62 @@ const ONE_MORE: &str = "1 more line of the program has a fault\n";
 const THREE_MORE: &str = "3 more lines of the program have faults\n";
 
 /// A note as it is printed, if there is one.
-fn told_note(alloc: Global, note: &Option<Note>) -> Noted {
+fn told_note(alloc: Global, note: Option<&Note>) -> Noted {
     match note {
         Some(note) => Ok(Some(text_of(alloc, note)?)),
         None => Ok(None),
     }
 }
 
+/// So many labels, each on a line.
+fn labels(alloc: Global, count: usize) -> Result<String, AllocError> {
+    let mut lines = String::new(alloc);
+    for label in 1..=count {
+        write!(lines, "to{label}:\n")?;
+    }
+    Ok(lines)
+}
+
+/// The last warning of a program with so many labels that no line jumps to.
+fn last_warning(alloc: Global, count: usize) -> Noted {
+    let lines = labels(alloc, count)?;
+    let input = format!(in alloc; "%verify\n%board\n{TWO}%program\n{lines}end\n")?;
+    let answered = answered(alloc, input.as_bytes())?;
+    let told = told_note(alloc, answered.notes.warnings.of_labels.last());
+    drop(answered);
+    told
+}
+
+const LABEL: &str = "%program:20: warning: no line jumps to this label
+    to20:
+help: take it out, or say with a comment `# allow unused-label` on this line that it is meant
+";
+
+const ONE_LABEL: &str = "%program:20: warning: no line jumps to this label
+    to20:
+note: no line jumps to 1 more label below
+help: take it out, or say with a comment `# allow unused-label` on this line that it is meant
+";
+
+const THREE_LABELS: &str = "%program:20: warning: no line jumps to this label
+    to20:
+note: no line jumps to 3 more labels below
+help: take it out, or say with a comment `# allow unused-label` on this line that it is meant
+";
+
+/// Twenty labels are told, and how many there are more.
+#[test]
+fn labels_are_told(rt: HostRuntime) {
+    notes(&rt, last_warning(rt.alloc(), 20), Some(LABEL));
+    notes(&rt, last_warning(rt.alloc(), 21), Some(ONE_LABEL));
+    notes(&rt, last_warning(rt.alloc(), 23), Some(THREE_LABELS));
+}
+
 /// The note on the bound of a program, as it is printed.
 fn bound_of(alloc: Global, program: &str, beside: Beside) -> Noted {
     let input = format!(in alloc; "%verify\n%board\n{TWO}%program\n{program}")?;
     let answered = answered_beside(alloc, input.as_bytes(), beside)?;
-    let told = told_note(alloc, &answered.notes.bound);
+    let told = told_note(alloc, answered.notes.bound.as_ref());
     drop(answered);
     told
 }
