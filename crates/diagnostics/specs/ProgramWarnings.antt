@@ -1,9 +1,9 @@
 -- What is warned of an accepted program, and comments that allow it.
 use Rattle.std.specs.Prelude.{◌≡◌, ◌==◌, ◌&&◌, ℕ, Bool, false, List, [], ◌∷◌, Option, Some, None}
 use Rattle.std.specs.Prelude.{All, codes, if◌then◌else◌, map, unwrap_or}
-use Rattle.std.specs.List.{after_first, filter_map, list_any}
+use Rattle.std.specs.List.{filter_map, list_any}
 use Rattle.std.specs.Str.{bytes_eq}
-use Rattle.texts.specs.Ascii as ascii
+use Rattle.texts.specs.Cuts.{comment_in}
 use Rattle.texts.specs.Words.{words_of}
 use Rattle.board.specs.Boards.{Board}
 use Rattle.bundles.specs.Bundles.{Section}
@@ -21,10 +21,6 @@ use Rattle.notes.specs.declared.note.Note.{Note}
 use Rattle.session.specs.Places.{place_line}
 use Rattle.session.specs.declared.outcome.Judged.{Judged}
 use Rattle.diagnostics.specs.ProgramPlaces.{program_lines}
-
--- what stands behind the first `#`
-abbrev pub comment_in : List ℕ → List ℕ
-comment_in line = after_first (λ b. b == ascii.number_sign) line
 
 -- the words of a comment allow what has this name: `# allow NAME ..`
 abbrev pub allows : List (List ℕ) → List ℕ → Bool

@@ -20,10 +20,10 @@ use bundles::{Section, form_word};
 use facts::Rule;
 use notes::{Level, Note, line_at};
 use plans::PlanFault;
-use seq_program::without_comment;
 use session::{DraftFault, Planned, section_of};
 use smbus::Form;
 use std::alloc::{AllocError, Global};
+use texts::without_comment;
 
 const ALL_TOGETHER: &str =
     "take out one of the `needs`, or of the plan's `order`, through which they wait";

@@ -8,9 +8,8 @@ use crate::sentence::{Sentence, say};
 use board::Board;
 use notes::lowercase_suggestion;
 use plans::{LineFault, MOST_TICKS, MOST_TIMES};
-use seq_program::without_comment;
 use std::alloc::{AllocError, Global};
-use texts::words_of;
+use texts::{without_comment, words_of};
 
 /// The words that wishes begin with, and how each goes on.
 const WISHES: [(&str, &str); 6] = [

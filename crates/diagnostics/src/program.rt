@@ -30,9 +30,9 @@ use crate::program::unknown_word::unknown_word;
 use crate::remark::Remark;
 use board::Board;
 use notes::{Level, Note, line_at};
-use seq_program::{ProgramFault, without_comment};
+use seq_program::ProgramFault;
 use std::alloc::{AllocError, Global};
-use texts::words_of;
+use texts::{without_comment, words_of};
 
 /// A program's text, for a board, and its labels, which notes on some of its faults name.
 #[derive(Drop)]

@@ -1,4 +1,3 @@
-mod Comments
 mod Endings
 mod Scaled
 mod LinesRead

@@ -2,10 +2,10 @@
 use Rattle.std.specs.Prelude.{◌≡◌, ℕ, ◌+◌, List, [], ◌∷◌, ◌++◌, length, filter_map, Bool, true}
 use Rattle.std.specs.Prelude.{false, not, ◌&&◌, ◌==◌, Option, Some, None, is_some, Result, Ok, Err}
 use Rattle.std.specs.Prelude.{is_ok, if◌then◌else◌}
-use Rattle.std.specs.List.{list_all, list_any, before_first}
+use Rattle.std.specs.List.{list_all, list_any}
 use Rattle.std.specs.Result.{result_unwrap_or, result_err}
-use Rattle.texts.specs.Ascii as ascii
 use Rattle.texts.specs.Reading.{◌>>=◌}
+use Rattle.texts.specs.Cuts.{without_comment}
 use Rattle.texts.specs.Words.{words_of}
 use Rattle.texts.specs.declared.reading.ReadError.{ReadError}
 use Rattle.texts.specs.declared.reading.ReadError.TheVariants as errors
@@ -16,10 +16,6 @@ use Rattle.plans.specs.declared.fault.PlanFault.{PlanFault}
 use Rattle.plans.specs.declared.wish.Wish.{Wish}
 use Rattle.plans.specs.Wishes.{is_about, subject_of, wish_about}
 use Rattle.plans.specs.WishLines.{wish_of}
-
--- what stands before a `#`
-abbrev pub without_comment : List ℕ → List ℕ
-without_comment line = before_first (λ b. b == ascii.number_sign) line
 
 -- what the words of a line say: nothing where there are none, or a wish, or they are bad
 abbrev pub said_by : Board → List (List ℕ) → Result (Option Wish) LineFault

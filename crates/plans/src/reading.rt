@@ -4,7 +4,7 @@ ghost use Rattle.std.specs.Prelude.{◌≡◌, All, IfErr, IfOk, IfSome, OnOk, l
 ghost use Rattle.texts.specs.Reading.{Gives};
 ghost use Rattle.texts.specs.Words.{lines_by_feed};
 ghost use Rattle.plans.specs.WishLines.{IsWishOn};
-ghost use Rattle.plans.specs.Plans.{without_comment, said_by, said_on, with_said, at_line};
+ghost use Rattle.plans.specs.Plans.{said_by, said_on, with_said, at_line};
 ghost use Rattle.plans.specs.Plans.{IsPlanOf, IsFirstBad, OnFault, plan_of};
 
 use crate::fault::{LineFault, PlanFault};
@@ -14,17 +14,7 @@ use crate::wish::Wish;
 use crate::wish_line::wish_of;
 use board::Board;
 use std::alloc::Global;
-use texts::{ReadError, first_by_feed, words_of};
-
-/// What stands before a comment.
-fn without_comment(line: &str) -> &str
-    ensures { result.now ≡ without_comment line.now }
-{
-    match line.split_once('#') {
-        Some((said, _)) => said,
-        None => line,
-    }
-}
+use texts::{ReadError, first_by_feed, without_comment, words_of};
 
 /// The wish that the words of a line are, if there are any.
 fn said_by(board: &Board, words: &[&str]) -> Result<Option<Wish>, LineFault>

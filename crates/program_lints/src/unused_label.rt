@@ -7,9 +7,9 @@ ghost use Rattle.seq_program.specs.Labels.{label_in};
 ghost use Rattle.texts.specs.Words.{lines_by_feed};
 
 use indexmap::IndexSet;
-use seq_program::{label_in, without_comment};
+use seq_program::label_in;
 use std::alloc::{AllocError, Global};
-use texts::{first_by_feed, words_of};
+use texts::{first_by_feed, without_comment, words_of};
 
 /// Adds the word at the end of a line of several.
 fn add_end<'a>(ends: &mut IndexSet<&'a str>, words: &[&'a str]) -> Result<(), AllocError>

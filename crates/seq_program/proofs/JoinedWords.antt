@@ -13,7 +13,7 @@ use Rattle.std.proofs.lemmas.List.Sums.{position_or_len_is}
 use Rattle.std.proofs.lemmas.List.Splits.{slice_split_none, slice_split_at, length-slice_split}
 use Rattle.std.proofs.Math.Seq.{take-length}
 use Rattle.texts.specs.Words.{is_nonempty, words_of, without_empty_end, lines_by_feed}
-use Rattle.seq_program.specs.Labels.{without_comment}
+use Rattle.texts.specs.Cuts.{without_comment}
 use Rattle.seq_program.specs.JoinedWords.{is_word_byte, is_word, ended, LinesReadBack}
 
 abbrev is_line_byte : ℕ → Bool

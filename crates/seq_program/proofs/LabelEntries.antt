@@ -1,16 +1,12 @@
 -- Labels as entries of a map, and lines cut at a comment.
-use Rattle.std.proofs.Common.{◌≡◌, ℕ, ◌<◌, Bool, true, false, cond, nat_lt, ◌&&◌, ◌||◌, is_some}
-use Rattle.std.proofs.Common.{List, [], ◌∷◌, ◌++◌, map, take, Option, Some, None, Bor, refl}
-use Rattle.std.proofs.Common.{option_map, sym, ap, ◌∙◌, String, Global, string_bytes}
-use Rattle.std.specs.Prelude.{MatchOption}
+use Rattle.std.proofs.Common.{◌≡◌, ℕ, Bool, true, false, cond, nat_lt, ◌&&◌, ◌||◌, is_some}
+use Rattle.std.proofs.Common.{List, [], ◌∷◌, ◌++◌, map, Option, Some, None, refl}
+use Rattle.std.proofs.Common.{option_map, ap, ◌∙◌, String, Global, string_bytes}
 use Rattle.std.specs.Str.{bytes_eq}
 use Rattle.std.specs.List.{list_all}
 use Rattle.std.specs.Map.{lookup, values_of}
-use Rattle.std.proofs.lemmas.Str.Pattern.{IsSplitOnceResult, split_once_first}
-use Rattle.std.proofs.Math.Seq.{take-length}
 use Rattle.seq_program.specs.declared.labels.LabelAt.{LabelAt}
 use Rattle.seq_program.specs.Labels.{Label, has_label, with_label, with_labels, label_named}
-use Rattle.seq_program.specs.Labels.{without_comment}
 use Rattle.seq_program.specs.PassViews.{label_view}
 
 is_some-or : {X : Type 0} (b : Bool) (x : X) (o : Option X) (c : Bool) → is_some o ≡ c
@@ -47,13 +43,6 @@ pub with_labels_append : (labels a b : List Label)
     → with_labels labels (a ++ b) ≡ with_labels (with_labels labels a) b
 with_labels_append labels [] b = refl
 with_labels_append labels (l ∷ a) b = with_labels_append (with_label labels l) a b
-
-pub cut_comment : (line : List ℕ) (r : Option (Bor (List ℕ) × Bor (List ℕ)))
-    → IsSplitOnceResult 35 line r → 35 < 128
-    → MatchOption r (line ≡ without_comment line) (λ x. x.0.now ≡ without_comment line)
-cut_comment line None h low =
-    sym (ap (λ (n : ℕ). take n line) (split_once_first 35 line None h low) ∙ take-length line)
-cut_comment line (Some x) h low = (split_once_first 35 line (Some x) h low).1
 
 -- what an entry says of its label
 pub lookup-label_named : (f : LabelAt → ℕ) (g : Label → ℕ)

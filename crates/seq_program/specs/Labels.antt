@@ -1,15 +1,12 @@
 -- The labels of a text: each names the place of the next instruction.
 use Rattle.std.specs.Prelude.{ℕ, ◌+◌, ◌-◌, List, [], ◌∷◌, ◌++◌, length, take, slice_index, Bool}
 use Rattle.std.specs.Prelude.{false, ◌==◌, Option, Some, None, option_map, find, if◌then◌else◌}
-use Rattle.std.specs.List.{list_any, before_first}
+use Rattle.std.specs.List.{list_any}
 use Rattle.std.specs.Str.{bytes_eq}
+use Rattle.texts.specs.Cuts.{without_comment}
 use Rattle.texts.specs.Words.{words_of}
 use Rattle.seq_program.specs.Operands.{label_of}
 use Rattle.texts.specs.Ascii as ascii
-
--- what stands before a `#`
-abbrev pub without_comment : List ℕ → List ℕ
-without_comment line = before_first (λ b. b == ascii.number_sign) line
 
 abbrev pub words_on : List ℕ → List (List ℕ)
 words_on line = words_of (without_comment line)

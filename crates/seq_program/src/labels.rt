@@ -5,7 +5,7 @@ ghost use Rattle.std.specs.Prelude.{nat_lt, option_copied, IfErr, IfOk, OnOk};
 ghost use Rattle.std.specs.List.{list_all};
 ghost use Rattle.indexmap.specs.IndexMap.{values};
 ghost use Rattle.seq_program.specs.declared.fault.ProgramFault.TheVariants.{Memory};
-ghost use Rattle.seq_program.specs.Labels.{without_comment, label_name, label_in, has_label};
+ghost use Rattle.seq_program.specs.Labels.{label_name, label_in, has_label};
 ghost use Rattle.seq_program.specs.Labels.{with_label, with_labels, labels_on, places_on};
 ghost use Rattle.seq_program.specs.Labels.{labels_of};
 ghost use Rattle.seq_program.specs.Labels.{place_of, line_of, is_first};
@@ -16,7 +16,7 @@ use crate::fault::ProgramFault;
 use crate::operand::label_of;
 use indexmap::IndexMap;
 use std::alloc::Global;
-use texts::{first_by_feed, words_of};
+use texts::{first_by_feed, without_comment, words_of};
 
 /// The place that a label names, and its line.
 #[derive(Clone, Copy)]
@@ -27,16 +27,6 @@ pub(crate) struct LabelAt {
 
 /// The labels of a text, the first of each name.
 pub(crate) type Labels = IndexMap<String, LabelAt>;
-
-/// What stands before a comment.
-pub fn without_comment(line: &str) -> &str
-    ensures { result.now ≡ without_comment line.now }
-{
-    match line.split_once('#') {
-        Some((said, _)) => said,
-        None => line,
-    }
-}
 
 /// The name before a colon.
 fn label_name(word: &str) -> Option<&str>

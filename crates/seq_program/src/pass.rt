@@ -7,12 +7,12 @@ ghost use Rattle.seq_program.specs.PassViews.{labels_view, pass_view, AreInstrsS
 
 use crate::fault::ProgramFault;
 use crate::instr::Instr;
-use crate::labels::{Labels, is_first, label_in, without_comment};
+use crate::labels::{Labels, is_first, label_in};
 use crate::line::instr_of;
 use crate::program::MOST_PLACES;
 use board::Board;
 use std::alloc::Global;
-use texts::words_of;
+use texts::{without_comment, words_of};
 
 /// The instructions so far, and the first line so far whose label stands nowhere.
 #[derive(Drop)]

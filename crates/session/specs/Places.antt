@@ -3,8 +3,9 @@ use Rattle.std.specs.Prelude.{ℕ, List, Bool, Option, not, is_some, ◌&&◌, l
 use Rattle.std.specs.Prelude.{filter}
 use Rattle.std.specs.Prelude.{slice_get}
 use Rattle.std.specs.List.{enumerate_from}
+use Rattle.texts.specs.Cuts.{without_comment}
 use Rattle.texts.specs.Words.{words_of}
-use Rattle.seq_program.specs.Labels.{without_comment, label_in}
+use Rattle.seq_program.specs.Labels.{label_in}
 
 -- a word stands before the comment, and the line is no label
 abbrev pub has_instruction : List ℕ → Bool

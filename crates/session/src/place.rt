@@ -4,9 +4,9 @@ ghost use Rattle.std.specs.Prelude.{◌≡◌, IfOk};
 ghost use Rattle.texts.specs.Words.{lines_by_feed};
 ghost use Rattle.session.specs.Places.{has_instruction, place_line, place_lines};
 
-use seq_program::{label_in, without_comment};
+use seq_program::label_in;
 use std::alloc::{AllocError, Global};
-use texts::{first_by_feed, words_of};
+use texts::{first_by_feed, without_comment, words_of};
 
 /// Whether an instruction stands on a line.
 fn has_instruction(alloc: Global, line: &str) -> Result<bool, AllocError>

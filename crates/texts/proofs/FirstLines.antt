@@ -1,38 +1,19 @@
 -- The first line of a text, and those below it.
-use Rattle.std.proofs.Common.{◌≡◌, ◌≢◌, ◌<◌, ◌-◌, ◌++◌, ◌==◌, ℕ, suc, Bool, true, false, List}
+use Rattle.std.proofs.Common.{◌≡◌, ◌≢◌, ◌<◌, ◌-◌, ◌++◌, ◌==◌, ℕ, suc, Bool, false, List}
 use Rattle.std.proofs.Common.{[], ◌∷◌, length, take, drop, refl, sym, ap, ◌∙◌, inl, inr, arith}
-use Rattle.std.specs.List.{slice_split, slice_index, position_or_len, before_first, after_first}
-use Rattle.std.specs.List.{onto_first}
+use Rattle.std.specs.List.{slice_split, slice_index}
 use Rattle.std.specs.Str.Lines.{lines, strip_carriage_return}
 use Rattle.std.proofs.Math.Seq.{drop-cons}
 use Rattle.std.proofs.Math.ListN.{drop_of_length-le}
 use Rattle.std.proofs.lemmas.Bool.{cases_Bool, eqb-true}
 use Rattle.std.proofs.lemmas.List.{take-append-drop}
-use Rattle.std.proofs.lemmas.List.Splits.{slice_split_first, slice_split-cons_no}
 use Rattle.std.proofs.lemmas.List.Splits.{length-slice_split}
+use Rattle.texts.specs.Cuts.{IsCutAt, HasNo}
 use Rattle.texts.specs.Words.{lines_by_feed}
+use Rattle.texts.proofs.CutParts.{one_part, first_part}
 
 abbrev is_feed : ℕ → Bool
 is_feed b = b == 10
-
--- the place of the first feed
-abbrev pub feed_at : List ℕ → ℕ
-feed_at text = position_or_len (λ b. b == 10) text
-
-nowhere_in : (x : ℕ) (text : List ℕ) (b : Bool) → (x == 10) ≡ b
-    → (feed_at text ≡ length text → slice_split is_feed text ≡ text ∷ [])
-    → feed_at (x ∷ text) ≡ length (x ∷ text) → slice_split is_feed (x ∷ text) ≡ (x ∷ text) ∷ []
-nowhere_in x text true t below e =
-    let z : 0 ≡ suc (length text) = rw t at e in
-    absurd (omega (arith, z))
-nowhere_in x text false t below e =
-    let whole : feed_at text ≡ length text = omega (arith, rw t at e) in
-    slice_split-cons_no is_feed x text t ∙ ap (onto_first x) (below whole)
-
--- a text without a feed is one part
-one_part : (text : List ℕ) → feed_at text ≡ length text → slice_split is_feed text ≡ text ∷ []
-one_part [] e = refl
-one_part (x ∷ text) e = nowhere_in x text (x == 10) refl (one_part text) e
 
 -- below a feed stands a part at least
 record Parted (parts : List (List ℕ)) : Type 0 where
@@ -50,35 +31,27 @@ is_parted text =
 
 -- ---- lines that end with a feed alone
 
-pub first_fed : (text line below : List ℕ) → feed_at text < length text
-    → line ≡ before_first (λ b. b == 10) text → below ≡ after_first (λ b. b == 10) text
+pub first_fed : (text line below : List ℕ) → IsCutAt 10 text line below
     → lines_by_feed text ≡ line ∷ lines_by_feed below
-first_fed text line below within l b =
-    let p = is_parted (after_first is_feed text) in
-    let cut : slice_split is_feed text
-    ≡ before_first is_feed text ∷ slice_split is_feed (after_first is_feed text) =
-    slice_split_first is_feed text 0 within in
-    rw (cut, l, b, p.is) refl
+first_fed text line below cut =
+    let p = is_parted below in
+    rw (first_part 10 text line below cut, p.is) refl
 
-pub last_fed : (text : List ℕ) → feed_at text ≡ length text → (length text == 0) ≡ false
+pub last_fed : (text : List ℕ) → HasNo 10 text → (length text == 0) ≡ false
     → lines_by_feed text ≡ text ∷ []
-last_fed text e some = rw (one_part text e, some) refl
+last_fed text none some = rw (one_part 10 text none, some) refl
 
 -- ---- lines that may end with a carriage return and a feed
 
-pub first_of_lines : (text line below : List ℕ) → feed_at text < length text
-    → line ≡ before_first (λ b. b == 10) text → below ≡ after_first (λ b. b == 10) text
+pub first_of_lines : (text line below : List ℕ) → IsCutAt 10 text line below
     → lines text ≡ strip_carriage_return line ∷ lines below
-first_of_lines text line below within l b =
-    let p = is_parted (after_first is_feed text) in
-    let cut : slice_split is_feed text
-    ≡ before_first is_feed text ∷ slice_split is_feed (after_first is_feed text) =
-    slice_split_first is_feed text 0 within in
-    rw (cut, l, b, p.is) refl
+first_of_lines text line below cut =
+    let p = is_parted below in
+    rw (first_part 10 text line below cut, p.is) refl
 
-pub last_of_lines : (text : List ℕ) → feed_at text ≡ length text → (length text == 0) ≡ false
+pub last_of_lines : (text : List ℕ) → HasNo 10 text → (length text == 0) ≡ false
     → lines text ≡ text ∷ []
-last_of_lines text e some = rw (one_part text e, some) refl
+last_of_lines text none some = rw (one_part 10 text none, some) refl
 
 -- ---- a carriage return at the end
 

@@ -1,4 +1,5 @@
 pub mod Ascii
+pub mod Cuts
 pub mod Decimal
 pub mod Hex
 pub mod Names

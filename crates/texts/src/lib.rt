@@ -2,6 +2,7 @@
 //! names, the reason why a text could not be read, and how a text is sent.
 #![tactic(auto)]
 
+mod cutting;
 mod decimal;
 mod hex;
 mod law;
@@ -11,6 +12,7 @@ mod reading;
 mod sending;
 mod words;
 
+pub use cutting::{comment_in, without_comment};
 pub use decimal::decimal_within;
 pub use hex::{hex_number, pair_of, pairs_of, push_pair, push_word};
 pub use law::{numbers_are_spelled, numbers_read_back};

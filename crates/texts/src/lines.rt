@@ -4,6 +4,8 @@ ghost use Rattle.std.specs.Prelude.{◌≡◌, ◌≤◌, ◌<◌, [], ◌∷◌
 ghost use Rattle.std.specs.Str.Lines.{lines, strip_carriage_return};
 ghost use Rattle.texts.specs.Words.{lines_by_feed};
 
+use crate::cutting::cut_at;
+
 /// The line without the one carriage return at its end, if it has one.
 fn without_return(line: &str) -> &str
     ensures { result.now ≡ strip_carriage_return line.now }
@@ -24,7 +26,7 @@ pub fn first_line(text: &str) -> Option<(&str, &str)>
     if text.is_empty() {
         return None;
     }
-    match text.split_once('\n') {
+    match cut_at(text, b'\n') {
         Some((line, below)) => Some((without_return(line), below)),
         None => Some((text, "")),
     }
@@ -40,7 +42,7 @@ pub fn first_by_feed(text: &str) -> Option<(&str, &str)>
     if text.is_empty() {
         return None;
     }
-    match text.split_once('\n') {
+    match cut_at(text, b'\n') {
         Some(cut) => Some(cut),
         None => Some((text, "")),
     }

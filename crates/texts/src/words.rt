@@ -1,20 +1,14 @@
-ghost use Rattle.std.specs.Prelude.{◌≡◌, ◌<◌, ◌==◌, [], ◌∷◌, length, map, position};
+ghost use Rattle.std.specs.Prelude.{◌≡◌, ◌<◌, ◌==◌, [], ◌∷◌, length, map};
 ghost use Rattle.std.specs.Prelude.{MatchOption, IfSome, IfOk};
 ghost use Rattle.std.specs.List.{slice_split};
 ghost use Rattle.texts.specs.Ascii as ascii;
 ghost use Rattle.texts.specs.Words.{words_of};
 
+use crate::cutting::cut_at;
 use std::alloc::{AllocError, Global};
 
 /// Most lines have no more words than this.
 const FEW_WORDS: usize = 8;
-
-/// Where the first space stands.
-fn space_in(line: &[u8]) -> Option<usize>
-    ensures { result ≡ position (λ b. b == ascii.space) line.now }
-{
-    line.iter().position(|byte| *byte == b' ')
-}
 
 /// What stands before the first space of a line, and what follows that space; none where the line
 /// has no space.
@@ -25,10 +19,7 @@ pub fn cut_at_space(line: &str) -> Option<(&str, &str)>
         ≡ cut.0.now ∷ slice_split (λ b. b == ascii.space) cut.1.now) }
     ensures shorter { IfSome result (λ cut. length cut.1.now < length line.now) }
 {
-    match space_in(line.as_bytes()) {
-        Some(at) => Some((&line[..at], &line[at + 1..])),
-        None => None,
-    }
+    cut_at(line, b' ')
 }
 
 /// The words of a line, in order: its nonempty parts between spaces. Only the space parts words, a

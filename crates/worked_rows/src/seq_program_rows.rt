@@ -4,7 +4,6 @@ use board::{Board, BoardFault};
 use seq_program::{
     Content, Instr, Program, ProgramFault, Request, Width, command_in, counter_of, direction_of,
     label_in, message_of, number_within, other_faults, read_program, register_of, sized_in,
-    without_comment,
 };
 use smbus::Form;
 use std::alloc::Global;
@@ -418,7 +417,6 @@ fn commands(rt: HostRuntime) {
 
 #[test]
 fn labels_and_comments(rt: HostRuntime) {
-    same(&rt, without_comment("end # the last"), "end ");
     same(&rt, label_in(&["again:"]), Some("again"));
     same(&rt, label_in(&["again:", "end"]), None);
 }

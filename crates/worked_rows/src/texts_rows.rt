@@ -3,8 +3,9 @@ use crate::expected::{holds, same, says};
 use std::alloc::{AllocError, Global};
 use std::process::Abort;
 use texts::{
-    CutShort, ReadError, cut_at_space, decimal_within, first_by_feed, first_line, hex_number,
-    is_name, line_count, pair_of, pairs_of, push_pair, push_word, send, words_of,
+    CutShort, ReadError, comment_in, cut_at_space, decimal_within, first_by_feed, first_line,
+    hex_number, is_name, line_count, pair_of, pairs_of, push_pair, push_word, send,
+    without_comment, words_of,
 };
 
 /// A text, its first line, and what is behind that.
@@ -50,6 +51,14 @@ fn counted_lines(rt: HostRuntime) {
 fn lines_cut_at_a_space(rt: HostRuntime) {
     same(&rt, cut_at_space("page  t0"), Some(("page", " t0")));
     same(&rt, cut_at_space("\tend"), None);
+}
+
+#[test]
+fn lines_cut_at_a_comment(rt: HostRuntime) {
+    same(&rt, without_comment("end # the # last"), "end ");
+    same(&rt, comment_in("end # the # last"), " the # last");
+    same(&rt, without_comment("1 µs"), "1 µs");
+    same(&rt, comment_in("1 µs"), "");
 }
 
 #[test]

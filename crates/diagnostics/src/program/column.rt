@@ -2,8 +2,9 @@
 
 use crate::program::bad_number::misplaced_at;
 use crate::program::bad_operand::misfit_at;
-use seq_program::{ProgramFault, without_comment};
+use seq_program::ProgramFault;
 use std::alloc::{AllocError, Global};
+use texts::without_comment;
 
 /// The number of the word that is to blame, among those of a line.
 fn number_of(

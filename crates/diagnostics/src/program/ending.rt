@@ -2,9 +2,9 @@
 
 use crate::remark::{Remark, help_of};
 use notes::Quoted;
-use seq_program::{MOST_PLACES, label_in, without_comment};
+use seq_program::{MOST_PLACES, label_in};
 use std::alloc::{AllocError, Global};
-use texts::{first_by_feed, words_of};
+use texts::{first_by_feed, without_comment, words_of};
 
 /// A line and its number.
 #[derive(Clone, Copy)]

@@ -5,9 +5,9 @@ use crate::sentence::Word::{Count, Name};
 use crate::sentence::{Advice, say};
 use indexmap::IndexMap;
 use notes::lowercase_suggestion;
-use seq_program::{ProgramFault, label_in, without_comment};
+use seq_program::{ProgramFault, label_in};
 use std::alloc::{AllocError, Global};
-use texts::{first_by_feed, words_of};
+use texts::{first_by_feed, without_comment, words_of};
 
 /// How many labels are compared with one that stands nowhere, at most.
 const MOST_COMPARED: usize = 1024;

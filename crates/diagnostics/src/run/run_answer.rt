@@ -12,10 +12,11 @@ use crate::remark::Remark;
 use crate::run::bad_start::bad_start;
 use crate::run::misfit::misfit;
 use notes::{Level, Note, line_at};
-use seq_program::{message_of, without_comment};
+use seq_program::message_of;
 use session::{Ran, Scenario, Stop, place_line};
 use simulator::RunFault;
 use std::alloc::{AllocError, Global};
+use texts::without_comment;
 
 /// A place of a program in words: `place 4, line 9 of the program: end`.
 fn place_text(alloc: Global, program: &str, place: usize) -> Result<String, AllocError> {

@@ -3,20 +3,10 @@
 ghost use Rattle.std.specs.Prelude.{◌≡◌, map, IfOk};
 ghost use Rattle.std.specs.List.{list_any};
 ghost use Rattle.std.specs.Str.{bytes_eq};
-ghost use Rattle.diagnostics.specs.ProgramWarnings.{allows, comment_in, is_allowed};
+ghost use Rattle.diagnostics.specs.ProgramWarnings.{allows, is_allowed};
 
 use std::alloc::{AllocError, Global};
-use texts::words_of;
-
-/// What stands behind the first `#` of a line.
-fn comment_in(line: &str) -> &str
-    ensures { result.now ≡ comment_in line.now }
-{
-    match line.split_once('#') {
-        Some((_, comment)) => comment,
-        None => "",
-    }
-}
+use texts::{comment_in, words_of};
 
 /// Whether a name is among words.
 fn is_among(words: &[&str], name: &str) -> bool
