@@ -13,6 +13,8 @@ use Rattle.plans.specs.declared.wish.Wish.{Wish}
 use Rattle.plans.specs.Plans.{IsPlanOf, IsFirstBad}
 use Rattle.drafts.specs.declared.fault.Undraftable.{Undraftable}
 use Rattle.drafts.specs.declared.fault.Undraftable.TheVariants as why
+use Rattle.drafts.specs.declared.part.Draft.{Draft}
+use Rattle.drafts.specs.Drafts.{IsDraft as IsDraftOf}
 use Rattle.drafts.specs.Faults.{IsFault}
 use Rattle.table_check.specs.Tables.{Table}
 use Rattle.table_check.specs.checker.Obligations.{IsVerdict}
@@ -52,25 +54,32 @@ pub record IsUndraftable (p : Planned) (x : Undraftable) : Type 0 where
   pub plan : IsPlanOf p.board (lines_by_feed p.plan) wishes
   pub fault : IsFault p.board wishes (errors.Fault x)
 
--- the first fault; of the program that was drafted nothing is said, where that isn't accepted
+-- the plan's lines are wishes, and there is a draft of these
+pub record IsDraftable (p : Planned) : Type 0 where
+  pub wishes : List Wish
+  pub plan : IsPlanOf p.board (lines_by_feed p.plan) wishes
+  pub draft : Draft
+  pub drafted : IsDraftOf p.board wishes draft
+
+-- the first fault; where a draft is no program or isn't accepted, that there is one
 abbrev pub IsDraftFault : Planned → DraftFault → Type 0
 IsDraftFault p (faults.BadPlan fault) = IsFirstBad p.board (lines_by_feed p.plan) fault
 IsDraftFault p (faults.Circle rail) = IsUndraftable p (why.Circle rail)
 IsDraftFault p (faults.NoEntry target form code) =
     IsUndraftable p (why.NoEntry target form code)
 IsDraftFault p (faults.OverLimit rail) = IsUndraftable p (why.OverLimit rail)
-IsDraftFault p faults.TooLong = Unit {0}
-IsDraftFault p (faults.NotAccepted place rule) = Unit {0}
+IsDraftFault p faults.TooLong = IsDraftable p
+IsDraftFault p (faults.NotAccepted place rule) = IsDraftable p
 
 -- an error is the first fault, unless memory ran out
 abbrev pub OnDraftFault : Planned → ReadError DraftFault → Type 0
 OnDraftFault p errors.Memory = Unit {0}
 OnDraftFault p (errors.Fault fault) = IsDraftFault p fault
 
--- an error that says nothing of the plan: memory ran out, or the program that was drafted is none
--- or isn't accepted
+-- an error that says no more of the plan than that there is a draft of it: memory ran out, or the
+-- program that was drafted is none or isn't accepted
 abbrev pub SparesPlan : ReadError DraftFault → Type 0
-SparesPlan e = (p : Planned) → OnDraftFault p e
+SparesPlan e = (p : Planned) → IsDraftable p → OnDraftFault p e
 
 -- a draft, or why there is none
 abbrev pub IsDrafted : Planned → Result (String Global) DraftFault → Type 0

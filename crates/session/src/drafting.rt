@@ -3,8 +3,8 @@
 ghost use Rattle.std.specs.Prelude.{◌≡◌, IfErr, IfOk, Ok, string_bytes};
 ghost use Rattle.plans.specs.Plans.{IsPlanOf};
 ghost use Rattle.seq_program.specs.Programs.{program_of};
-ghost use Rattle.session.specs.DraftReplies.{IsDrafted, IsVerdictOn, OnDraftFault, SaysDraft};
-ghost use Rattle.session.specs.DraftReplies.{SparesPlan, TellsBound};
+ghost use Rattle.session.specs.DraftReplies.{IsDraftable, IsDrafted, IsVerdictOn, OnDraftFault};
+ghost use Rattle.session.specs.DraftReplies.{SaysDraft, SparesPlan, TellsBound};
 ghost use Rattle.session.specs.Planned.{planned_view};
 ghost use Rattle.texts.specs.Words.{lines_by_feed};
 
@@ -71,7 +71,8 @@ fn table_for(
 
 /// The text of the program that is drafted, below the line of its bound.
 fn body_of(alloc: Global, planned: &Planned) -> Result<String, ReadError<DraftFault>>
-    ensures { IfErr result (OnDraftFault (planned_view planned.now)) }
+    ensures drafted { IfOk result (λ text. IsDraftable (planned_view planned.now)) }
+    ensures fault { IfErr result (OnDraftFault (planned_view planned.now)) }
 {
     let plan = plan_of(alloc, planned)?;
     match draft(alloc, &planned.board, &plan) {
