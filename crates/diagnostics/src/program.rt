@@ -12,14 +12,14 @@ pub(crate) mod column;
 mod ending;
 pub(crate) mod habit;
 mod label;
-pub(crate) mod operand;
 mod units;
 pub(crate) mod unknown_command;
 pub(crate) mod unknown_target;
 pub(crate) mod unknown_word;
+pub(crate) mod usage;
 
 use crate::note::{marked, note_on};
-use crate::program::bad_number::bad_number;
+use crate::program::bad_number::{Misplaced, bad_number};
 use crate::program::bad_operand::bad_operand;
 use crate::program::column::blamed_word;
 use crate::program::ending::{no_end, too_long};
@@ -74,14 +74,22 @@ fn remark_on(
     match fault {
         ProgramFault::Memory => Remark::plain(alloc, "out of memory"),
         ProgramFault::UnknownWord(_) => unknown_word(alloc, words),
-        ProgramFault::BadNumber(_) => bad_number(alloc, board, words),
+        ProgramFault::BadNumber {
+            word,
+            low,
+            high,
+            ..
+        } => {
+            let word = words.get(word).copied().unwrap_or("");
+            bad_number(board, words, Misplaced { word, low, high }).told(alloc)
+        }
         ProgramFault::UnknownTarget(_) => unknown_target(alloc, board, words),
-        ProgramFault::UnknownCommand(_) => unknown_command(alloc, words),
+        ProgramFault::UnknownCommand(_, byte, word) => unknown_command(alloc, words, &[byte, word]),
         ProgramFault::UnknownLabel(_) => unknown_label(alloc, labels, words),
         ProgramFault::SameLabel(_) => same_label(alloc, labels, words),
         ProgramFault::NoEnd(_) => no_end(alloc, text),
         ProgramFault::TooLong(_) => too_long(alloc, text),
-        ProgramFault::BadOperand(_) => bad_operand(alloc, words),
+        ProgramFault::BadOperand(_, misfit) => bad_operand(words, misfit).told(alloc),
     }
 }
 
@@ -99,7 +107,7 @@ pub(crate) fn note_at(
     let said = line.unwrap_or("");
     let words = words_of(alloc, without_comment(said))?;
     let remark = remark_on(alloc, written, &words, fault)?;
-    let at = blamed_word(alloc, said, &words, fault)?;
+    let at = blamed_word(said, &words, fault);
     let note = note_on(alloc, Level::Error, "%program", number, line, remark)?;
     marked(alloc, note, at)
 }

@@ -1,22 +1,25 @@
 -- The instruction of a line, by its first word.
-use Rattle.std.specs.Prelude.{ℕ, ◌-◌, List, [], ◌∷◌, length, take, nat_lt, slice_index_or, Bool}
-use Rattle.std.specs.Prelude.{true, Option, Some, None, option_map, is_some, unwrap_or, Result, Ok}
+use Rattle.std.specs.Prelude.{ℕ, ◌-◌, ◌==◌, List, [], ◌∷◌, length, take, slice_index_or, Bool}
+use Rattle.std.specs.Prelude.{true, Option, Some, None, is_some, unwrap_or, Result, Ok}
 use Rattle.std.specs.Prelude.{Err, if◌then◌else◌, codes}
 use Rattle.std.specs.Str.{bytes_eq}
-use Rattle.texts.specs.Reading.{◌>>=◌, some_or}
+use Rattle.texts.specs.Reading.{◌>>=◌, some_or, value_if}
 use Rattle.texts.specs.Words.{named_among}
 use Rattle.board.specs.Boards.{Board}
 use Rattle.seq_program.specs.declared.fault.ProgramFault.{ProgramFault}
+use Rattle.seq_program.specs.declared.fault.Misfit.TheVariants as misfit
+use Rattle.seq_program.specs.declared.fault.Operand.TheVariants as operand
 use Rattle.seq_program.specs.declared.fault.ProgramFault.TheVariants.{BadOperand, UnknownWord}
-use Rattle.seq_program.specs.declared.line.MessageWord.{MessageWord}
-use Rattle.seq_program.specs.declared.line.MessageWord.TheVariants as message
-use Rattle.seq_program.specs.declared.line.JumpWord.{JumpWord}
-use Rattle.seq_program.specs.declared.line.JumpWord.TheVariants as jump
-use Rattle.seq_program.specs.declared.line.PlainWord.{PlainWord}
-use Rattle.seq_program.specs.declared.line.PlainWord.TheVariants as plain
+use Rattle.seq_program.specs.declared.line_word.MessageWord.{MessageWord}
+use Rattle.seq_program.specs.declared.line_word.MessageWord.TheVariants as message
+use Rattle.seq_program.specs.declared.line_word.JumpWord.{JumpWord}
+use Rattle.seq_program.specs.declared.line_word.JumpWord.TheVariants as jump
+use Rattle.seq_program.specs.declared.line_word.PlainWord.{PlainWord}
+use Rattle.seq_program.specs.declared.line_word.PlainWord.TheVariants as plain
 use Rattle.seq_program.specs.declared.line.Jump.{Jump}
 use Rattle.seq_program.specs.declared.line.LineInstr.{LineInstr}
 use Rattle.seq_program.specs.Operands.{label_of}
+use Rattle.seq_program.specs.WordCounts.{miscounted, message_count, jump_count}
 use Rattle.seq_program.specs.Labels.{Label, place_of}
 use Rattle.seq_program.specs.MessageLines.{Parsed, quick_of, send_of, receive_of, write_of, read_of}
 use Rattle.seq_program.specs.MessageLines.{call_of, block_write_of, block_read_of, block_call_of}
@@ -69,25 +72,28 @@ plain_words =
 abbrev pub plain_word : List ℕ → Option PlainWord
 plain_word word = named_among word plain_words
 
--- the label behind `else`
-abbrev pub else_label : List ℕ → List ℕ → Option (List ℕ)
-else_label word label = if bytes_eq word (codes "else") then label_of label else None
+-- a label, at the end of so many words
+unfoldable pub label_in : ℕ → ℕ → List ℕ → Result (List ℕ) ProgramFault
+label_in n at' word = some_or (BadOperand n (misfit.Word at' operand.Label)) (label_of word)
 
--- the words before `else L`, and the label
+-- the label behind `else`, at the end of so many words
+unfoldable pub else_label : ℕ → ℕ → List ℕ → List ℕ → Result (List ℕ) ProgramFault
+else_label n at' word label =
+    if bytes_eq word (codes "else") then label_in n at' label
+    else Err (BadOperand n (misfit.Word (at' - 1) operand.Else))
+
+-- the words before `else L`, and the label, of at least two words
 unfoldable pub split_else : ℕ → List (List ℕ) → Result (List (List ℕ) × List ℕ) ProgramFault
-split_else n words =
-    if nat_lt (length words) 2 then Err (BadOperand n)
-    else some_or (BadOperand n)
-    (option_map (λ label. (take (length words - 2) words, label)) (else_label
-    (slice_index_or words (length words - 2) []) (slice_index_or words (length words - 1) [])))
+split_else n words = do
+  label ← else_label n (length words) (slice_index_or words (length words - 2) [])
+      (slice_index_or words (length words - 1) [])
+  Ok (take (length words - 2) words, label)
 
--- the words before a label at the end, and the label
+-- the words before a label at the end, and the label, of at least one word
 unfoldable pub split_label : ℕ → List (List ℕ) → Result (List (List ℕ) × List ℕ) ProgramFault
-split_label n words =
-    if nat_lt (length words) 1 then Err (BadOperand n)
-    else some_or (BadOperand n)
-    (option_map (λ label. (take (length words - 1) words, label))
-    (label_of (slice_index_or words (length words - 1) [])))
+split_label n words = do
+  label ← label_in n (length words) (slice_index_or words (length words - 1) [])
+  Ok (take (length words - 1) words, label)
 
 abbrev pub message_line : Board → ℕ → MessageWord → ℕ → List (List ℕ) → Parsed
 message_line board n message.Quick place words = quick_of board n place words
@@ -130,13 +136,15 @@ line_instr is_known parsed = parsed >>= λ i. Ok (record { instr = i; is_known =
 unfoldable pub message_of : Board → List Label → ℕ → MessageWord → List (List ℕ)
     → Result LineInstr ProgramFault
 message_of board labels n word words = do
-  parts ← split_else n words
+  all ← value_if (miscounted n (message_count word)) (length words == message_count word) words
+  parts ← split_else n all
   line_instr (jump_to labels parts.1).is_known
       (message_line board n word (jump_to labels parts.1).place parts.0)
 
 unfoldable pub jump_of : List Label → ℕ → JumpWord → List (List ℕ) → Result LineInstr ProgramFault
 jump_of labels n word words = do
-  parts ← split_label n words
+  all ← value_if (miscounted n (jump_count word)) (length words == jump_count word) words
+  parts ← split_label n all
   line_instr (jump_to labels parts.1).is_known
       (jump_line n word (jump_to labels parts.1).place parts.0)
 

@@ -8,9 +8,9 @@ ghost use Rattle.seq_program.specs.JumpLines.{again_of, goto_of};
 
 use crate::fault::ProgramFault;
 use crate::instr::Instr;
-use crate::line_operand::{register_in, word_in};
+use crate::line_operand::{counter_in, register_in, word_in};
+use crate::line_word::JumpWord;
 use crate::message_line::Parsed;
-use crate::operand::counter_of;
 
 pub(crate) fn if_alert_of(line: usize, jump: usize, words: &[&str]) -> Parsed
     ensures fits { IfOk result (λ i. (targets : ℕ) → IsInstrOn targets i) }
@@ -19,7 +19,7 @@ pub(crate) fn if_alert_of(line: usize, jump: usize, words: &[&str]) -> Parsed
         (if_alert_of line jump (map (λ w. w.now) words.now)) }
 {
     if !words.is_empty() {
-        return Err(ProgramFault::BadOperand(line));
+        return Err(JumpWord::IfAlert.miscounted(line));
     }
     Ok(Instr::IfAlert { jump })
 }
@@ -30,8 +30,8 @@ fn bits_of(line: usize, mask: &str, value: &str) -> Result<(u16, u16), ProgramFa
     ensures value { Gives (λ bits. bits) result (bits_of line mask.now value.now) }
     ensures within { IfOk result (λ bits. (bits.0 ≤ 65535) × (bits.1 ≤ 65535)) }
 {
-    let mask = word_in(line, mask)?;
-    let value = word_in(line, value)?;
+    let mask = word_in(line, 2, mask)?;
+    let value = word_in(line, 3, value)?;
     Ok((mask, value))
 }
 
@@ -42,9 +42,9 @@ pub(crate) fn if_of(line: usize, jump: usize, words: &[&str]) -> Parsed
     ensures value { Gives (λ i. i) result (if_of line jump (map (λ w. w.now) words.now)) }
 {
     let [register, mask, value] = words else {
-        return Err(ProgramFault::BadOperand(line));
+        return Err(JumpWord::If.miscounted(line));
     };
-    let register = register_in(line, register)?;
+    let register = register_in(line, 1, register)?;
     let (mask, value) = bits_of(line, mask, value)?;
     Ok(Instr::If {
         register,
@@ -62,10 +62,10 @@ pub(crate) fn above_of(line: usize, jump: usize, words: &[&str]) -> Parsed
         (above_of line jump (map (λ w. w.now) words.now)) }
 {
     let [register, value] = words else {
-        return Err(ProgramFault::BadOperand(line));
+        return Err(JumpWord::Above.miscounted(line));
     };
-    let register = register_in(line, register)?;
-    let value = word_in(line, value)?;
+    let register = register_in(line, 1, register)?;
+    let value = word_in(line, 2, value)?;
     Ok(Instr::Above {
         register,
         value,
@@ -81,9 +81,9 @@ pub(crate) fn again_of(line: usize, jump: usize, words: &[&str]) -> Parsed
         (again_of line jump (map (λ w. w.now) words.now)) }
 {
     let [counter] = words else {
-        return Err(ProgramFault::BadOperand(line));
+        return Err(JumpWord::Again.miscounted(line));
     };
-    let counter = counter_of(counter).ok_or(ProgramFault::BadOperand(line))?;
+    let counter = counter_in(line, 1, counter)?;
     Ok(Instr::Again { counter, jump })
 }
 
@@ -94,7 +94,7 @@ pub(crate) fn goto_of(line: usize, jump: usize, words: &[&str]) -> Parsed
         (goto_of line jump (map (λ w. w.now) words.now)) }
 {
     if !words.is_empty() {
-        return Err(ProgramFault::BadOperand(line));
+        return Err(JumpWord::Goto.miscounted(line));
     }
     Ok(Instr::Goto { jump })
 }

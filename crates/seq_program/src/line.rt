@@ -1,57 +1,25 @@
 //! The instruction of a line, by its first word.
 
-ghost use Rattle.std.specs.Prelude.{◌≡◌, ℕ, length, map, option_copied, IfOk, IsTrue, None};
+ghost use Rattle.std.specs.Prelude.{◌≡◌, ℕ, ◌≤◌, length, map, IfOk, IsTrue, None};
 ghost use Rattle.seq_program.specs.Reading.{Gives};
 ghost use Rattle.seq_program.specs.Valid.{IsInstrOn, JumpsTo, jump_in};
 ghost use Rattle.seq_program.specs.PassViews.{labels_view, IsAmong, Lands};
-ghost use Rattle.seq_program.specs.Lines.{message_word, jump_word, plain_word, else_label};
-ghost use Rattle.seq_program.specs.Lines.{split_else, split_label, message_line, jump_line};
+ghost use Rattle.seq_program.specs.Lines.{label_in, else_label, split_else, split_label};
+ghost use Rattle.seq_program.specs.Lines.{message_line, jump_line};
 ghost use Rattle.seq_program.specs.Lines.{plain_line, jump_to, message_of, jump_of, instr_of};
 
-use crate::fault::ProgramFault;
+use crate::fault::{Operand, ProgramFault};
 use crate::instr::Instr;
 use crate::labels::{Labels, place_of};
+use crate::line_operand::bad_word;
+use crate::line_word::{
+    JumpWord, MessageWord, PlainWord, jump_word, message_word, miscounted, plain_word,
+};
 use crate::message_line::Parsed;
 use crate::operand::label_of;
 use crate::{jump_line as jump, message_line as message, plain_line as plain};
 use board::Board;
 use std::alloc::Global;
-
-/// The first word of a line that sends a message.
-#[derive(Clone, Copy)]
-pub(crate) enum MessageWord {
-    Quick,
-    Send,
-    Receive,
-    Write,
-    Read,
-    Call,
-    BlockWrite,
-    BlockRead,
-    BlockCall,
-    Alert,
-}
-
-/// The first word of a line that jumps and sends nothing.
-#[derive(Clone, Copy)]
-pub(crate) enum JumpWord {
-    IfAlert,
-    If,
-    Above,
-    Again,
-    Goto,
-}
-
-/// The first word of another line.
-#[derive(Clone, Copy)]
-pub(crate) enum PlainWord {
-    Set,
-    Add,
-    Count,
-    Wait,
-    End,
-    Fail,
-}
 
 /// Where a label leads: to some place if it stands nowhere.
 #[derive(Clone, Copy)]
@@ -67,59 +35,28 @@ pub(crate) struct LineInstr {
     pub is_known: bool,
 }
 
-fn message_word(word: &str) -> Option<MessageWord>
-    ensures { result ≡ message_word word.now }
+/// A label, which stands at the end of so many words.
+#[tactic(auto, unfolding(crate::specs::Lines::label_in))]
+fn label_in<'a>(line: usize, at: usize, word: &'a str) -> Result<&'a str, ProgramFault>
+    ensures { Gives (λ l. l.now) result (label_in line at word.now) }
 {
-    Some(match word {
-        "quick" => MessageWord::Quick,
-        "send" => MessageWord::Send,
-        "receive" => MessageWord::Receive,
-        "write" => MessageWord::Write,
-        "read" => MessageWord::Read,
-        "call" => MessageWord::Call,
-        "blockwrite" => MessageWord::BlockWrite,
-        "blockread" => MessageWord::BlockRead,
-        "blockcall" => MessageWord::BlockCall,
-        "alert" => MessageWord::Alert,
-        _ => return None,
-    })
+    label_of(word).ok_or(bad_word(line, at, Operand::Label))
 }
 
-fn jump_word(word: &str) -> Option<JumpWord>
-    ensures { result ≡ jump_word word.now }
+/// The label behind `else`, at the end of so many words.
+#[tactic(auto, unfolding(crate::specs::Lines::else_label))]
+fn else_label<'a>(
+    line: usize,
+    at: usize,
+    word: &str,
+    label: &'a str,
+) -> Result<&'a str, ProgramFault>
+    ensures { Gives (λ l. l.now) result (else_label line at word.now label.now) }
 {
-    Some(match word {
-        "ifalert" => JumpWord::IfAlert,
-        "if" => JumpWord::If,
-        "above" => JumpWord::Above,
-        "again" => JumpWord::Again,
-        "goto" => JumpWord::Goto,
-        _ => return None,
-    })
-}
-
-fn plain_word(word: &str) -> Option<PlainWord>
-    ensures { result ≡ plain_word word.now }
-{
-    Some(match word {
-        "set" => PlainWord::Set,
-        "add" => PlainWord::Add,
-        "count" => PlainWord::Count,
-        "wait" => PlainWord::Wait,
-        "end" => PlainWord::End,
-        "fail" => PlainWord::Fail,
-        _ => return None,
-    })
-}
-
-fn else_label<'a>(word: &str, label: &'a str) -> Option<&'a str>
-    ensures { option_copied result ≡ else_label word.now label.now }
-{
-    if word == "else" {
-        label_of(label)
-    } else {
-        None
+    if word != "else" {
+        return Err(bad_word(line, at.saturating_sub(1), Operand::Else));
     }
+    label_in(line, at, label)
 }
 
 /// The words before `else L`, and the label.
@@ -128,13 +65,14 @@ fn split_else<'w, 'a>(
     line: usize,
     words: &'w [&'a str],
 ) -> Result<(&'w [&'a str], &'a str), ProgramFault>
+    requires { 2 ≤ length words.now }
     ensures { Gives (λ parts. (map (λ w. w.now) parts.0.now, parts.1.now)) result
         (split_else line (map (λ w. w.now) words.now)) }
 {
     let [operands @ .., word, label] = words else {
-        return Err(ProgramFault::BadOperand(line));
+        return Err(miscounted(line, 2));
     };
-    let label = else_label(word, label).ok_or(ProgramFault::BadOperand(line))?;
+    let label = else_label(line, words.len(), word, label)?;
     Ok((operands, label))
 }
 
@@ -144,13 +82,14 @@ fn split_label<'w, 'a>(
     line: usize,
     words: &'w [&'a str],
 ) -> Result<(&'w [&'a str], &'a str), ProgramFault>
+    requires { 1 ≤ length words.now }
     ensures { Gives (λ parts. (map (λ w. w.now) parts.0.now, parts.1.now)) result
         (split_label line (map (λ w. w.now) words.now)) }
 {
     let [operands @ .., label] = words else {
-        return Err(ProgramFault::BadOperand(line));
+        return Err(miscounted(line, 1));
     };
-    let label = label_of(label).ok_or(ProgramFault::BadOperand(line))?;
+    let label = label_in(line, words.len(), label)?;
     Ok((operands, label))
 }
 
@@ -237,6 +176,9 @@ fn message_of(
     ensures value { Gives (λ found. found) result
         (message_of board.now (labels_view labels.now) line word (map (λ w. w.now) words.now)) }
 {
+    if words.len() != word.count() {
+        return Err(word.miscounted(line));
+    }
     let (operands, label) = split_else(line, words)?;
     let jump = jump_to(labels, label);
     let instr = message_line(alloc, board, line, word, jump.place, operands)?;
@@ -259,6 +201,9 @@ fn jump_of(
     ensures value { Gives (λ found. found) result
         (jump_of (labels_view labels.now) line word (map (λ w. w.now) words.now)) }
 {
+    if words.len() != word.count() {
+        return Err(word.miscounted(line));
+    }
     let (operands, label) = split_label(line, words)?;
     let jump = jump_to(labels, label);
     let instr = jump_line(line, word, jump.place, operands)?;

@@ -7,12 +7,15 @@ ghost use Rattle.seq_program.specs.Reading.{Gives};
 ghost use Rattle.seq_program.specs.Valid.{IsBlock};
 ghost use Rattle.seq_program.specs.CommandWords.{form_at, sized_in};
 ghost use Rattle.seq_program.specs.LineOperands.{target_of, number_in, word_in, register_in};
+ghost use Rattle.seq_program.specs.LineOperands.{counter_in};
+ghost use Rattle.seq_program.specs.declared.fault.Misfit.TheVariants as misfit;
+ghost use Rattle.seq_program.specs.declared.fault.ProgramFault.TheVariants.{BadOperand};
 ghost use Rattle.seq_program.specs.LineOperands.{block_in, command_to, sized_to};
 
 use crate::command::{command_in, sized_in};
-use crate::fault::ProgramFault;
-use crate::instr::{Block, Register, Width};
-use crate::operand::{block_of, number_within, register_of, word_within};
+use crate::fault::{Misfit, Operand, ProgramFault};
+use crate::instr::{Block, Counter, Register, Width};
+use crate::operand::{block_of, counter_of, number_within, register_of, word_within};
 use board::Board;
 use pmbus_table::Command;
 use smbus::Form;
@@ -33,6 +36,13 @@ pub(crate) struct SizedTo {
     pub width: Width,
 }
 
+/// Something else has to stand in the place of a word.
+pub(crate) fn bad_word(line: usize, at: usize, operand: Operand) -> ProgramFault
+    ensures { result ≡ BadOperand line (misfit.Word at operand) }
+{
+    ProgramFault::BadOperand(line, Misfit::Word(at, operand))
+}
+
 fn target_named(board: &Board, word: &str) -> Option<usize>
     ensures value { result ≡ place_of_name word.now board.now.target_names }
     ensures there { IfSome result (λ t. t < length board.now.targets) }
@@ -49,43 +59,69 @@ pub(crate) fn target_of(board: &Board, line: usize, word: &str) -> Result<usize,
 }
 
 #[tactic(auto, unfolding(crate::specs::LineOperands::number_in))]
-pub(crate) fn number_in(line: usize, low: u32, high: u32, word: &str) -> Result<u32, ProgramFault>
-    ensures value { Gives (λ n. n) result (number_in line low high word.now) }
+pub(crate) fn number_in(
+    line: usize,
+    at: usize,
+    low: u32,
+    high: u32,
+    word: &str,
+) -> Result<u32, ProgramFault>
+    ensures value { Gives (λ n. n) result (number_in line at low high word.now) }
     ensures within { IfOk result (λ n. (low ≤ n) × (n ≤ high)) }
 {
-    number_within(low, high, word).ok_or(ProgramFault::BadNumber(line))
+    number_within(low, high, word).ok_or(ProgramFault::BadNumber {
+        line,
+        word: at,
+        low,
+        high,
+    })
 }
 
 /// A number of 16 bits of a range.
 #[tactic(auto, unfolding(crate::specs::LineOperands::number_in))]
 pub(crate) fn word_between(
     line: usize,
+    at: usize,
     low: u16,
     high: u16,
     word: &str,
 ) -> Result<u16, ProgramFault>
-    ensures value { Gives (λ n. n) result (number_in line low high word.now) }
+    ensures value { Gives (λ n. n) result (number_in line at low high word.now) }
     ensures within { IfOk result (λ n. (low ≤ n) × (n ≤ high)) }
 {
-    word_within(low, high, word).ok_or(ProgramFault::BadNumber(line))
+    word_within(low, high, word).ok_or(ProgramFault::BadNumber {
+        line,
+        word: at,
+        low: u32::from(low),
+        high: u32::from(high),
+    })
 }
 
 /// A number of 16 bits.
 #[tactic(auto, unfolding(crate::specs::LineOperands::word_in))]
-pub(crate) fn word_in(line: usize, word: &str) -> Result<u16, ProgramFault>
-    ensures value { Gives (λ n. n) result (word_in line word.now) }
+pub(crate) fn word_in(line: usize, at: usize, word: &str) -> Result<u16, ProgramFault>
+    ensures value { Gives (λ n. n) result (word_in line at word.now) }
     ensures within { IfOk result (λ n. n ≤ 65535) }
 {
-    word_between(line, 0, u16::MAX, word)
+    word_between(line, at, 0, u16::MAX, word)
 }
 
 /// A register.
 #[tactic(auto, unfolding(crate::specs::LineOperands::register_in))]
-pub(crate) fn register_in(line: usize, word: &str) -> Result<Register, ProgramFault>
-    ensures value { Gives (λ r. r) result (register_in line word.now) }
+pub(crate) fn register_in(line: usize, at: usize, word: &str) -> Result<Register, ProgramFault>
+    ensures value { Gives (λ r. r) result (register_in line at word.now) }
     ensures small { IfOk result (λ r. r < 8) }
 {
-    register_of(word).ok_or(ProgramFault::BadOperand(line))
+    register_of(word).ok_or(bad_word(line, at, Operand::Register))
+}
+
+/// A counter.
+#[tactic(auto, unfolding(crate::specs::LineOperands::counter_in))]
+pub(crate) fn counter_in(line: usize, at: usize, word: &str) -> Result<Counter, ProgramFault>
+    ensures value { Gives (λ c. c) result (counter_in line at word.now) }
+    ensures small { IfOk result (λ c. c < 4) }
+{
+    counter_of(word).ok_or(bad_word(line, at, Operand::Counter))
 }
 
 /// At most so many bytes.
@@ -93,14 +129,15 @@ pub(crate) fn register_in(line: usize, word: &str) -> Result<Register, ProgramFa
 pub(crate) fn block_in(
     alloc: Global,
     line: usize,
+    at: usize,
     most: usize,
     word: &str,
 ) -> Result<Block, ProgramFault>
     requires { most ≤ 255 }
-    ensures value { Gives (λ b. b) result (block_in line most word.now) }
+    ensures value { Gives (λ b. b) result (block_in line at most word.now) }
     ensures block { IfOk result (λ b. IsBlock most b) }
 {
-    block_of(alloc, most, word)?.ok_or(ProgramFault::BadOperand(line))
+    block_of(alloc, most, word)?.ok_or(bad_word(line, at, Operand::Bytes(most)))
 }
 
 /// A target, and a command that takes a form.
@@ -117,7 +154,7 @@ pub(crate) fn command_to(
     ensures taken { IfOk result (λ s. IsTrue (takes_form s.command form)) }
 {
     let target = target_of(board, line, target)?;
-    let command = command_in(form, command).ok_or(ProgramFault::UnknownCommand(line))?;
+    let command = command_in(form, command).ok_or(ProgramFault::UnknownCommand(line, form, form))?;
     Ok(CommandTo { target, command })
 }
 
@@ -141,7 +178,9 @@ pub(crate) fn sized_to(
     ensures taken { IfOk result (λ s. IsTrue (takes_form s.command (form_at byte word s.width))) }
 {
     let target = target_of(board, line, target)?;
-    let (command, width) = sized_in(byte, word, command).ok_or(ProgramFault::UnknownCommand(line))?;
+    let (command, width) = sized_in(byte, word, command).ok_or(ProgramFault::UnknownCommand(
+        line, byte, word,
+    ))?;
     Ok(SizedTo {
         target,
         command,

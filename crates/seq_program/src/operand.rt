@@ -25,7 +25,7 @@ fn numbered(letter: u8, limit: u8, word: &str) -> Option<u8>
 }
 
 /// r0 to r7.
-pub fn register_of(word: &str) -> Option<Register>
+pub(crate) fn register_of(word: &str) -> Option<Register>
     ensures value { result ≡ register_of word.now }
     ensures small { IfSome result (λ r. r < 8) }
 {
@@ -34,7 +34,7 @@ pub fn register_of(word: &str) -> Option<Register>
 }
 
 /// c0 to c3.
-pub fn counter_of(word: &str) -> Option<Counter>
+pub(crate) fn counter_of(word: &str) -> Option<Counter>
     ensures value { result ≡ counter_of word.now }
     ensures small { IfSome result (λ c. c < 4) }
 {
@@ -50,7 +50,7 @@ pub(crate) fn label_of(word: &str) -> Option<&str>
 }
 
 /// Whether a quick command reads.
-pub fn direction_of(word: &str) -> Option<bool>
+pub(crate) fn direction_of(word: &str) -> Option<bool>
     ensures { result ≡ direction_of word.now }
 {
     match word {
@@ -127,7 +127,7 @@ pub(crate) fn word_within(low: u16, high: u16, word: &str) -> Option<u16>
 
 /// As many bytes as pairs of digits spell, one at least, and not more than `most`. Fails only for
 /// want of memory.
-pub fn block_of(alloc: Global, most: usize, word: &str) -> Result<Option<Block>, AllocError>
+pub(crate) fn block_of(alloc: Global, most: usize, word: &str) -> Result<Option<Block>, AllocError>
     requires { most ≤ 255 }
     ensures value { IfOk result (λ block. block ≡ block_of most word.now) }
     ensures sized { IfOk result

@@ -5,11 +5,10 @@ ghost use Rattle.seq_program.specs.Reading.{Gives};
 ghost use Rattle.seq_program.specs.Valid.{IsInstrOn, jump_in};
 ghost use Rattle.seq_program.specs.PlainLines.{set_of, add_of, count_of, wait_of, end_of, fail_of};
 
-use crate::fault::ProgramFault;
 use crate::instr::{Instr, MOST_TURNS};
-use crate::line_operand::{number_in, register_in, word_between, word_in};
+use crate::line_operand::{counter_in, number_in, register_in, word_between, word_in};
+use crate::line_word::miscounted;
 use crate::message_line::Parsed;
-use crate::operand::counter_of;
 
 #[tactic(auto, unfolding(crate::specs::PlainLines::set_of))]
 pub(crate) fn set_of(line: usize, words: &[&str]) -> Parsed
@@ -19,10 +18,10 @@ pub(crate) fn set_of(line: usize, words: &[&str]) -> Parsed
         (set_of line (map (λ w. w.now) words.now)) }
 {
     let [register, value] = words else {
-        return Err(ProgramFault::BadOperand(line));
+        return Err(miscounted(line, 2));
     };
-    let register = register_in(line, register)?;
-    let value = word_in(line, value)?;
+    let register = register_in(line, 1, register)?;
+    let value = word_in(line, 2, value)?;
     Ok(Instr::Set { register, value })
 }
 
@@ -34,10 +33,10 @@ pub(crate) fn add_of(line: usize, words: &[&str]) -> Parsed
         (add_of line (map (λ w. w.now) words.now)) }
 {
     let [register, value] = words else {
-        return Err(ProgramFault::BadOperand(line));
+        return Err(miscounted(line, 2));
     };
-    let register = register_in(line, register)?;
-    let value = word_in(line, value)?;
+    let register = register_in(line, 1, register)?;
+    let value = word_in(line, 2, value)?;
     Ok(Instr::Add { register, value })
 }
 
@@ -49,10 +48,10 @@ pub(crate) fn count_of(line: usize, words: &[&str]) -> Parsed
         (count_of line (map (λ w. w.now) words.now)) }
 {
     let [counter, value] = words else {
-        return Err(ProgramFault::BadOperand(line));
+        return Err(miscounted(line, 2));
     };
-    let counter = counter_of(counter).ok_or(ProgramFault::BadOperand(line))?;
-    let value = word_between(line, 0, MOST_TURNS, value)?;
+    let counter = counter_in(line, 1, counter)?;
+    let value = word_between(line, 2, 0, MOST_TURNS, value)?;
     Ok(Instr::Count { counter, value })
 }
 
@@ -64,9 +63,9 @@ pub(crate) fn wait_of(line: usize, words: &[&str]) -> Parsed
         (wait_of line (map (λ w. w.now) words.now)) }
 {
     let [ticks] = words else {
-        return Err(ProgramFault::BadOperand(line));
+        return Err(miscounted(line, 1));
     };
-    let ticks = number_in(line, 1, 10_000_000, ticks)?;
+    let ticks = number_in(line, 1, 1, 10_000_000, ticks)?;
     Ok(Instr::Wait { ticks })
 }
 
@@ -77,7 +76,7 @@ pub(crate) fn end_of(line: usize, words: &[&str]) -> Parsed
         (end_of line (map (λ w. w.now) words.now)) }
 {
     if !words.is_empty() {
-        return Err(ProgramFault::BadOperand(line));
+        return Err(miscounted(line, 0));
     }
     Ok(Instr::End)
 }
@@ -89,7 +88,7 @@ pub(crate) fn fail_of(line: usize, words: &[&str]) -> Parsed
         (fail_of line (map (λ w. w.now) words.now)) }
 {
     if !words.is_empty() {
-        return Err(ProgramFault::BadOperand(line));
+        return Err(miscounted(line, 0));
     }
     Ok(Instr::Fail)
 }

@@ -11,7 +11,7 @@ use crate::session_rows::input_of;
 use board::{BoardFault, read_board};
 use bundles::{BundleFault, Header};
 use diagnostics::{board_note, bundle_note, program_note};
-use seq_program::{ProgramFault, read_program};
+use seq_program::{Misfit, ProgramFault, read_program};
 use session::judge;
 use std::alloc::{AllocError, Global};
 use std::process::Abort;
@@ -131,7 +131,7 @@ fn other_note(alloc: Global, fault: ProgramFault) -> Noted {
 /// Faults that a text hasn't have a note all the same, but for Memory.
 #[test]
 fn other_faults(rt: HostRuntime) {
-    let note = other_note(rt.alloc(), ProgramFault::BadOperand(7));
+    let note = other_note(rt.alloc(), ProgramFault::BadOperand(7, Misfit::Count(0)));
     notes(&rt, note, Some("%program:7: error: a bad operand\n"));
     notes(&rt, other_note(rt.alloc(), ProgramFault::Memory), None);
     notes(&rt, memory_note(rt.alloc()), None);

@@ -1,9 +1,10 @@
+mod faults;
+
 use crate::boards::two_board;
 use crate::expected::same;
-use board::{Board, BoardFault};
+use board::Board;
 use seq_program::{
-    Content, Instr, Program, ProgramFault, Request, Width, command_in, counter_of, direction_of,
-    label_in, message_of, number_within, other_faults, read_program, register_of, sized_in,
+    Content, Instr, Program, Request, label_in, message_of, number_within, read_program,
 };
 use smbus::Form;
 use std::alloc::Global;
@@ -298,125 +299,14 @@ fn plain_lines(rt: HostRuntime) {
     same(&rt, compare_plain(&rt, rt.alloc()), Some(()));
 }
 
-/// The fault of a text on TWO.
-fn fault_of(alloc: Global, text: &str) -> Result<Option<ProgramFault>, BoardFault> {
-    let board = two_board(alloc)?;
-    Ok(read_program(alloc, &board, text).err())
-}
-
-/// Five lines that can't be read, one of them twice a label.
-const FIVE_FAULTS: &str = "goo
-read a STATUS_WORD r0 else nowhere
-wait 5ms
-end
-x:
-x:
-set r9 1
-fail
-";
-
-/// The faults of the other lines than this: so many of them at most, and how many there are more.
-fn others_than(
-    alloc: Global,
-    line: usize,
-    most: usize,
-) -> Result<(Vec<ProgramFault>, usize), BoardFault> {
-    let board = two_board(alloc)?;
-    let faults = other_faults(alloc, &board, FIVE_FAULTS, line, most)?;
-    Ok((faults.first, faults.more))
-}
-
-fn others_are(
-    rt: &impl Abort,
-    alloc: Global,
-    (line, most): (usize, usize),
-    want: (&[ProgramFault], usize),
-) {
-    match others_than(alloc, line, most) {
-        Ok((first, more)) => same(rt, (first.as_slice(), more), want),
-        Err(_) => panic!(rt; "no memory"),
-    }
-}
-
-static BEHIND_THE_FIRST: [ProgramFault; 4] = [
-    ProgramFault::UnknownLabel(2),
-    ProgramFault::BadNumber(3),
-    ProgramFault::SameLabel(6),
-    ProgramFault::BadOperand(7),
-];
-
 #[test]
-fn faults_of_other_lines(rt: HostRuntime) {
-    let all = BEHIND_THE_FIRST.as_slice();
-    let first = Ok(Some(ProgramFault::UnknownWord(1)));
-    same(&rt, fault_of(rt.alloc(), FIVE_FAULTS), first);
-    others_are(&rt, rt.alloc(), (1, 19), (all, 0));
-    others_are(&rt, rt.alloc(), (1, 4), (all, 0));
-    others_are(&rt, rt.alloc(), (1, 3), (&all[..3], 1));
-    others_are(&rt, rt.alloc(), (4, 0), (&[], 5));
-}
-
-/// A carriage return is a character like any other.
-#[test]
-fn faults(rt: HostRuntime) {
-    let first = ProgramFault::UnknownWord(1);
-    same(&rt, fault_of(rt.alloc(), "end\r\n"), Ok(Some(first)));
-    let second = ProgramFault::UnknownWord(2);
-    same(
-        &rt,
-        fault_of(rt.alloc(), "end # a comment\r\nend\r"),
-        Ok(Some(second)),
-    );
-    same(
-        &rt,
-        fault_of(rt.alloc(), ""),
-        Ok(Some(ProgramFault::NoEnd(0))),
-    );
-}
-
-#[test]
-fn numbers_and_names_of_faults(rt: HostRuntime) {
-    let fault = ProgramFault::UnknownWord(2);
-    same(&rt, (fault.number(), fault.line()), (2, Some(2)));
-    same(&rt, fault.name(), "UnknownWord");
-}
-
-fn register_in(word: &str) -> Option<usize> {
-    Some(register_of(word)?.index())
-}
-
-fn counter_in(word: &str) -> Option<usize> {
-    Some(counter_of(word)?.index())
-}
-
-#[test]
-fn operands(rt: HostRuntime) {
-    same(&rt, (register_in("r7"), register_in("r8")), (Some(7), None));
-    same(&rt, (counter_in("c3"), counter_in("c4")), (Some(3), None));
-    same(&rt, direction_of("r"), Some(true));
+fn numbers(rt: HostRuntime) {
     same(&rt, number_within(1, 1000, "0x3e8"), Some(1000));
     same(&rt, number_within(1, 1000, "1001"), None);
 }
 
-fn code_in(word: &str) -> Option<u8> {
-    Some(command_in(Form::WriteByte, word)?.code())
-}
-
-fn size_in(word: &str) -> Option<(u8, Width)> {
-    let (command, width) = sized_in(Form::WriteByte, Form::WriteWord, word)?;
-    Some((command.code(), width))
-}
-
 #[test]
-fn commands(rt: HostRuntime) {
-    same(&rt, code_in("WRITE_PROTECT"), Some(0x10));
-    same(&rt, code_in("VOUT_COMMAND"), None);
-    same(&rt, size_in("VOUT_COMMAND"), Some((0x21, Width::Word)));
-    same(&rt, size_in("D0b"), Some((0xD0, Width::Byte)));
-}
-
-#[test]
-fn labels_and_comments(rt: HostRuntime) {
+fn labels(rt: HostRuntime) {
     same(&rt, label_in(&["again:"]), Some("again"));
     same(&rt, label_in(&["again:", "end"]), None);
 }

@@ -1,8 +1,8 @@
 //! Texts that are no TOML document.
 
 use crate::boards::finding::Finding;
-use crate::program::operand::operands_of;
 use crate::program::unknown_word::SWAPPED;
+use crate::program::usage::usage_of;
 use crate::remark::Remark;
 use notes::line_at;
 use std::alloc::{AllocError, Global};
@@ -36,7 +36,7 @@ fn line_help(line: &str) -> Option<&'static str> {
         return Some("each target begins with a line [[target]], each rail with [[rail]]");
     }
     let word = cut_at_space(line).map_or(line, |(word, _)| word);
-    if operands_of(word).is_some() || word.ends_with(':') {
+    if usage_of(word).is_some() || word.ends_with(':') {
         return Some(SWAPPED);
     }
     None

@@ -5,7 +5,6 @@ use crate::boards::describe::shown;
 use crate::boards::twice::{first_alike, same_page};
 use crate::form::NAMES;
 use crate::listing::quoted;
-use crate::program::operand::Operand;
 use crate::program::unknown_command::{command_help, forms_help};
 use crate::remark::Remark;
 use crate::sentence::Word::{Name, Number, Text};
@@ -69,7 +68,7 @@ pub(crate) fn unknown_command(alloc: Global, blamed: &Blamed<'_>) -> Result<Rema
         return other_form(blamed, command).told(alloc);
     }
     let help = match form_named(blamed.text(Key::Form)) {
-        Some(form) => command_help(alloc, word, Operand::Command(form), MANUFACTURER_RULE)?,
+        Some(form) => command_help(alloc, word, &[form], MANUFACTURER_RULE)?,
         None => None,
     };
     say!["unknown command " {Name(word)} " of " {blamed.word()}].helped_by(alloc, help)

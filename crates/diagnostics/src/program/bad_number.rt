@@ -1,75 +1,22 @@
 //! A word that is no number, or one that can't stand in its place.
 
 use crate::program::habit::habit_in;
-use crate::program::operand::{Operand, operands_of};
 use crate::program::units::{mantissa_help, ticks_help};
-use crate::remark::Remark;
 use crate::sentence::Word::{Name, Number, Text};
 use crate::sentence::{Advice, Sentence, say};
 use board::Board;
-use seq_program::{Width, number_within, sized_in};
-use smbus::Form;
-use std::alloc::{AllocError, Global};
+use seq_program::number_within;
 
 /// How a number is written.
 const FORM: &str =
     "a number is decimal without leading zeros, or 0x and one to four hexadecimal digits";
 
-/// The greatest number that a command writes.
-fn most_written(command: &str) -> u32 {
-    match sized_in(Form::WriteByte, Form::WriteWord, command) {
-        Some((_, Width::Byte)) => 255,
-        _ => 65_535,
-    }
-}
-
-/// The range of an operand that is a number.
-fn range_of(operand: Operand, command: Option<&str>) -> Option<(u32, u32)> {
-    match operand {
-        Operand::Number(low, high) => Some((low, high)),
-        Operand::Mask => Some((0, 65_535)),
-        Operand::Written => Some((0, most_written(command.unwrap_or("")))),
-        _ => None,
-    }
-}
-
-/// A word in the place of a number, the number of that place, and its range.
+/// A word in the place of a number, and the least and the most that may stand there.
 #[derive(Clone, Copy)]
-struct Misplaced<'a> {
-    word: &'a str,
-    at: usize,
-    low: u32,
-    high: u32,
-}
-
-/// The first word that is no number of its range.
-fn first_misplaced<'a>(operands: &[Operand], words: &[&'a str]) -> Option<Misplaced<'a>> {
-    let command = words.get(1).copied();
-    for (at, (operand, word)) in operands.iter().zip(words).enumerate() {
-        match range_of(*operand, command) {
-            Some((low, high)) if number_within(low, high, word).is_none() => {
-                return Some(Misplaced {
-                    word,
-                    at,
-                    low,
-                    high,
-                });
-            }
-            _ => {}
-        }
-    }
-    None
-}
-
-/// The same behind an instruction.
-fn misplaced_in<'a>(words: &[&'a str]) -> Option<Misplaced<'a>> {
-    let (instruction, words) = words.split_first()?;
-    first_misplaced(operands_of(instruction)?, words)
-}
-
-/// The number of that word in its line.
-pub(crate) fn misplaced_at(words: &[&str]) -> Option<usize> {
-    misplaced_in(words)?.at.checked_add(1)
+pub(crate) struct Misplaced<'a> {
+    pub word: &'a str,
+    pub low: u32,
+    pub high: u32,
 }
 
 /// How a command of the instruction `write` is written, where that is the word's.
@@ -122,24 +69,16 @@ fn number_help<'a>(
 }
 
 /// What is said of a word in a line that stands in the place of a number.
-fn advice_on<'a>(board: &Board, words: &[&'a str], misplaced: Misplaced<'a>) -> Advice<'a> {
+pub(crate) fn bad_number<'a>(
+    board: &Board,
+    words: &[&'a str],
+    misplaced: Misplaced<'a>,
+) -> Advice<'a> {
     Advice {
         message: say![
             "expected a number from " {Number(u64::from(misplaced.low))} " to "
             {Number(u64::from(misplaced.high))} ", found " {Name(misplaced.word)}
         ],
         help: number_help(board, words, misplaced),
-    }
-}
-
-/// What is said of a line with such a word.
-pub(crate) fn bad_number(
-    alloc: Global,
-    board: &Board,
-    words: &[&str],
-) -> Result<Remark, AllocError> {
-    match misplaced_in(words) {
-        Some(misplaced) => advice_on(board, words, misplaced).told(alloc),
-        None => Remark::plain(alloc, "a bad number"),
     }
 }

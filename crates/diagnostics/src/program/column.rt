@@ -1,25 +1,15 @@
 //! The word of a line that is to blame for a fault.
 
-use crate::program::bad_number::misplaced_at;
-use crate::program::bad_operand::misfit_at;
-use seq_program::ProgramFault;
-use std::alloc::{AllocError, Global};
+use seq_program::{Misfit, ProgramFault};
 use texts::without_comment;
 
-/// The number of the word that is to blame, among those of a line.
-fn number_of(
-    alloc: Global,
-    words: &[&str],
-    fault: ProgramFault,
-) -> Result<Option<usize>, AllocError> {
+/// The number of the word that is to blame, among those of a line. Of too many words it is the
+/// first that is one too many.
+fn number_of(words: &[&str], fault: ProgramFault) -> Option<usize> {
     match fault {
-        ProgramFault::UnknownWord(_) | ProgramFault::SameLabel(_) => Ok(Some(0)),
-        ProgramFault::UnknownTarget(_) => Ok(Some(1)),
-        ProgramFault::UnknownCommand(_) => Ok(Some(2)),
-        ProgramFault::UnknownLabel(_) => Ok(words.len().checked_sub(1)),
-        ProgramFault::BadOperand(_) => misfit_at(alloc, words),
-        ProgramFault::BadNumber(_) => Ok(misplaced_at(words)),
-        ProgramFault::NoEnd(_) | ProgramFault::TooLong(_) | ProgramFault::Memory => Ok(None),
+        ProgramFault::UnknownLabel(_) => words.len().checked_sub(1),
+        ProgramFault::BadOperand(_, Misfit::Count(count)) => count.checked_add(1),
+        fault => fault.word(),
     }
 }
 
@@ -42,13 +32,9 @@ pub(crate) fn word_at(line: &str, number: usize) -> Option<(&str, &str)> {
 /// The word of a line that is to blame for its fault, with what stands before it. None where it is
 /// the whole line.
 pub(crate) fn blamed_word<'a>(
-    alloc: Global,
     line: &'a str,
     words: &[&str],
     fault: ProgramFault,
-) -> Result<Option<(&'a str, &'a str)>, AllocError> {
-    match number_of(alloc, words, fault)? {
-        Some(number) => Ok(word_at(without_comment(line), number)),
-        None => Ok(None),
-    }
+) -> Option<(&'a str, &'a str)> {
+    word_at(without_comment(line), number_of(words, fault)?)
 }

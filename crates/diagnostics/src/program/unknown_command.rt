@@ -1,6 +1,5 @@
 //! A word that is no command, or a command without the form of the instruction.
 
-use crate::program::operand::{Operand, operands_of};
 use crate::remark::Remark;
 use crate::sentence::Word::{Name, Text};
 use crate::sentence::{Advice, Sentence, Word, say, told};
@@ -14,21 +13,17 @@ use texts::pair_of;
 const MANUFACTURER_RULE: &str =
     "manufacturer commands are D0 to FD, and in \"write\" and \"read\" b or w stands behind them";
 
-/// Whether an operand takes the command.
-fn takes(operand: Operand, command: Command) -> bool {
-    match operand {
-        Operand::Command(form) => command.takes(form),
-        Operand::Sized(byte, word) => command.takes(byte) || command.takes(word),
-        _ => false,
-    }
+/// Whether a command takes one of some forms.
+fn takes(command: Command, forms: &[Form]) -> bool {
+    forms.iter().any(|form| command.takes(*form))
 }
 
-/// The names of the table's commands that the operand takes.
-fn command_names(alloc: Global, operand: Operand) -> Result<Vec<String>, AllocError> {
+/// The names of the table's commands that take one of some forms.
+fn command_names(alloc: Global, forms: &[Form]) -> Result<Vec<String>, AllocError> {
     let mut names = Vec::new(alloc);
     for code in 0..=u8::MAX {
         match by_code(code) {
-            Some(command) if !command.is_manufacturer() && takes(operand, command) => {
+            Some(command) if !command.is_manufacturer() && takes(command, forms) => {
                 names.push(name_of(alloc, command)?)?;
             }
             _ => {}
@@ -41,9 +36,9 @@ fn command_names(alloc: Global, operand: Operand) -> Result<Vec<String>, AllocEr
 fn command_suggestion(
     alloc: Global,
     word: &str,
-    operand: Operand,
+    forms: &[Form],
 ) -> Result<Option<String>, AllocError> {
-    let names = command_names(alloc, operand)?;
+    let names = command_names(alloc, forms)?;
     let mut candidates = Vec::new(alloc);
     for name in &names {
         candidates.push(name.as_str())?;
@@ -133,7 +128,7 @@ fn code_of(word: &str) -> Option<u8> {
 pub(crate) fn command_help(
     alloc: Global,
     word: &str,
-    operand: Operand,
+    forms: &[Form],
     rule: &'static str,
 ) -> Result<Option<String>, AllocError> {
     if let Some(digits) = digits_of(word) {
@@ -148,21 +143,22 @@ pub(crate) fn command_help(
             let sentence = say!["did you mean \"" {Word::Command(code)} "\"?"];
             told(alloc, Some(sentence))
         }
-        None => command_suggestion(alloc, word, operand),
+        None => command_suggestion(alloc, word, forms),
     }
 }
 
-/// What is said of a line with such a word.
-pub(crate) fn unknown_command(alloc: Global, words: &[&str]) -> Result<Remark, AllocError> {
+/// What is said of a line with such a word, in the place of a command that takes one of some forms.
+pub(crate) fn unknown_command(
+    alloc: Global,
+    words: &[&str],
+    forms: &[Form],
+) -> Result<Remark, AllocError> {
     let [instruction, _, word, ..] = words else {
         return Remark::plain(alloc, "unknown command");
     };
     if let Some(command) = by_name(word) {
         return known_command(instruction, word, command).told(alloc);
     }
-    let help = match operands_of(instruction) {
-        Some([_, operand, ..]) => command_help(alloc, word, *operand, MANUFACTURER_RULE)?,
-        _ => None,
-    };
+    let help = command_help(alloc, word, forms, MANUFACTURER_RULE)?;
     say!["unknown command " {Name(word)}].helped_by(alloc, help)
 }

@@ -1,7 +1,7 @@
 //! A first word that is no instruction's, on a line that is no label.
 
 use crate::program::habit::habit_in;
-use crate::program::operand::instruction_words;
+use crate::program::usage::instruction_words;
 use crate::remark::{Remark, help_of};
 use crate::sentence::Word::{Name, Text};
 use crate::sentence::{say, told};

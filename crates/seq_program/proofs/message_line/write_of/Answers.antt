@@ -1,7 +1,7 @@
 use Rattle.std.proofs.Common.{◌≡◌, Some, ok_or, sym, ap, ◌∙◌}
 use Rattle.seq_program.specs.declared.fault.ProgramFault.TheVariants.{BadNumber}
-use Rattle.seq_program.specs.MessageLines.{write_of}
-use Rattle.seq_program.proofs.ElseWords.{some_of_ok}
+use Rattle.seq_program.specs.MessageLines.{most_in, write_of}
+use Rattle.seq_program.proofs.Options.{some_of_ok}
 use Rattle.seq_program.proofs.LineWords.{three_words, passed_on, some_or_fault}
 use Rattle.seq_program.proofs.WrittenValues.{written_fits}
 use Rattle.seq_program.proofs.message_line.write_of.Goals as goal
@@ -21,8 +21,10 @@ pub returns-clause-value : goal.returns-clause-value
 unfolding write_of
 returns-clause-value c =
     let read =
-    some_or_fault (BadNumber c.args.line) _
-    ∙ ap (λ o. ok_or o (BadNumber c.args.line)) (sym c.written_of.ensures)
+    some_or_fault (BadNumber c.args.line 3 0 (most_in c.in_ok-to.to.width)) _
+    ∙ ap (λ o. ok_or o (BadNumber c.args.line 3 0 (most_in c.in_ok-to.to.width)))
+    (sym c.written_of.ensures)
+    ∙ ap (λ f. ok_or c.written_of.result f) (sym c.bad_written.ensures)
     ∙ sym c.ok_or.ensures.value
     ∙ c.in_ok-value.was in
     rw (
@@ -56,8 +58,10 @@ pub returns-in_err-value-clause-value : goal.returns-in_err-value-clause-value
 unfolding write_of
 returns-in_err-value-clause-value c =
     let read =
-    some_or_fault (BadNumber c.args.line) _
-    ∙ ap (λ o. ok_or o (BadNumber c.args.line)) (sym c.written_of.ensures)
+    some_or_fault (BadNumber c.args.line 3 0 (most_in c.in_ok-to.to.width)) _
+    ∙ ap (λ o. ok_or o (BadNumber c.args.line 3 0 (most_in c.in_ok-to.to.width)))
+    (sym c.written_of.ensures)
+    ∙ ap (λ f. ok_or c.written_of.result f) (sym c.bad_written.ensures)
     ∙ sym c.ok_or.ensures.value
     ∙ c.in_err-value.was in
     passed_on (λ i. i) c.from_residual-in_err-value.result c.in_err-value.field-0.0 _
