@@ -62,4 +62,6 @@ mod targets_rows;
 #[cfg(test)]
 mod texts_rows;
 #[cfg(test)]
+mod ways_rows;
+#[cfg(test)]
 mod wires_rows;

@@ -2,14 +2,13 @@
 
 use crate::refusal::facts_here::target_word;
 use crate::refusal::roads::Judged;
-use crate::refusal::starts::are_apart;
-use crate::refusal::trail::{Trail, Trails};
 use crate::sentence::Word::{Count, Pages, Protects};
 use crate::sentence::{Sentence, say, told};
 use board::{Board, Target};
 use facts::Row;
 use seq_program::Instr;
 use std::alloc::{AllocError, Global};
+use ways::Step;
 
 /// So many branches at most are told, the last ones.
 const MOST_TOLD: usize = 4;
@@ -63,11 +62,10 @@ fn branch_of(instr: &Instr, place: usize, to: usize, edge: usize, edges: usize) 
     }
 }
 
-/// What the instruction of a trail's place came to, which led to the next trail.
-fn branch_at(judged: Judged<'_>, trails: &Trails, trail: Trail, next: Trail) -> Option<Branch> {
-    let instr = judged.program.at(trail.place)?;
-    let edges = trails.edges_to(next).len();
-    branch_of(instr, trail.place, next.place, next.edge, edges)
+/// What the instruction of a step's place came to, which led to the next step.
+fn branch_at(judged: Judged<'_>, step: &Step, next: &Step) -> Option<Branch> {
+    let instr = judged.program.at(step.place)?;
+    branch_of(instr, step.place, next.place, next.edge, next.edges)
 }
 
 /// Adds a branch to those that were taken.
@@ -87,16 +85,11 @@ fn take(taken: &mut Vec<Taken>, place: usize, branch: Branch) -> Result<(), Allo
 }
 
 /// The branches of a way that its lines don't tell, in the order in which they are first taken.
-fn branches_of(
-    alloc: Global,
-    judged: Judged<'_>,
-    trails: &Trails,
-    way: &[Trail],
-) -> Result<Vec<Taken>, AllocError> {
+fn branches_of(alloc: Global, judged: Judged<'_>, way: &[Step]) -> Result<Vec<Taken>, AllocError> {
     let mut taken = Vec::new(alloc);
-    for (trail, next) in way.iter().zip(way.iter().skip(1)) {
-        if let Some(branch) = branch_at(judged, trails, *trail, *next) {
-            take(&mut taken, trail.place, branch)?;
+    for (step, next) in way.iter().zip(way.iter().skip(1)) {
+        if let Some(branch) = branch_at(judged, step, next) {
+            take(&mut taken, step.place, branch)?;
         }
     }
     Ok(taken)
@@ -136,10 +129,9 @@ pub(crate) fn push_branches(
     text: &mut String,
     judged: Judged<'_>,
     lines: &[usize],
-    trails: &Trails,
-    way: &[Trail],
+    way: &[Step],
 ) -> Result<(), AllocError> {
-    let taken = branches_of(alloc, judged, trails, way)?;
+    let taken = branches_of(alloc, judged, way)?;
     let first = taken.len().saturating_sub(MOST_TOLD);
     for taken in taken.iter().skip(first) {
         push_branch(alloc, text, lines, taken)?;
@@ -154,11 +146,13 @@ fn page_start<'a>(
     index: usize,
     target: &Target,
 ) -> Option<Sentence<'a>> {
-    if target.start_pages().len() < 2 {
+    let pages = row.pages.get(index)?;
+    let starts = target.start_pages();
+    let known = starts.iter().filter(|page| pages.contains(**page)).count();
+    if starts.len() < 2 || known != 1 {
         return None;
     }
-    let pages = Pages(row.pages.get(index)?);
-    Some(say!["; PAGE of " {target_word(board, index)} " is " {pages} " at the start"])
+    Some(say!["; PAGE of " {target_word(board, index)} " is " {Pages(pages)} " at the start"])
 }
 
 /// How WRITE_PROTECT of a target starts, where it may start in several ways.
@@ -168,10 +162,16 @@ fn protect_start<'a>(
     index: usize,
     target: &Target,
 ) -> Option<Sentence<'a>> {
-    if target.start_protects().len() < 2 {
+    let protects = row.protects.get(index)?;
+    let starts = target.start_protects();
+    let known = starts
+        .iter()
+        .filter(|value| protects.contains(**value))
+        .count();
+    if starts.len() < 2 || known != 1 {
         return None;
     }
-    let protects = Protects(row.protects.get(index)?);
+    let protects = Protects(protects);
     Some(say!["; WRITE_PROTECT of " {target_word(board, index)} " is " {protects} " at the start"])
 }
 
@@ -187,17 +187,13 @@ fn push_told(
     }
 }
 
-/// Adds the start at a row of those registers that may start in several ways, where their starts
-/// are told apart.
+/// Adds the start at a row of those registers that may start in several ways, where one is known.
 pub(crate) fn push_start(
     alloc: Global,
     text: &mut String,
     board: &Board,
     row: &Row,
 ) -> Result<(), AllocError> {
-    if !are_apart(board) {
-        return Ok(());
-    }
     for (index, target) in board.targets().iter().enumerate() {
         push_told(alloc, text, page_start(board, row, index, target))?;
         push_told(alloc, text, protect_start(board, row, index, target))?;

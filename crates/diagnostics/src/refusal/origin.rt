@@ -2,7 +2,6 @@
 
 use crate::refusal::facts_here::{has_rail, push_pages};
 use crate::refusal::roads::Judged;
-use crate::refusal::trail::{Trail, Trails};
 use crate::refusal::widened::written_register;
 use board::{Board, Rail};
 use facts::{PageSet, Row, Violation, violation};
@@ -11,6 +10,7 @@ use pmbus_table::code::{ALL_PAGES, STATUS_WORD};
 use seq_program::Instr;
 use smbus::Form;
 use std::alloc::{AllocError, Global};
+use ways::Step;
 
 /// What is to blame in what is known at a place.
 #[derive(Clone, Copy)]
@@ -46,16 +46,10 @@ impl Blamed {
     }
 }
 
-/// The last trail of a way before which it wasn't so: its instruction brings it in. None where it
-/// is so from the start.
-fn brought_in(trails: &Trails, way: &[Trail], blamed: Blamed) -> Option<Trail> {
-    for trail in way.iter().rev() {
-        let row = trails.row(*trail)?;
-        if !blamed.is_in(row) {
-            return Some(*trail);
-        }
-    }
-    None
+/// The last step of a way before which it wasn't so: its instruction brings it in. None where it is
+/// so from the start.
+fn brought_in(way: &[Step], blamed: Blamed) -> Option<&Step> {
+    way.iter().rev().find(|step| !blamed.is_in(&step.row))
 }
 
 /// A way to a place where a rule fails.
@@ -64,20 +58,19 @@ pub(crate) struct BadWay<'a> {
     pub judged: Judged<'a>,
     /// Of each place, its line.
     pub lines: &'a [usize],
-    pub trails: &'a Trails,
-    pub way: &'a [Trail],
+    pub way: &'a [Step],
 }
 
-impl BadWay<'_> {
-    fn line(self, trail: Trail) -> usize {
-        self.lines.get(trail.place).copied().unwrap_or(0)
+impl<'a> BadWay<'a> {
+    fn line(self, step: &Step) -> usize {
+        self.lines.get(step.place).copied().unwrap_or(0)
     }
 
     /// From where on it is so.
     fn since(self, alloc: Global, blamed: Blamed) -> Result<String, AllocError> {
-        match brought_in(self.trails, self.way, blamed) {
-            Some(trail) => {
-                let line = self.line(trail);
+        match brought_in(self.way, blamed) {
+            Some(step) => {
+                let line = self.line(step);
                 format!(in alloc; "since line {line}")
             }
             None => String::from_str(alloc, "since the start"),
@@ -104,25 +97,21 @@ impl BadWay<'_> {
         format!(in alloc; "r{register} may be {most} {since}")
     }
 
-    /// The last trail whose instruction reads STATUS_WORD of a target.
-    fn last_report(self, target: usize) -> Option<Trail> {
-        for trail in self.way.iter().rev() {
-            if reads_status(self.judged.program.at(trail.place)?, target) {
-                return Some(*trail);
+    /// The last step whose instruction reads STATUS_WORD of a target.
+    fn last_report(self, target: usize) -> Option<&'a Step> {
+        for step in self.way.iter().rev() {
+            if reads_status(self.judged.program.at(step.place)?, target) {
+                return Some(step);
             }
         }
         None
     }
 
     /// What a report was read at, of a rail that it doesn't show good.
-    fn report_text(self, alloc: Global, trail: Trail, need: &Rail) -> Result<String, AllocError> {
+    fn report_text(self, alloc: Global, step: &Step, need: &Rail) -> Result<String, AllocError> {
         let name = Quoted(self.judged.board.target_name(need.target()).unwrap_or(""));
-        let (line, page) = (self.line(trail), need.page());
-        let pages = self
-            .trails
-            .row(trail)
-            .and_then(|row| row.pages.get(need.target()));
-        match pages {
+        let (line, page) = (self.line(step), need.page());
+        match step.row.pages.get(need.target()) {
             Some(pages) if !is_only(pages, page) => {
                 let mut text = format!(in alloc;
                     "line {line} reads STATUS_WORD of {name} where PAGE may be "
@@ -138,9 +127,9 @@ impl BadWay<'_> {
         }
     }
 
-    /// How a rail loses at a trail's place that it is known to be good.
-    fn loss_at(self, trail: Trail, rail: &Rail) -> &'static str {
-        match self.judged.program.at(trail.place) {
+    /// How a rail loses at a step's place that it is known to be good.
+    fn loss_at(self, step: &Step, rail: &Rail) -> &'static str {
+        match self.judged.program.at(step.place) {
             Some(instr) if reads_status(instr, rail.target()) => "reads its STATUS_WORD anew",
             Some(_) => "may turn it off",
             None => "may end that",
@@ -151,12 +140,12 @@ impl BadWay<'_> {
     fn need_text(self, alloc: Global, rail: usize, need: &Rail) -> Result<String, AllocError> {
         let board = self.judged.board;
         let name = Quoted(board.rail_name(rail).unwrap_or(""));
-        if let Some(trail) = brought_in(self.trails, self.way, Blamed::NotGood(rail)) {
-            let (line, loss) = (self.line(trail), self.loss_at(trail, need));
+        if let Some(step) = brought_in(self.way, Blamed::NotGood(rail)) {
+            let (line, loss) = (self.line(step), self.loss_at(step, need));
             return format!(in alloc; "{name} was known to be good up to line {line}, which {loss}");
         }
-        if let Some(trail) = self.last_report(need.target()) {
-            let report = self.report_text(alloc, trail, need)?;
+        if let Some(step) = self.last_report(need.target()) {
+            let report = self.report_text(alloc, step, need)?;
             return format!(in alloc; "{name} was never known to be good: {report}");
         }
         let target = Quoted(board.target_name(need.target()).unwrap_or(""));
@@ -218,12 +207,11 @@ impl BadWay<'_> {
         let Some(last) = self.way.last() else {
             return Ok(None);
         };
-        let (Some(row), Some(instr)) = (self.trails.row(*last), self.judged.program.at(last.place))
-        else {
+        let Some(instr) = self.judged.program.at(last.place) else {
             return Ok(None);
         };
-        match violation(self.judged.board, instr, row) {
-            Some(violation) => self.origin_of(alloc, row, instr, violation),
+        match violation(self.judged.board, instr, &last.row) {
+            Some(violation) => self.origin_of(alloc, &last.row, instr, violation),
             None => Ok(None),
         }
     }

@@ -9,8 +9,6 @@ use crate::refusal::origin::BadWay;
 use crate::refusal::roads::{Judged, Roads};
 use crate::refusal::route::route_of;
 use crate::refusal::shown::evidence_of;
-use crate::refusal::single_way::{MOST_STEPS, SingleWay, first_trails, single_way};
-use crate::refusal::trail::{Trail, Trails};
 use crate::refusal::uncounted::uncounted_text;
 use crate::refusal::way::{loop_through, way_to};
 use crate::refusal::widened::widened_text;
@@ -21,6 +19,7 @@ use session::{Verified, place_lines};
 use simulator::MOST_TICKS;
 use std::alloc::{AllocError, Global};
 use table_check::{Refusal, Table};
+use ways::{MOST_STEPS, Search, Step, bad_way};
 
 /// The shortest way that leads to a place, unless that is the first.
 fn way_note(
@@ -39,10 +38,10 @@ fn way_note(
 }
 
 /// The places of a way.
-fn places_of(alloc: Global, way: &[Trail]) -> Result<Vec<usize>, AllocError> {
+fn places_of(alloc: Global, way: &[Step]) -> Result<Vec<usize>, AllocError> {
     let mut places = Vec::new(alloc);
-    for trail in way {
-        places.push(trail.place)?;
+    for step in way {
+        places.push(step.place)?;
     }
     Ok(places)
 }
@@ -52,15 +51,13 @@ fn remarks_on(
     alloc: Global,
     judged: Judged<'_>,
     lines: &[usize],
-    trails: &Trails,
-    way: &[Trail],
+    way: &[Step],
 ) -> Result<String, AllocError> {
     let mut remarks = String::new(alloc);
-    let start = way.first().copied().and_then(|trail| trails.row(trail));
-    if let Some(row) = start {
-        push_start(alloc, &mut remarks, judged.board, row)?;
+    if let Some(start) = way.first() {
+        push_start(alloc, &mut remarks, judged.board, &start.row)?;
     }
-    push_branches(alloc, &mut remarks, judged, lines, trails, way)?;
+    push_branches(alloc, &mut remarks, judged, lines, way)?;
     Ok(remarks)
 }
 
@@ -70,10 +67,9 @@ fn found_note(
     alloc: Global,
     judged: Judged<'_>,
     lines: &[usize],
-    trails: &Trails,
-    way: &[Trail],
+    way: &[Step],
 ) -> Result<Option<String>, AllocError> {
-    let remarks = remarks_on(alloc, judged, lines, trails, way)?;
+    let remarks = remarks_on(alloc, judged, lines, way)?;
     if way.len() == 1 && remarks.is_empty() {
         return Ok(None);
     }
@@ -121,17 +117,11 @@ fn found_reach(
     alloc: Global,
     judged: Judged<'_>,
     lines: &[usize],
-    trails: &Trails,
-    way: &[Trail],
+    way: &[Step],
 ) -> Result<Reach, AllocError> {
-    let bad = BadWay {
-        judged,
-        lines,
-        trails,
-        way,
-    };
+    let bad = BadWay { judged, lines, way };
     let origin = bad.origin(alloc)?;
-    let way = found_note(alloc, judged, lines, trails, way)?;
+    let way = found_note(alloc, judged, lines, way)?;
     Ok(Reach { way, origin })
 }
 
@@ -143,15 +133,14 @@ fn single_way_note(
     place: usize,
     rule: Rule,
 ) -> Result<Reach, AllocError> {
-    let mut trails = first_trails(alloc, judged)?;
-    match single_way(alloc, judged, &mut trails, place, rule)? {
-        SingleWay::Found(way) => found_reach(alloc, judged, lines, &trails, &way),
-        SingleWay::Nowhere => {
+    match bad_way(alloc, judged.board, judged.program, place, rule)? {
+        Search::Found(way) => found_reach(alloc, judged, lines, &way),
+        Search::Nowhere => {
             let way = joined_note(alloc, judged, lines, place, rule)?;
             let origin = widened_text(alloc, judged, lines, place)?;
             Ok(Reach { way, origin })
         }
-        SingleWay::Unknown => {
+        Search::Unknown => {
             let way = format!(in alloc;
                 "no way on which it may fail was found within {MOST_STEPS} steps"
             )?;

@@ -60,26 +60,6 @@ impl<'a> Judged<'a> {
         edges(alloc, self.board, self.program, place, row)
     }
 
-    /// The first of the rules K1 to K5 that a place's instruction breaks at a row, or else its
-    /// edges there.
-    pub(crate) fn step_at(
-        self,
-        alloc: Global,
-        place: usize,
-        row: &Row,
-    ) -> Result<Result<Vec<Edge>, Rule>, AllocError> {
-        let Some(instr) = self.program.at(place) else {
-            return Ok(Ok(Vec::new(alloc)));
-        };
-        if let Some(rule) = duty(self.board, instr, row) {
-            return Ok(Err(rule));
-        }
-        if !row.is_of(self.board) {
-            return Ok(Ok(Vec::new(alloc)));
-        }
-        Ok(Ok(edges(alloc, self.board, self.program, place, row)?))
-    }
-
     /// The first of the rules K1 to K5 that a place's instruction breaks at a row.
     pub(crate) fn broken_at(self, place: usize, row: &Row) -> Option<Rule> {
         match self.program.at(place) {

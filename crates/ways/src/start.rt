@@ -1,6 +1,12 @@
 //! How a board may start, each start by itself.
 
-use crate::refusal::roads::Edge;
+ghost use Rattle.std.specs.Prelude.{IfOk, All, Contains};
+ghost use Rattle.facts.specs.domain.Rows.{row_view};
+ghost use Rattle.facts.specs.domain.Sets.{is_page, is_protect, pages_in, protects_in};
+ghost use Rattle.ways.specs.Starts.{AreStartPages, AreStartProtects};
+ghost use Rattle.ways.specs.Trails.{IsStartEdge};
+ghost use Rattle.ways.specs.Ways.{IsChosen, IsStart};
+
 use board::{Board, Target};
 use facts::{GoodSet, PageSet, ProtectSet, Row, Source, Span};
 use std::alloc::{AllocError, Global};
@@ -21,7 +27,9 @@ enum Choice {
 
 impl Choice {
     /// Those of the next register.
-    fn of_next<'a>(&mut self, values: &'a [u8]) -> &'a [u8] {
+    fn of_next<'a>(&mut self, values: &'a [u8]) -> &'a [u8]
+        ensures { All (Contains values.now) result.now }
+    {
         let Choice::One(number) = *self else {
             return values;
         };
@@ -32,17 +40,37 @@ impl Choice {
     }
 }
 
+/// The set of some pages.
+fn page_set(alloc: Global, values: &[u8]) -> Result<PageSet, AllocError>
+    ensures { IfOk result (λ set. IsChosen is_page values.now (pages_in set)) }
+{
+    match PageSet::of(alloc, values)? {
+        Some(set) => Ok(set),
+        None => Ok(PageSet::empty()),
+    }
+}
+
+/// The set of some protections.
+fn protect_set(alloc: Global, values: &[u8]) -> Result<ProtectSet, AllocError>
+    ensures { IfOk result (λ set. IsChosen is_protect values.now (protects_in set)) }
+{
+    match ProtectSet::of(alloc, values)? {
+        Some(set) => Ok(set),
+        None => Ok(ProtectSet::empty()),
+    }
+}
+
 /// Of each target, the pages that count.
 fn page_sets(
     alloc: Global,
     targets: &[Target],
     choice: &mut Choice,
-) -> Result<Vec<PageSet>, AllocError> {
+) -> Result<Vec<PageSet>, AllocError>
+    ensures { IfOk result (λ sets. AreStartPages targets.now sets.items) }
+{
     let mut sets = Vec::new(alloc);
     for target in targets {
-        if let Some(set) = PageSet::of(alloc, choice.of_next(target.start_pages()))? {
-            sets.push(set)?;
-        }
+        sets.push(page_set(alloc, choice.of_next(target.start_pages()))?)?;
     }
     Ok(sets)
 }
@@ -52,18 +80,20 @@ fn protect_sets(
     alloc: Global,
     targets: &[Target],
     choice: &mut Choice,
-) -> Result<Vec<ProtectSet>, AllocError> {
+) -> Result<Vec<ProtectSet>, AllocError>
+    ensures { IfOk result (λ sets. AreStartProtects targets.now sets.items) }
+{
     let mut sets = Vec::new(alloc);
     for target in targets {
-        if let Some(set) = ProtectSet::of(alloc, choice.of_next(target.start_protects()))? {
-            sets.push(set)?;
-        }
+        sets.push(protect_set(alloc, choice.of_next(target.start_protects()))?)?;
     }
     Ok(sets)
 }
 
 /// What is known where a board starts so.
-fn start_row(alloc: Global, board: &Board, mut choice: Choice) -> Result<Row, AllocError> {
+fn start_row(alloc: Global, board: &Board, mut choice: Choice) -> Result<Row, AllocError>
+    ensures { IfOk result (λ row. IsStart board.now (row_view row)) }
+{
     let pages = page_sets(alloc, board.targets(), &mut choice)?;
     let protects = protect_sets(alloc, board.targets(), &mut choice)?;
     Ok(Row {
@@ -92,13 +122,18 @@ fn start_count(board: &Board) -> usize {
 }
 
 /// Whether the starts of a board are told apart.
-pub(crate) fn are_apart(board: &Board) -> bool {
+fn are_apart(board: &Board) -> bool {
     start_count(board) <= MOST_STARTS
 }
 
 /// The edges to place 0: one for each start of the board, PAGE of the first target changing
 /// fastest, or one for all where they are many.
-pub(crate) fn start_edges(alloc: Global, board: &Board) -> Result<Vec<Edge>, AllocError> {
+pub(crate) fn start_edges(
+    alloc: Global,
+    board: &Board,
+) -> Result<Vec<(usize, Row, u64)>, AllocError>
+    ensures { IfOk result (λ es. All (IsStartEdge board.now) es.items) }
+{
     let mut edges = Vec::new(alloc);
     if !are_apart(board) {
         edges.push((0, start_row(alloc, board, Choice::All)?, 0))?;

@@ -1,0 +1,12 @@
+use Rattle.std.proofs.Common.{◌≡◌, ◌∙◌, ap, sym}
+use Rattle.std.specs.Prelude.{option_map}
+use Rattle.std.proofs.lemmas.List.Elements.{All-contains_itself}
+use Rattle.facts.specs.domain.Sets.{pages_in}
+use Rattle.ways.proofs.start.page_set.Goals as goal
+
+pub returns-in-Some : goal.returns-in-Some
+returns-in-Some c = record {
+  chosen = c.args.values.now;
+  from = All-contains_itself c.args.values.now;
+  is = sym c.in_ok-set.ensures ∙ ap (option_map pages_in) c.in-Some.is;
+}
