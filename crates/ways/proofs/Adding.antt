@@ -1,7 +1,7 @@
 -- Adding trails along edges.
-use Rattle.std.proofs.Common.{◌≡◌, ◌+◌, ◌++◌, ◌∷◌, ◌∙◌, ◌⊎◌, inl, inr, ℕ, zero, suc, List, []}
-use Rattle.std.proofs.Common.{Option, Some, All, ap, append-nil, append_assoc, arith, drop, length}
-use Rattle.std.proofs.Common.{refl, subst, sym}
+use Rattle.std.proofs.Common.{◌≡◌, ◌+◌, ◌++◌, ◌∷◌, ◌∙◌, inl, inr, ℕ, zero, suc, List, []}
+use Rattle.std.proofs.Common.{Option, Some, ap, append-nil, append_assoc, arith, drop, length}
+use Rattle.std.proofs.Common.{subst, sym}
 use Rattle.std.specs.Prelude.{slice_get}
 use Rattle.std.proofs.lemmas.List.Elements.{All-nil, All-push}
 use Rattle.facts.specs.declared.domain.row.Row.{Row}

@@ -10,7 +10,7 @@ use Rattle.facts.specs.declared.domain.row.Row.{Row}
 use Rattle.ways.specs.declared.step.Step.{Step}
 use Rattle.ways.specs.declared.trails.Trail.{Trail}
 use Rattle.ways.specs.Trails.{AddsTrails, AllArrive, AreOrdered, Arrives, IsAlong, IsStartEdge}
-use Rattle.ways.specs.Trails.{LeadOn, before_at, step_at}
+use Rattle.ways.specs.Trails.{LeadOn, step_at}
 use Rattle.ways.specs.Ways.{LeadsTo}
 use Rattle.ways.proofs.Leading.{leads_along}
 

@@ -1,6 +1,6 @@
 -- A way that trails follow, from a start to a step that breaks a rule.
-use Rattle.std.proofs.Common.{◌≡◌, ◌∷◌, ◌∙◌, ℕ, List, [], Option, Some, None, All, ap, arith, drop}
-use Rattle.std.proofs.Common.{get_or, length, map, refl, subst, sym}
+use Rattle.std.proofs.Common.{◌≡◌, ◌∷◌, ◌∙◌, ℕ, List, [], Option, Some, None, ap, arith, drop}
+use Rattle.std.proofs.Common.{get_or, length, map, subst, sym}
 use Rattle.std.specs.Prelude.{IsSomeAnd, option_map, slice_get}
 use Rattle.std.specs.List.{last_or}
 use Rattle.std.proofs.lemmas.List.Elements.{All-contains}

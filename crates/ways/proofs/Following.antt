@@ -1,12 +1,12 @@
 -- Following trails back to a start.
 use Rattle.std.proofs.Common.{◌≡◌, ◌<◌, ◌+◌, ◌++◌, ◌∷◌, ◌∙◌, ℕ, List, [], Option, Some, None, ap}
-use Rattle.std.proofs.Common.{arith, get_or, length, map, refl, subst, sym, take}
+use Rattle.std.proofs.Common.{arith, get_or, length, map, subst, sym, take}
 use Rattle.std.specs.Prelude.{IfSome, option_map, slice_get}
 use Rattle.std.proofs.lemmas.List.{length-take, same_from_push, take-take, take_more}
 use Rattle.std.proofs.lemmas.Option.{same_Some, slice_get-get_or}
 use Rattle.ways.specs.declared.step.Step.{Step}
 use Rattle.ways.specs.declared.trails.Trail.{Trail}
-use Rattle.ways.specs.Trails.{AreLinked, AreOrdered, BeginsAtStart, FollowsTo, IsLast, before_at}
+use Rattle.ways.specs.Trails.{AreLinked, AreOrdered, IsLast, before_at}
 use Rattle.ways.specs.Trails.{step_at}
 
 -- what is known of the numbers so far: none, and the last is next, or the first was reached from

@@ -2,7 +2,7 @@
 use Rattle.std.specs.Prelude.{ℕ, List}
 use Rattle.std.specs.List.{AllZip}
 use Rattle.board.specs.Boards.{Target}
-use Rattle.facts.specs.domain.Sets.{Set, is_page, is_protect, pages_in, protects_in}
+use Rattle.facts.specs.domain.Sets.{is_page, is_protect, pages_in, protects_in}
 use Rattle.ways.specs.Ways.{IsChosen}
 
 -- of each target a set of values that it may start with

@@ -1,6 +1,5 @@
 -- The code's words for trails. No public contract cites this.
 use Rattle.std.specs.Prelude.{◌≡◌, ◌<◌, ◌⊎◌, ◌++◌, ℕ, List, [], ◌∷◌, Option, Some, None, All}
-use Rattle.std.specs.Prelude.{Contains}
 use Rattle.std.specs.Prelude.{length, map, option_map, slice_get}
 use Rattle.std.specs.Prelude.{IsSomeAnd}
 use Rattle.board.specs.Boards.{Board}

@@ -1,5 +1,5 @@
 -- Ways through a program, by what is known along each alone.
-use Rattle.std.specs.Prelude.{◌≡◌, ℕ, Bool, List, [], ◌∷◌, Option, Some, None, All, Contains}
+use Rattle.std.specs.Prelude.{◌≡◌, ℕ, Bool, List, [], ◌∷◌, Some, None, All, Contains}
 use Rattle.std.specs.Prelude.{IsSomeAnd, length, replicate, slice_get}
 use Rattle.std.specs.List.{last_or}
 use Rattle.board.specs.Boards.{Board, Target}

@@ -1,5 +1,5 @@
 use denote.Enum.Bare.{same_true}
-use Rattle.std.proofs.Common.{◌≡◌, ◌∙◌, List, [], Option, Some, None, ap, arith, refl, subst, sym}
+use Rattle.std.proofs.Common.{◌≡◌, [], Some, None, ap, subst, sym}
 use Rattle.std.specs.Prelude.{Err, IfErr, IfOk, Ok, Result, slice_get}
 use Rattle.std.proofs.lemmas.List.Elements.{All-nil}
 use Rattle.std.proofs.lemmas.Option.{none-some, slice_get_within}
@@ -10,7 +10,7 @@ use Rattle.ways.specs.Ways.{Breaks}
 use Rattle.ways.specs.Trails.{LeadOn}
 use Rattle.ways.proofs.search.bad_way.Goals.{in-Ok+in_ok-go_on-in-Ok, in-Err+else-is_there}
 use Rattle.ways.proofs.search.bad_way.Goals.{in-Err+then-is_there+else-eq}
-use Rattle.ways.specs.Trails.{AllArrive, AreOrdered, Arrives}
+use Rattle.ways.specs.Trails.{Arrives}
 use Rattle.ways.proofs.Arriving.{AreTrails, LeadFrom, goes_on, mapped}
 use Rattle.ways.proofs.Finding.{found}
 use Rattle.ways.proofs.search.bad_way.Goals as goal

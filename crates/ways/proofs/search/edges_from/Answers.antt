@@ -1,4 +1,4 @@
-use Rattle.std.proofs.Common.{◌≡◌, Option, Some, inr, subst, sym}
+use Rattle.std.proofs.Common.{Option, Some, inr, subst, sym}
 use Rattle.std.specs.Prelude.{IsSomeAnd}
 use Rattle.seq_program.specs.declared.instr.Instr.{Instr}
 use Rattle.facts.specs.duties.Duties.{IsFirstFailing, duties}

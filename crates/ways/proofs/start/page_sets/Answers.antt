@@ -1,4 +1,4 @@
-use Rattle.std.proofs.Common.{◌≡◌, ◌+◌, ℕ, List, All, subst, sym, take}
+use Rattle.std.proofs.Common.{◌+◌, All, subst, sym, take}
 use Rattle.std.specs.Prelude.{Contains}
 use Rattle.facts.specs.domain.Sets.{is_page, pages_in}
 use Rattle.ways.specs.Starts.{AreStartPages}

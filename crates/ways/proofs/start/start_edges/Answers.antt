@@ -1,4 +1,4 @@
-use Rattle.std.proofs.Common.{◌≡◌, All, refl, subst, sym}
+use Rattle.std.proofs.Common.{All, refl, subst, sym}
 use Rattle.std.proofs.lemmas.List.Elements.{All-push}
 use Rattle.ways.specs.Trails.{IsStartEdge}
 use Rattle.ways.proofs.start.start_edges.Goals as goal

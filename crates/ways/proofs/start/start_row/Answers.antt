@@ -1,4 +1,4 @@
-use Rattle.std.proofs.Common.{◌≡◌, refl, subst}
+use Rattle.std.proofs.Common.{refl, subst}
 use Rattle.facts.specs.domain.Sets.{is_page, is_protect, pages_in, protects_in}
 use Rattle.ways.specs.Starts.{AreStartPages, AreStartProtects}
 use Rattle.ways.proofs.Choosing.{chosen_at}

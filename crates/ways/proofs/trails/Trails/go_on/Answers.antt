@@ -1,4 +1,4 @@
-use Rattle.std.proofs.Common.{◌≡◌, ◌∷◌, ◌∙◌, ℕ, List, ap, arith, drop, refl, subst, sym}
+use Rattle.std.proofs.Common.{◌≡◌, ◌∷◌, ◌∙◌, ℕ, ap, arith, drop, refl, sym}
 use Rattle.std.specs.Prelude.{slice_get}
 use Rattle.facts.specs.declared.domain.row.Row.{Row}
 use Rattle.ways.specs.declared.trails.Trail.{Trail}

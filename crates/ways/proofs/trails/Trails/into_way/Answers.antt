@@ -1,4 +1,4 @@
-use Rattle.std.proofs.Common.{◌≡◌, ◌∙◌, Option, Some, ap, subst, sym}
+use Rattle.std.proofs.Common.{◌∙◌, Option, subst, sym}
 use Rattle.ways.proofs.Following.{IsFollowed, followed_on}
 use Rattle.ways.proofs.trails.Trails.into_way.Goals as goal
 
