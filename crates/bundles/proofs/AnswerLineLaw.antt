@@ -7,13 +7,15 @@ use Rattle.texts.specs.Reading.{◌>>=◌, some_or}
 use Rattle.texts.specs.Words.{words_of}
 use Rattle.smbus.specs.Answered.{Answered}
 use Rattle.smbus.specs.Contenders.{Contender}
-use Rattle.bundles.specs.declared.fault.BundleFault.{BundleFault}
+use Rattle.bundles.specs.declared.fault.BundleFault.TheVariants.{BadAnswer}
+use Rattle.bundles.specs.declared.flaw.Key.TheVariants as keys
+use Rattle.bundles.specs.Flaws.{bad_field, bad_word, told}
 use Rattle.bundles.specs.ContenderWords.{contender_of, with_holds, contender_in}
 use Rattle.bundles.specs.ContenderWords.{past_contender, past_cholds}
 use Rattle.bundles.specs.Bundles.{Line}
 use Rattle.bundles.specs.Fields.{value_of, number_of}
 use Rattle.bundles.specs.AnswerWords.{past_bytes, answer_of}
-use Rattle.bundles.specs.AnswerLines.{took_of, past_took, past_alerts, bad_answer, without_dash}
+use Rattle.bundles.specs.AnswerLines.{took_of, past_took, past_alerts, without_dash}
 use Rattle.bundles.specs.AnswerLines.{answer_in}
 use Rattle.bundles.specs.AnswerLines.{answer_line_of}
 use Rattle.bundles.specs.Spelled.{spelled, AnswerValues, SaysAnswer}
@@ -21,11 +23,10 @@ use Rattle.bundles.specs.SpelledAnswers.{AnswerLineValues, key_values, IsAnswerL
 use Rattle.bundles.specs.SpelledAnswers.{AnswerLinesAreRead}
 use Rattle.bundles.specs.SpelledAnswers.{OtherLinesAreBad}
 use Rattle.bundles.proofs.Keys.{spelled_by}
-use Rattle.bundles.proofs.Readings.{bind_ok, some_ok, if_ok, none_left, fails_then, fails_some}
-use Rattle.bundles.proofs.Readings.{fails_if, FailsBy}
+use Rattle.bundles.proofs.Readings.{bind_ok, some_ok, if_ok, none_left, told_ok, told_err}
 use Rattle.bundles.proofs.AnswerReading.{answer_values, Answers, answers, answered_if}
 use Rattle.bundles.proofs.AnswerReading.{answer_spelled}
-use Rattle.bundles.proofs.AnswerReading.{taken, answer_taken, answer_fails}
+use Rattle.bundles.proofs.AnswerReading.{taken, answer_taken}
 
 abbrev whole : Answered → Bool → ℕ → Option Contender → Answered
 whole answer took alerts contender =
@@ -73,24 +74,24 @@ all_spelled words none =
     (spelled_by (codes "contender=") (past_alerts words) _
     (spelled_by (codes "cholds=") (past_contender (past_alerts words)) [] none))))
 
-contender_spelled : (fault : BundleFault) (words : List Line) (c : Option Contender)
-    → contender_in fault words ≡ Ok c
+contender_spelled : (words : List Line) (c : Option Contender) → contender_in words ≡ Ok c
     → says_contender (value_of (codes "contender=") words)
     (value_of (codes "cholds=") (past_contender words)) ≡ Some c
 unfolding contender_in
-contender_spelled fault words c e =
-    let said =
-    bind_ok (some_or fault (contender_of (value_of (codes "contender=") words))) _ c e in
-    let whole = some_ok fault _ c said.2 in
-    let first = some_ok fault _ said.0 said.1 in
+contender_spelled words c e =
+    let bad = bad_field keys.Contender words in
+    let late = bad_field keys.ContenderHolds (past_contender words) in
+    let said = bind_ok (some_or bad (contender_of (value_of (codes "contender=") words))) _ c e in
+    let whole = some_ok late _ c said.2 in
+    let first = some_ok bad _ said.0 said.1 in
     rw first whole
 
-contender_read : (fault : BundleFault) (words : List Line) (c : Option Contender)
+contender_read : (words : List Line) (c : Option Contender)
     → says_contender (value_of (codes "contender=") words)
     (value_of (codes "cholds=") (past_contender words)) ≡ Some c
-    → contender_in fault words ≡ Ok c
+    → contender_in words ≡ Ok c
 unfolding contender_in
-contender_read fault words c e =
+contender_read words c e =
     by (contender_of (value_of (codes "contender=") words)) refl
   where
     holds : Option (List ℕ)
@@ -98,41 +99,44 @@ contender_read fault words c e =
 
     by : (o : Option (Option Contender))
         → contender_of (value_of (codes "contender=") words) ≡ o
-        → (some_or fault (contender_of (value_of (codes "contender=") words))
-        >>= (λ said. some_or fault (with_holds said holds))) ≡ Ok c
+        → (some_or (bad_field keys.Contender words)
+        (contender_of (value_of (codes "contender=") words))
+        >>= (λ said. some_or (bad_field keys.ContenderHolds (past_contender words))
+        (with_holds said holds))) ≡ Ok c
     by None is = let bad : None ≡ Some c = rw is at e in absurd cc
     by (Some said) is =
         let some : with_holds said holds ≡ Some c = rw is at e in
         rw (is, some) refl
 
-spells : (number : ℕ) (words : List Line) (answer : Answered) → answer_in number words ≡ Ok answer
+spells : (words : List Line) (answer : Answered) → answer_in words ≡ Ok answer
     → Spells words answer
 unfolding answer_in
-spells number words answer e =
-    let fault = bad_answer number in
-    let a = bind_ok (answer_of fault words) _ answer e in
+spells words answer e =
+    let took = bad_field keys.Took (past_bytes words) in
+    let alerts = bad_field keys.Alerts (past_took words) in
+    let a = bind_ok (answer_of words) _ answer e in
     let b =
-    bind_ok (some_or fault (took_of (value_of (codes "took=") (past_bytes words)))) _ answer a.2 in
-    let c = bind_ok (some_or fault (number_of (value_of (codes "alerts=") (past_took words)))) _
+    bind_ok (some_or took (took_of (value_of (codes "took=") (past_bytes words)))) _ answer a.2 in
+    let c = bind_ok (some_or alerts (number_of (value_of (codes "alerts=") (past_took words)))) _
     answer b.2 in
-    let d = bind_ok (contender_in fault (past_alerts words)) _ answer c.2 in
-    let w = if_ok fault (length (past_cholds (past_alerts words)) == 0) (whole a.0 b.0 c.0 d.0)
-    answer d.2 in
+    let d = bind_ok (contender_in (past_alerts words)) _ answer c.2 in
+    let w = if_ok (bad_word (past_cholds (past_alerts words)))
+    (length (past_cholds (past_alerts words)) == 0) (whole a.0 b.0 c.0 d.0) answer d.2 in
     subst (Spells words) w.1 (record {
       values = line_values words;
       spelling = all_spelled words (none_left (past_cholds (past_alerts words)) w.0);
-      says = same_said (answer_values words) a.0 b.0 c.0 d.0 (answers fault words a.0 a.1).says;
-      took = some_ok fault _ b.0 b.1;
-      alerts = some_ok fault _ c.0 c.1;
-      contender = contender_spelled fault (past_alerts words) d.0 d.1;
+      says = same_said (answer_values words) a.0 b.0 c.0 d.0 (answers words a.0 a.1).says;
+      took = some_ok took _ b.0 b.1;
+      alerts = some_ok alerts _ c.0 c.1;
+      contender = contender_spelled (past_alerts words) d.0 d.1;
     })
 
 -- ---- and back
 
-reads : (number : ℕ) (words : List Line) (answer : Answered) → Spells words answer
-    → answer_in number words ≡ Ok answer
+reads : (words : List Line) (answer : Answered) → Spells words answer
+    → answer_in words ≡ Ok answer
 unfolding answer_in
-reads number words answer h =
+reads words answer h =
     let behind = answer_taken h.values.answer _ words h.spelling (record {
       holds = refl;
       refuse = refl;
@@ -145,7 +149,7 @@ reads number words answer h =
     taken (codes "contender=") h.values.contender _ (past_alerts words) alerts.rest refl in
     let holds = taken (codes "cholds=") h.values.cholds [] (past_contender (past_alerts words))
     said.rest refl in
-    let other = contender_read (bad_answer number) (past_alerts words) answer.contender
+    let other = contender_read (past_alerts words) answer.contender
     (rw (said.value, holds.value) h.contender) in
     let front : Answers (answer_values words) (front_of answer) = record {
       says = same_said (answer_values words) answer false 0 None (behind.says answer h.says);
@@ -160,7 +164,7 @@ reads number words answer h =
     let none : (length (past_cholds (past_alerts words)) == 0) ≡ true =
     ap (λ (ws : List Line). length ws == 0) holds.rest in
     rw (
-      answered_if (bad_answer number) words (front_of answer) front,
+      answered_if words (front_of answer) front,
       takes,
       pulls,
       other,
@@ -170,7 +174,8 @@ reads number words answer h =
 line_spells : (number : ℕ) (line : Line) (answer : Answered)
     → answer_line_of number line ≡ Ok answer → IsAnswerLine line answer
 line_spells number line answer e =
-    let s = spells number (without_dash (words_of line)) answer e in
+    let words = without_dash (words_of line) in
+    let s = spells words answer (told_ok (BadAnswer number) (answer_in words) answer e) in
     record {
       values = s.values;
       words = s.spelling;
@@ -182,40 +187,21 @@ line_spells number line answer e =
 
 spelled_line : (number : ℕ) (line : Line) (answer : Answered) → IsAnswerLine line answer
     → answer_line_of number line ≡ Ok answer
-spelled_line number line answer h = reads number (without_dash (words_of line)) answer (record {
-  values = h.values;
-  spelling = h.words;
-  says = h.says;
-  took = h.took;
-  alerts = h.alerts;
-  contender = h.contender;
-})
+spelled_line number line answer h =
+    ap (told (BadAnswer number)) (reads (without_dash (words_of line)) answer (record {
+      values = h.values;
+      spelling = h.words;
+      says = h.says;
+      took = h.took;
+      alerts = h.alerts;
+      contender = h.contender;
+    }))
 
 pub all_lines : AnswerLinesAreRead
 all_lines number line answer = (line_spells number line answer, spelled_line number line answer)
 
--- ---- the one fault
-
-contender_fails : (fault : BundleFault) (words : List Line)
-    → FailsBy fault (contender_in fault words)
-unfolding contender_in
-contender_fails fault words =
-    fails_then fault (some_or fault (contender_of (value_of (codes "contender=") words))) _
-    (fails_some fault _) (λ said. fails_some fault _)
-
-line_fails : (number : ℕ) (words : List Line) → FailsBy (bad_answer number) (answer_in number words)
-unfolding answer_in
-line_fails number words =
-    let fault = bad_answer number in
-    fails_then fault (answer_of fault words) _ (answer_fails fault words)
-    (λ answer. fails_then fault
-    (some_or fault (took_of (value_of (codes "took=") (past_bytes words)))) _ (fails_some fault _)
-    (λ took. fails_then fault (some_or fault
-    (number_of (value_of (codes "alerts=") (past_took words)))) _ (fails_some fault _)
-    (λ alerts. fails_then fault (contender_in fault (past_alerts words)) _
-    (contender_fails fault (past_alerts words))
-    (λ contender. fails_if fault (length (past_cholds (past_alerts words)) == 0)
-    (whole answer took alerts contender)))))
+-- ---- and the others
 
 pub other_lines : OtherLinesAreBad
-other_lines number line = line_fails number (without_dash (words_of line))
+other_lines number line =
+    told_err (BadAnswer number) (answer_in (without_dash (words_of line)))

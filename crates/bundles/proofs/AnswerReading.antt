@@ -3,15 +3,15 @@ use Rattle.std.proofs.Common.{◌≡◌, ℕ, true, false, List, ◌∷◌, Opti
 use Rattle.std.proofs.Common.{◌∙◌, subst}
 use Rattle.texts.specs.Reading.{some_or}
 use Rattle.smbus.specs.Answered.{Answered}
-use Rattle.bundles.specs.declared.fault.BundleFault.{BundleFault}
+use Rattle.bundles.specs.declared.flaw.Key.TheVariants as keys
+use Rattle.bundles.specs.Flaws.{bad_field}
 use Rattle.bundles.specs.Bundles.{Line}
 use Rattle.bundles.specs.Fields.{value_of, rest_of, refuse_of, number_of, bytes_of}
 use Rattle.bundles.specs.Holds.{holds_of}
 use Rattle.bundles.specs.AnswerWords.{past_holds, past_refuse, past_value, past_bytes, answer_of}
 use Rattle.bundles.specs.Spelled.{KeyValues, spelled, AnswerValues, answer_key_values, SaysAnswer}
 use Rattle.bundles.proofs.Keys.{is_new, spelled_by, value_spelled, rest_spelled}
-use Rattle.bundles.proofs.Readings.{bind_ok, some_ok, ok_is, FailsBy, fails_then, fails_some}
-use Rattle.bundles.proofs.Readings.{never_fails}
+use Rattle.bundles.proofs.Readings.{bind_ok, some_ok, ok_is}
 
 -- the values of the words
 abbrev pub answer_values : List Line → AnswerValues
@@ -30,18 +30,21 @@ pub record Answers (values : AnswerValues) (a : Answered) : Type 0 where
   pub alerts : a.alerts ≡ 0
   pub contender : a.contender ≡ None
 
-pub answers : (fault : BundleFault) (words : List Line) (m : Answered)
-    → answer_of fault words ≡ Ok m
+pub answers : (words : List Line) (m : Answered) → answer_of words ≡ Ok m
     → Answers (answer_values words) m
 unfolding answer_of
-answers fault words m e =
-    let a = bind_ok (some_or fault (holds_of (value_of (codes "holds=") words))) _ m e in
+answers words m e =
+    let holds = bad_field keys.Holds words in
+    let refuse = bad_field keys.Refuse (past_holds words) in
+    let value = bad_field keys.Value (past_refuse words) in
+    let bytes = bad_field keys.Bytes (past_value words) in
+    let a = bind_ok (some_or holds (holds_of (value_of (codes "holds=") words))) _ m e in
     let b =
-    bind_ok (some_or fault (refuse_of (value_of (codes "refuse=") (past_holds words)))) _ m a.2 in
+    bind_ok (some_or refuse (refuse_of (value_of (codes "refuse=") (past_holds words)))) _ m a.2 in
     let c =
-    bind_ok (some_or fault (number_of (value_of (codes "value=") (past_refuse words)))) _ m b.2 in
+    bind_ok (some_or value (number_of (value_of (codes "value=") (past_refuse words)))) _ m b.2 in
     let d =
-    bind_ok (some_or fault (bytes_of (value_of (codes "bytes=") (past_value words)))) _ m c.2 in
+    bind_ok (some_or bytes (bytes_of (value_of (codes "bytes=") (past_value words)))) _ m c.2 in
     let made : Answered =
     record {
       holds = a.0;
@@ -53,18 +56,18 @@ answers fault words m e =
       contender = None;
     } in
     let says : SaysAnswer (answer_values words) made = record {
-      holds = some_ok fault _ a.0 a.1;
-      refuse = some_ok fault _ b.0 b.1;
-      value = some_ok fault _ c.0 c.1;
-      bytes = some_ok fault _ d.0 d.1;
+      holds = some_ok holds _ a.0 a.1;
+      refuse = some_ok refuse _ b.0 b.1;
+      value = some_ok value _ c.0 c.1;
+      bytes = some_ok bytes _ d.0 d.1;
     } in
     subst (Answers (answer_values words)) (ok_is made m d.2)
     (record { says = says; took = refl; alerts = refl; contender = refl })
 
-pub answered_if : (fault : BundleFault) (words : List Line) (m : Answered)
-    → Answers (answer_values words) m → answer_of fault words ≡ Ok m
+pub answered_if : (words : List Line) (m : Answered)
+    → Answers (answer_values words) m → answer_of words ≡ Ok m
 unfolding answer_of
-answered_if fault words m a =
+answered_if words m a =
     rw (
       a.says.holds,
       a.says.refuse,
@@ -129,29 +132,3 @@ answer_taken values later words e apart =
       };
       rest = bytes.rest;
     }
-
--- ---- the one fault
-
-abbrev the_answer : List ℕ → Option ℕ → ℕ → List ℕ → Answered
-the_answer holds refuse value bytes = record {
-  holds = holds;
-  refuse = refuse;
-  value = value;
-  bytes = bytes;
-  took = false;
-  alerts = 0;
-  contender = None;
-}
-
-pub answer_fails : (fault : BundleFault) (words : List Line) → FailsBy fault (answer_of fault words)
-unfolding answer_of
-answer_fails fault words =
-    fails_then fault (some_or fault (holds_of (value_of (codes "holds=") words))) _
-    (fails_some fault _)
-    (λ holds. fails_then fault (some_or fault
-    (refuse_of (value_of (codes "refuse=") (past_holds words)))) _ (fails_some fault _)
-    (λ refuse. fails_then fault (some_or fault
-    (number_of (value_of (codes "value=") (past_refuse words)))) _ (fails_some fault _)
-    (λ value. fails_then fault
-    (some_or fault (bytes_of (value_of (codes "bytes=") (past_value words)))) _ (fails_some fault _)
-    (λ bytes. never_fails fault (the_answer holds refuse value bytes)))))

@@ -3,25 +3,26 @@ use Rattle.std.proofs.Common.{◌≡◌, ℕ, true, ◌==◌, List, [], length, 
 use Rattle.std.proofs.Common.{codes, refl, ap, subst, ◌∙◌}
 use Rattle.texts.specs.Reading.{some_or, value_if}
 use Rattle.texts.specs.Words.{words_of}
-use Rattle.smbus.specs.declared.message.Form.{Form}
 use Rattle.smbus.specs.Asked.{Asked}
-use Rattle.smbus.specs.Answered.{Answered}
+use Rattle.bundles.specs.declared.fault.BundleFault.TheVariants.{BadMessage}
+use Rattle.bundles.specs.declared.flaw.Key.TheVariants as keys
 use Rattle.bundles.specs.declared.message.Exchange.{Exchange}
+use Rattle.bundles.specs.Flaws.{bad_field, bad_word}
 use Rattle.bundles.specs.Bundles.{Line}
 use Rattle.bundles.specs.Fields.{value_of, bytes_of}
 use Rattle.bundles.specs.AnswerWords.{past_bytes, answer_of}
 use Rattle.bundles.specs.Messages.{form_of, address_of, code_of, past_form, past_address, past_code}
-use Rattle.bundles.specs.Messages.{past_asked, asked_of, bad_message, exchange_of}
+use Rattle.bundles.specs.Messages.{past_asked, asked_of, exchange_said, exchange_of}
 use Rattle.bundles.specs.Spelled.{spelled}
 use Rattle.bundles.specs.MessageLines.{MessageValues, key_values, IsMessageLine}
 use Rattle.bundles.specs.MessageLines.{MessageLinesAreRead}
 use Rattle.bundles.specs.MessageLines.{OtherLinesAreBad}
 use Rattle.bundles.proofs.Keys.{spelled_by}
-use Rattle.bundles.proofs.Readings.{bind_ok, some_ok, if_ok, done_ok, ok_is, none_left, FailsBy}
-use Rattle.bundles.proofs.Readings.{fails_then, fails_some, fails_if, never_fails}
+use Rattle.bundles.proofs.Readings.{bind_ok, some_ok, if_ok, done_ok, ok_is, none_left}
+use Rattle.bundles.proofs.Readings.{told_ok, told_err}
 use Rattle.bundles.proofs.AnswerReading.{answer_values, Answers, answers, answered_if}
 use Rattle.bundles.proofs.AnswerReading.{answer_spelled}
-use Rattle.bundles.proofs.AnswerReading.{taken, answer_taken, answer_fails}
+use Rattle.bundles.proofs.AnswerReading.{taken, answer_taken}
 
 -- ---- what the first words of a line ask
 
@@ -32,30 +33,32 @@ record Asks (words : List Line) (m : Asked) : Type 0 where
   code : code_of m.form (value_of (codes "code=") (past_address words)) ≡ Some m.code
   out : bytes_of (value_of (codes "out=") (past_code words)) ≡ Some m.out
 
-asks : (number : ℕ) (words : List Line) (m : Asked) → asked_of number words ≡ Ok m → Asks words m
+asks : (words : List Line) (m : Asked) → asked_of words ≡ Ok m → Asks words m
 unfolding asked_of
-asks number words m e =
-    let a = bind_ok (some_or (bad_message number)
-    (option_and_then form_of (value_of (codes "form=") words))) _ m e in
-    let b = bind_ok (some_or (bad_message number)
+asks words m e =
+    let form = bad_field keys.Form words in
+    let address = bad_field keys.Address (past_form words) in
+    let code = bad_field keys.Code (past_address words) in
+    let out = bad_field keys.Out (past_code words) in
+    let a =
+    bind_ok (some_or form (option_and_then form_of (value_of (codes "form=") words))) _ m e in
+    let b = bind_ok (some_or address
     (option_and_then (address_of a.0) (value_of (codes "address=") (past_form words)))) _ m a.2 in
-    let c = bind_ok (some_or (bad_message number)
+    let c = bind_ok (some_or code
     (code_of a.0 (value_of (codes "code=") (past_address words)))) _ m b.2 in
     let d =
-    bind_ok (some_or (bad_message number) (bytes_of (value_of (codes "out=") (past_code words)))) _
-    m c.2 in
+    bind_ok (some_or out (bytes_of (value_of (codes "out=") (past_code words)))) _ m c.2 in
     let made : Asked = record { address = b.0; form = a.0; code = c.0; out = d.0 } in
     subst (Asks words) (ok_is made m d.2) (record {
-      form = some_ok (bad_message number) _ a.0 a.1;
-      address = some_ok (bad_message number) _ b.0 b.1;
-      code = some_ok (bad_message number) _ c.0 c.1;
-      out = some_ok (bad_message number) _ d.0 d.1;
+      form = some_ok form _ a.0 a.1;
+      address = some_ok address _ b.0 b.1;
+      code = some_ok code _ c.0 c.1;
+      out = some_ok out _ d.0 d.1;
     })
 
-asked_if : (number : ℕ) (words : List Line) (m : Asked) → Asks words m
-    → asked_of number words ≡ Ok m
+asked_if : (words : List Line) (m : Asked) → Asks words m → asked_of words ≡ Ok m
 unfolding asked_of
-asked_if number words m a = rw (a.form, a.address, a.code, a.out) refl
+asked_if words m a = rw (a.form, a.address, a.code, a.out) refl
 
 -- ---- a line that is read spells its message
 
@@ -78,23 +81,22 @@ all_spelled words none =
 
 line_spells : (number : ℕ) (line : Line) (exchange : Exchange)
     → exchange_of number line ≡ Ok exchange → IsMessageLine line exchange
-unfolding exchange_of
+unfolding exchange_said
 line_spells number line exchange e =
     let words = words_of line in
-    let a = bind_ok (asked_of number words) _ exchange e in
-    let b = bind_ok (answer_of (bad_message number) (past_asked words)) _ exchange a.2 in
-    let c =
-    bind_ok (value_if (bad_message number) (length (past_bytes (past_asked words)) == 0) b.0) _
-    exchange b.2 in
-    let whole =
-    if_ok (bad_message number) (length (past_bytes (past_asked words)) == 0) b.0 c.0 c.1 in
-    let asked = asks number words a.0 a.1 in
-    let answered = answers (bad_message number) (past_asked words) c.0 (b.1 ∙ ap done_ok whole.1) in
+    let rest = past_bytes (past_asked words) in
+    let a = bind_ok (asked_of words) _ exchange
+    (told_ok (BadMessage number) (exchange_said words) exchange e) in
+    let b = bind_ok (answer_of (past_asked words)) _ exchange a.2 in
+    let c = bind_ok (value_if (bad_word rest) (length rest == 0) b.0) _ exchange b.2 in
+    let whole = if_ok (bad_word rest) (length rest == 0) b.0 c.0 c.1 in
+    let asked = asks words a.0 a.1 in
+    let answered = answers (past_asked words) c.0 (b.1 ∙ ap done_ok whole.1) in
     let made : Exchange = record { message = a.0; answer = c.0 } in
     subst (IsMessageLine line) (ok_is made exchange c.2) (record {
       asked = asked_values words;
       answered = answer_values (past_asked words);
-      words = all_spelled words (none_left (past_bytes (past_asked words)) whole.0);
+      words = all_spelled words (none_left rest whole.0);
       form = asked.form;
       address = asked.address;
       code = asked.code;
@@ -109,7 +111,7 @@ line_spells number line exchange e =
 
 spelled_line : (number : ℕ) (line : Line) (exchange : Exchange) → IsMessageLine line exchange
     → exchange_of number line ≡ Ok exchange
-unfolding exchange_of
+unfolding exchange_said
 spelled_line number line exchange h =
     let words = words_of line in
     let rest = past_asked words in
@@ -138,8 +140,8 @@ spelled_line number line exchange h =
     let none : (length (past_bytes rest) == 0) ≡ true =
     ap (λ (ws : List Line). length ws == 0) behind.rest in
     rw (
-      asked_if number words exchange.message asked,
-      answered_if (bad_message number) rest exchange.answer answered,
+      asked_if words exchange.message asked,
+      answered_if rest exchange.answer answered,
       none,
     ) refl
 
@@ -147,37 +149,7 @@ pub all_lines : MessageLinesAreRead
 all_lines number line exchange =
     (line_spells number line exchange, spelled_line number line exchange)
 
--- ---- the one fault
-
-abbrev the_asked : ℕ → Form → ℕ → List ℕ → Asked
-the_asked address form code out = record { address = address; form = form; code = code; out = out }
-
-abbrev the_exchange : Asked → Answered → Exchange
-the_exchange message answer = record { message = message; answer = answer }
-
-asked_fails : (number : ℕ) (words : List Line)
-    → FailsBy (bad_message number) (asked_of number words)
-unfolding asked_of
-asked_fails number words =
-    let fault = bad_message number in
-    fails_then fault (some_or fault (option_and_then form_of (value_of (codes "form=") words))) _
-    (fails_some fault _)
-    (λ form. fails_then fault (some_or fault (option_and_then (address_of form)
-    (value_of (codes "address=") (past_form words)))) _ (fails_some fault _)
-    (λ address. fails_then fault (some_or fault
-    (code_of form (value_of (codes "code=") (past_address words)))) _ (fails_some fault _)
-    (λ code. fails_then fault
-    (some_or fault (bytes_of (value_of (codes "out=") (past_code words)))) _ (fails_some fault _)
-    (λ out. never_fails fault (the_asked address form code out)))))
+-- ---- and the others
 
 pub other_lines : OtherLinesAreBad
-unfolding exchange_of
-other_lines number line =
-    let fault = bad_message number in
-    let words = words_of line in
-    fails_then fault (asked_of number words) _ (asked_fails number words)
-    (λ asked.
-    fails_then fault (answer_of fault (past_asked words)) _ (answer_fails fault (past_asked words))
-    (λ answered. fails_then fault (value_if fault
-    (length (past_bytes (past_asked words)) == 0) answered) _ (fails_if fault _ answered)
-    (λ whole. never_fails fault (the_exchange asked whole))))
+other_lines number line = told_err (BadMessage number) (exchange_said (words_of line))

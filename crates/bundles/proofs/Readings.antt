@@ -1,9 +1,12 @@
--- Readings that succeed, and readings that have one fault.
+-- Readings that succeed, and the faults of lines.
 use Rattle.std.proofs.Common.{◌≡◌, Bool, true, false, ◌==◌, List, [], ◌∷◌, length, Option, Some}
-use Rattle.std.proofs.Common.{None, Result, Ok, Err, refl, sym, ap, ◌∙◌}
+use Rattle.std.proofs.Common.{None, Result, Ok, Err, refl, sym, ◌∙◌}
 use Rattle.std.proofs.Math.Dec.{eqb-suc-zero}
 use Rattle.texts.specs.Reading.{◌>>=◌, some_or, value_if}
+use Rattle.bundles.specs.declared.fault.BundleFault.{BundleFault}
+use Rattle.bundles.specs.declared.flaw.Flaw.{Flaw}
 use Rattle.bundles.specs.Bundles.{Line}
+use Rattle.bundles.specs.Flaws.{told}
 
 -- ---- what a reading that succeeds has read
 
@@ -34,24 +37,14 @@ none_left (word ∷ words) e =
     let wrong : true ≡ false = sym e ∙ some in
     absurd (cc)
 
--- ---- the one fault
+-- ---- what a line with a number gives
 
--- where a reading fails, it is with this fault
-abbrev pub FailsBy : {F A : Type 0} → F → Result A F → Type 0
-FailsBy {F} fault r = (e : F) → r ≡ Err e → e ≡ fault
+pub told_ok : {A : Type 0} (fault : Flaw → BundleFault) (r : Result A Flaw) (x : A)
+    → told fault r ≡ Ok x → r ≡ Ok x
+told_ok fault (Ok y) x e = cc
+told_ok fault (Err flaw) x e = absurd cc
 
-pub fails_then : {F A B : Type 0} (fault : F) (r : Result A F) (f : A → Result B F)
-    → FailsBy fault r → ((x : A) → FailsBy fault (f x)) → FailsBy fault (r >>= f)
-fails_then fault (Ok x) f first later = later x
-fails_then fault (Err d) f first later = λ e p. first e (let q : d ≡ e = cc in ap Err q)
-
-pub fails_some : {F A : Type 0} (fault : F) (o : Option A) → FailsBy fault (some_or fault o)
-fails_some fault None = λ e p. cc
-fails_some fault (Some x) = λ e p. absurd cc
-
-pub fails_if : {F A : Type 0} (fault : F) (b : Bool) (x : A) → FailsBy fault (value_if fault b x)
-fails_if fault true x = λ e p. absurd cc
-fails_if fault false x = λ e p. cc
-
-pub never_fails : {F A : Type 0} (fault : F) (x : A) → FailsBy fault (Ok x)
-never_fails fault x = λ e p. absurd cc
+pub told_err : {A : Type 0} (fault : Flaw → BundleFault) (r : Result A Flaw) (bad : BundleFault)
+    → told fault r ≡ Err bad → (flaw : Flaw) × (bad ≡ fault flaw)
+told_err fault (Ok y) bad e = absurd cc
+told_err fault (Err flaw) bad e = (flaw, cc)

@@ -18,7 +18,9 @@ use Rattle.texts.specs.Words.{words_of}
 use Rattle.texts.specs.ReadBack.{PairsReadBack}
 use Rattle.smbus.specs.Answered.{Answered}
 use Rattle.bundles.specs.declared.fault.BundleFault.{BundleFault}
-use Rattle.bundles.specs.AnswerLines.{bad_answer, answer_line_of}
+use Rattle.bundles.specs.declared.fault.BundleFault.TheVariants.{BadAnswer}
+use Rattle.bundles.specs.declared.flaw.Flaw.TheVariants.{Whole}
+use Rattle.bundles.specs.AnswerLines.{answer_line_of}
 use Rattle.bundles.specs.AnswerLineTexts.{list_text, start_text, comment_text, with_line}
 use Rattle.bundles.specs.Answers.{Answers, bytes_in, listed_bytes, start_of, answer_lines_of}
 use Rattle.bundles.specs.Answers.{answers_of}
@@ -129,7 +131,7 @@ section_more : (last next : ℕ) (placed : List (ℕ × Line)) (number : ℕ) (l
 unfolding answers_of
 section_more last next [] number line a said says e = absurd (cc)
 section_more last next (first ∷ placed) number line a said says e =
-    with_one (bad_answer first.0) (start_of (words_of first.1)) (answer_lines_of placed)
+    with_one (BadAnswer first.0 Whole) (start_of (words_of first.1)) (answer_lines_of placed)
     (answer_lines_of (placed ++ (number, line) ∷ [])) said a e
     (answers_more placed number line a says)
 
@@ -210,7 +212,7 @@ only_start : (next number : ℕ) (line : Line) (pages protects : List ℕ)
     → answers_of next ((number, line) ∷ []) ≡ Ok (started (pages, protects) [])
 unfolding answers_of answer_lines_of
 only_start next number line pages protects e =
-    ap (λ (o : Option (List ℕ × List ℕ)). some_or (bad_answer number) o
+    ap (λ (o : Option (List ℕ × List ℕ)). some_or (BadAnswer number Whole) o
     >>= λ s. (Ok (started s []))) e
 
 pub start_said : (text new : List ℕ) (line : Line) (pages protects : List ℕ)

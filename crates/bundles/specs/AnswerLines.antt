@@ -7,6 +7,9 @@ use Rattle.texts.specs.Words.{words_of}
 use Rattle.smbus.specs.Answered.{Answered}
 use Rattle.bundles.specs.declared.fault.BundleFault.{BundleFault}
 use Rattle.bundles.specs.declared.fault.BundleFault.TheVariants.{BadAnswer}
+use Rattle.bundles.specs.declared.flaw.Flaw.{Flaw}
+use Rattle.bundles.specs.declared.flaw.Key.TheVariants as keys
+use Rattle.bundles.specs.Flaws.{bad_field, bad_word, told}
 use Rattle.bundles.specs.Bundles.{Line}
 use Rattle.bundles.specs.Fields.{value_of, rest_of, number_of}
 use Rattle.bundles.specs.AnswerWords.{answer_of, past_bytes}
@@ -23,18 +26,18 @@ past_took words = rest_of (codes "took=") (past_bytes words)
 abbrev pub past_alerts : List Line → List Line
 past_alerts words = rest_of (codes "alerts=") (past_took words)
 
-abbrev pub bad_answer : ℕ → BundleFault
-bad_answer number = BadAnswer number
-
 -- `took=1 alerts=DIGITS` behind the words of an answer, then those of another controller, and no
 -- more
-unfoldable pub answer_in : ℕ → List Line → Result Answered BundleFault
-answer_in number words = do
-  answer ← answer_of (bad_answer number) words
-  took ← some_or (bad_answer number) (took_of (value_of (codes "took=") (past_bytes words)))
-  alerts ← some_or (bad_answer number) (number_of (value_of (codes "alerts=") (past_took words)))
-  contender ← contender_in (bad_answer number) (past_alerts words)
-  value_if (bad_answer number) (length (past_cholds (past_alerts words)) == 0)
+unfoldable pub answer_in : List Line → Result Answered Flaw
+answer_in words = do
+  answer ← answer_of words
+  took ← some_or (bad_field keys.Took (past_bytes words))
+      (took_of (value_of (codes "took=") (past_bytes words)))
+  alerts ← some_or (bad_field keys.Alerts (past_took words))
+      (number_of (value_of (codes "alerts=") (past_took words)))
+  contender ← contender_in (past_alerts words)
+  value_if (bad_word (past_cholds (past_alerts words)))
+      (length (past_cholds (past_alerts words)) == 0)
       (record answer { took = took; alerts = alerts; contender = contender })
 
 -- the answer of no words
@@ -55,4 +58,4 @@ without_dash (word ∷ []) = if bytes_eq word (codes "-") then [] else word ∷ 
 without_dash words = words
 
 abbrev pub answer_line_of : ℕ → Line → Result Answered BundleFault
-answer_line_of number line = answer_in number (without_dash (words_of line))
+answer_line_of number line = told (BadAnswer number) (answer_in (without_dash (words_of line)))

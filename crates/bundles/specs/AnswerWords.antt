@@ -2,7 +2,9 @@
 use Rattle.std.specs.Prelude.{ℕ, List, false, None, Result, Ok, codes}
 use Rattle.texts.specs.Reading.{◌>>=◌, some_or}
 use Rattle.smbus.specs.Answered.{Answered}
-use Rattle.bundles.specs.declared.fault.BundleFault.{BundleFault}
+use Rattle.bundles.specs.declared.flaw.Flaw.{Flaw}
+use Rattle.bundles.specs.declared.flaw.Key.TheVariants as keys
+use Rattle.bundles.specs.Flaws.{bad_field}
 use Rattle.bundles.specs.Fields.{value_of, rest_of, refuse_of, number_of, bytes_of}
 use Rattle.bundles.specs.Holds.{holds_of}
 
@@ -19,12 +21,15 @@ abbrev pub past_bytes : List (List ℕ) → List (List ℕ)
 past_bytes words = rest_of (codes "bytes=") (past_value words)
 
 -- `holds=SLOT:K,.. refuse=N value=DIGITS bytes=PAIRS`, each of which may be missing
-unfoldable pub answer_of : BundleFault → List (List ℕ) → Result Answered BundleFault
-answer_of fault words = do
-  holds ← some_or fault (holds_of (value_of (codes "holds=") words))
-  refuse ← some_or fault (refuse_of (value_of (codes "refuse=") (past_holds words)))
-  value ← some_or fault (number_of (value_of (codes "value=") (past_refuse words)))
-  bytes ← some_or fault (bytes_of (value_of (codes "bytes=") (past_value words)))
+unfoldable pub answer_of : List (List ℕ) → Result Answered Flaw
+answer_of words = do
+  holds ← some_or (bad_field keys.Holds words) (holds_of (value_of (codes "holds=") words))
+  refuse ← some_or (bad_field keys.Refuse (past_holds words))
+      (refuse_of (value_of (codes "refuse=") (past_holds words)))
+  value ← some_or (bad_field keys.Value (past_refuse words))
+      (number_of (value_of (codes "value=") (past_refuse words)))
+  bytes ← some_or (bad_field keys.Bytes (past_value words))
+      (bytes_of (value_of (codes "bytes=") (past_value words)))
   Ok (record {
     holds = holds;
     refuse = refuse;

@@ -10,7 +10,9 @@ use Rattle.texts.specs.Hex.{pair_of}
 use Rattle.smbus.specs.Answered.{Answered}
 use Rattle.bundles.specs.declared.fault.BundleFault.{BundleFault}
 use Rattle.bundles.specs.Bundles.{Line, Section}
-use Rattle.bundles.specs.AnswerLines.{bad_answer, answer_line_of}
+use Rattle.bundles.specs.declared.fault.BundleFault.TheVariants.{BadAnswer}
+use Rattle.bundles.specs.declared.flaw.Flaw.TheVariants.{NoLine, Whole}
+use Rattle.bundles.specs.AnswerLines.{answer_line_of}
 use Rattle.bundles.specs.CountedLines.{counted_lines}
 use Rattle.texts.specs.Ascii as ascii
 
@@ -73,9 +75,9 @@ answers_said lines = map answer_said lines
 
 -- the lines that count: where there is none, the fault is at the line below the bundle's last
 unfoldable pub answers_of : ℕ → List (ℕ × Line) → Result Answers BundleFault
-answers_of last [] = Err (bad_answer last)
+answers_of last [] = Err (BadAnswer last NoLine)
 answers_of last (first ∷ later) = do
-  start ← some_or (bad_answer first.0) (start_of (words_of first.1))
+  start ← some_or (BadAnswer first.0 Whole) (start_of (words_of first.1))
   answers ← answer_lines_of later
   Ok (record { pages = start.0; protects = start.1; answers = answers })
 

@@ -5,7 +5,9 @@ use Rattle.texts.specs.Ascii as ascii
 use Rattle.texts.specs.Hex.{pair_of, pairs_of}
 use Rattle.texts.specs.Reading.{◌>>=◌, some_or}
 use Rattle.smbus.specs.Contenders.{Contender}
-use Rattle.bundles.specs.declared.fault.BundleFault.{BundleFault}
+use Rattle.bundles.specs.declared.flaw.Flaw.{Flaw}
+use Rattle.bundles.specs.declared.flaw.Key.TheVariants as keys
+use Rattle.bundles.specs.Flaws.{bad_field}
 use Rattle.bundles.specs.Bundles.{Line}
 use Rattle.bundles.specs.Fields.{value_of, rest_of, cut_at}
 use Rattle.bundles.specs.Holds.{holds_of}
@@ -39,7 +41,9 @@ abbrev pub past_cholds : List Line → List Line
 past_cholds words = rest_of (codes "cholds=") (past_contender words)
 
 -- `contender=HH:PAIRS cholds=SLOT:K,..`, or neither
-unfoldable pub contender_in : BundleFault → List Line → Result (Option Contender) BundleFault
-contender_in fault words = do
-  said ← some_or fault (contender_of (value_of (codes "contender=") words))
-  some_or fault (with_holds said (value_of (codes "cholds=") (past_contender words)))
+unfoldable pub contender_in : List Line → Result (Option Contender) Flaw
+contender_in words = do
+  said ← some_or (bad_field keys.Contender words)
+      (contender_of (value_of (codes "contender=") words))
+  some_or (bad_field keys.ContenderHolds (past_contender words))
+      (with_holds said (value_of (codes "cholds=") (past_contender words)))

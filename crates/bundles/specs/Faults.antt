@@ -12,10 +12,10 @@ number_of NotText = 2
 number_of UnknownCommand = 3
 number_of (Unexpected line) = 4
 number_of (MissingSection header) = 5
-number_of (BadMessage line) = 6
-number_of (BadAnswer line) = 7
+number_of (BadMessage line flaw) = 6
+number_of (BadAnswer line flaw) = 7
 number_of TooLarge = 8
-number_of (BadSeed line) = 9
+number_of (BadSeed line flaw) = 9
 
 abbrev pub name_of : BundleFault → List ℕ
 name_of NoCommand = codes "NoCommand"
@@ -23,7 +23,7 @@ name_of NotText = codes "NotText"
 name_of UnknownCommand = codes "UnknownCommand"
 name_of (Unexpected line) = codes "Unexpected"
 name_of (MissingSection header) = codes "MissingSection"
-name_of (BadMessage line) = codes "BadMessage"
-name_of (BadAnswer line) = codes "BadAnswer"
+name_of (BadMessage line flaw) = codes "BadMessage"
+name_of (BadAnswer line flaw) = codes "BadAnswer"
 name_of TooLarge = codes "TooLarge"
-name_of (BadSeed line) = codes "BadSeed"
+name_of (BadSeed line flaw) = codes "BadSeed"

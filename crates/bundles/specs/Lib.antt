@@ -2,6 +2,8 @@ pub mod Texts
 pub mod Bundles
 pub mod Composed
 pub mod Faults
+pub mod Keys
+pub mod Flaws
 pub mod FormTexts
 pub mod Views
 pub mod Fields

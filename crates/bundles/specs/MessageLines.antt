@@ -3,10 +3,12 @@ use Rattle.std.specs.Prelude.{◌≡◌, ◌↔◌, ℕ, List, [], ◌∷◌, fa
 use Rattle.std.specs.Prelude.{Err, None, codes}
 use Rattle.texts.specs.Words.{words_of}
 use Rattle.bundles.specs.declared.fault.BundleFault.{BundleFault}
+use Rattle.bundles.specs.declared.fault.BundleFault.TheVariants.{BadMessage}
+use Rattle.bundles.specs.declared.flaw.Flaw.{Flaw}
 use Rattle.bundles.specs.declared.message.Exchange.{Exchange}
 use Rattle.bundles.specs.Bundles.{Line}
 use Rattle.bundles.specs.Fields.{bytes_of}
-use Rattle.bundles.specs.Messages.{form_of, address_of, code_of, bad_message, exchange_of}
+use Rattle.bundles.specs.Messages.{form_of, address_of, code_of, exchange_of}
 use Rattle.bundles.specs.Spelled.{KeyValues, spelled, AnswerValues, answer_key_values, SaysAnswer}
 
 -- the values that a message line may have before those of its answer
@@ -41,7 +43,7 @@ abbrev pub MessageLinesAreRead : Type 0
 MessageLinesAreRead = (number : ℕ) (line : Line) (exchange : Exchange)
     → (exchange_of number line ≡ Ok exchange) ↔ IsMessageLine line exchange
 
--- every other line is a bad message
+-- every other line is a bad message, for some flaw of it
 abbrev pub OtherLinesAreBad : Type 0
 OtherLinesAreBad = (number : ℕ) (line : Line) (fault : BundleFault)
-    → exchange_of number line ≡ Err fault → fault ≡ bad_message number
+    → exchange_of number line ≡ Err fault → (flaw : Flaw) × (fault ≡ BadMessage number flaw)

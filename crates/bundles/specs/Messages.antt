@@ -11,9 +11,13 @@ use Rattle.smbus.specs.declared.message.Form.TheVariants as forms
 use Rattle.smbus.specs.FormWords.{form_named, carries_code}
 use Rattle.bundles.specs.declared.fault.BundleFault.{BundleFault}
 use Rattle.bundles.specs.declared.fault.BundleFault.TheVariants.{BadMessage}
+use Rattle.bundles.specs.declared.flaw.Flaw.{Flaw}
+use Rattle.bundles.specs.declared.flaw.Flaw.TheVariants.{NoLine, Second}
+use Rattle.bundles.specs.declared.flaw.Key.TheVariants as keys
 use Rattle.bundles.specs.declared.message.Exchange.{Exchange}
 use Rattle.bundles.specs.Bundles.{Line, Section}
 use Rattle.bundles.specs.Fields.{value_of, rest_of, bytes_of}
+use Rattle.bundles.specs.Flaws.{bad_field, bad_word, told}
 use Rattle.bundles.specs.AnswerWords.{answer_of, past_bytes}
 use Rattle.bundles.specs.CountedLines.{counted_lines}
 
@@ -48,35 +52,38 @@ past_code words = rest_of (codes "code=") (past_address words)
 abbrev pub past_asked : List (List ℕ) → List (List ℕ)
 past_asked words = rest_of (codes "out=") (past_code words)
 
-abbrev pub bad_message : ℕ → BundleFault
-bad_message number = BadMessage number
-
 -- `form=F address=HH code=HH out=PAIRS`
-unfoldable pub asked_of : ℕ → List (List ℕ) → Result Asked BundleFault
-asked_of number words = do
-  form ← some_or (bad_message number) (option_and_then form_of (value_of (codes "form=") words))
-  address ← some_or (bad_message number)
+unfoldable pub asked_of : List (List ℕ) → Result Asked Flaw
+asked_of words = do
+  form ← some_or (bad_field keys.Form words)
+      (option_and_then form_of (value_of (codes "form=") words))
+  address ← some_or (bad_field keys.Address (past_form words))
       (option_and_then (address_of form) (value_of (codes "address=") (past_form words)))
-  code ← some_or (bad_message number) (code_of form (value_of (codes "code=") (past_address words)))
-  out ← some_or (bad_message number) (bytes_of (value_of (codes "out=") (past_code words)))
+  code ← some_or (bad_field keys.Code (past_address words))
+      (code_of form (value_of (codes "code=") (past_address words)))
+  out ← some_or (bad_field keys.Out (past_code words))
+      (bytes_of (value_of (codes "out=") (past_code words)))
   Ok (record { address = address; form = form; code = code; out = out })
 
 -- what the controller asks, and then the answer
-unfoldable pub exchange_of : ℕ → Line → Result Exchange BundleFault
-exchange_of number line = do
-  message ← asked_of number (words_of line)
-  answer ← answer_of (bad_message number) (past_asked (words_of line))
-  whole ← value_if (bad_message number)
-      (length (past_bytes (past_asked (words_of line))) == 0) answer
+unfoldable pub exchange_said : List (List ℕ) → Result Exchange Flaw
+exchange_said words = do
+  message ← asked_of words
+  answer ← answer_of (past_asked words)
+  whole ← value_if (bad_word (past_bytes (past_asked words)))
+      (length (past_bytes (past_asked words)) == 0) answer
   Ok (record { message = message; answer = whole })
+
+abbrev pub exchange_of : ℕ → Line → Result Exchange BundleFault
+exchange_of number line = told (BadMessage number) (exchange_said (words_of line))
 
 -- the one line that counts: where there is none, the fault is at the line below the bundle's last,
 -- and where there is a second, at that
 unfoldable pub only_exchange : ℕ → List (ℕ × Line) → Result Exchange BundleFault
-only_exchange last [] = Err (bad_message last)
+only_exchange last [] = Err (BadMessage last NoLine)
 only_exchange last (first ∷ []) = exchange_of first.0 first.1
 only_exchange last (first ∷ second ∷ later) = exchange_of first.0 first.1 >>= λ exchange.
-    Err (bad_message second.0)
+    Err (BadMessage second.0 Second)
 
 abbrev pub exchange_in : Section → Result Exchange BundleFault
 exchange_in section =

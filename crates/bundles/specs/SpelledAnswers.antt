@@ -5,10 +5,12 @@ use Rattle.std.specs.Prelude.{codes}
 use Rattle.texts.specs.Words.{words_of}
 use Rattle.smbus.specs.Answered.{Answered}
 use Rattle.bundles.specs.declared.fault.BundleFault.{BundleFault}
+use Rattle.bundles.specs.declared.fault.BundleFault.TheVariants.{BadAnswer}
+use Rattle.bundles.specs.declared.flaw.Flaw.{Flaw}
 use Rattle.bundles.specs.Bundles.{Line}
 use Rattle.bundles.specs.Fields.{number_of}
 use Rattle.bundles.specs.ContenderWords.{contender_of, with_holds}
-use Rattle.bundles.specs.AnswerLines.{took_of, without_dash, bad_answer, answer_line_of}
+use Rattle.bundles.specs.AnswerLines.{took_of, without_dash, answer_line_of}
 use Rattle.bundles.specs.Spelled.{KeyValues, spelled, AnswerValues, answer_key_values, SaysAnswer}
 
 -- the values that an answer line may have
@@ -40,7 +42,7 @@ abbrev pub AnswerLinesAreRead : Type 0
 AnswerLinesAreRead = (number : ℕ) (line : Line) (answer : Answered)
     → (answer_line_of number line ≡ Ok answer) ↔ IsAnswerLine line answer
 
--- every other line is a bad answer
+-- every other line is a bad answer, for some flaw of it
 abbrev pub OtherLinesAreBad : Type 0
 OtherLinesAreBad = (number : ℕ) (line : Line) (fault : BundleFault)
-    → answer_line_of number line ≡ Err fault → fault ≡ bad_answer number
+    → answer_line_of number line ≡ Err fault → (flaw : Flaw) × (fault ≡ BadAnswer number flaw)

@@ -8,8 +8,9 @@ ghost use Rattle.bit_bus.specs.declared.plan.TheConstants.{LONGEST_HOLD};
 
 use crate::answer_words::answer_of;
 use crate::contender_words::contender_in;
-use crate::fault::BundleFault;
+use crate::fault::{BundleFault, bad_answer};
 use crate::field::{Fields, number_of};
+use crate::flaw::{Flaw, Key};
 use smbus::Answer;
 use std::alloc::Global;
 use texts::{ReadError, words_of};
@@ -37,25 +38,22 @@ fn without_dash<'a>(words: &'a [&'a str]) -> &'a [&'a str]
 
 /// The answer of all words of a line.
 #[tactic(auto, unfolding(crate::specs::AnswerLines::answer_in))]
-fn answer_in(
-    alloc: Global,
-    line: usize,
-    words: &mut Fields<'_>,
-) -> Result<Answer, ReadError<BundleFault>>
+fn answer_in(alloc: Global, words: &mut Fields<'_>) -> Result<Answer, ReadError<Flaw>>
     ensures held { IfOk result (λ answer. All (λ hold. hold ≤ LONGEST_HOLD) answer.holds) }
-    ensures value { Gives (λ a. a) result (answer_in line (texts_of words.old.words.now)) }
+    ensures value { Gives (λ a. a) result (answer_in (texts_of words.old.words.now)) }
 {
-    let fault = BundleFault::BadAnswer(line);
-    let answer = answer_of(alloc, fault, words)?;
-    let Some(took) = took_of(words.take("took=")) else {
-        return Err(fault.error());
+    let answer = answer_of(alloc, words)?;
+    let bad = words.bad(Key::Took);
+    let Some(took) = took_of(words.take(Key::Took)) else {
+        return Err(bad.error());
     };
-    let Some(alerts) = number_of(words.take("alerts=")) else {
-        return Err(fault.error());
+    let bad = words.bad(Key::Alerts);
+    let Some(alerts) = number_of(words.take(Key::Alerts)) else {
+        return Err(bad.error());
     };
-    let contender = contender_in(alloc, fault, words)?;
+    let contender = contender_in(alloc, words)?;
     if !words.words.is_empty() {
-        return Err(fault.error());
+        return Err(words.unread().error());
     }
     Ok(Answer {
         took,
@@ -80,8 +78,8 @@ fn silence(alloc: Global) -> Answer
     }
 }
 
-/// The answer that a line says: BadAnswer with this number where it says none. Memory is answered
-/// where a growth was refused.
+/// The answer that a line says: BadAnswer with this number and the line's flaw where it says none.
+/// Memory is answered where a growth was refused.
 pub fn answer_line_of(
     alloc: Global,
     number: usize,
@@ -98,5 +96,8 @@ pub fn answer_line_of(
     let mut words = Fields {
         words: without_dash(&list),
     };
-    answer_in(alloc, number, &mut words)
+    match answer_in(alloc, &mut words) {
+        Ok(answer) => Ok(answer),
+        Err(error) => Err(bad_answer(number, error)),
+    }
 }

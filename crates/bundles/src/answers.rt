@@ -11,6 +11,7 @@ use crate::answer_list::AnswerLines;
 use crate::counted::first_counted;
 use crate::fault::BundleFault;
 use crate::field::parts_of;
+use crate::flaw::Flaw;
 use crate::section::Section;
 use std::alloc::{AllocError, Global};
 use std::marker::Model;
@@ -103,11 +104,12 @@ pub fn answers_in<'a>(
     ensures value { Gives (λ a. a) result (answers_in (section_view section.now)) }
 {
     let Some(first) = first_counted(section) else {
-        return Err(BundleFault::BadAnswer(section.first_line + section.count).error());
+        let below = section.first_line + section.count;
+        return Err(BundleFault::BadAnswer(below, Flaw::NoLine).error());
     };
     let words = words_of(alloc, first.line)?;
     let Some((pages, protects)) = start_of(alloc, &words)? else {
-        return Err(BundleFault::BadAnswer(first.number).error());
+        return Err(BundleFault::BadAnswer(first.number, Flaw::Whole).error());
     };
     let answers = AnswerLines::of_section(alloc, &first.below)?;
     Ok(Answers {

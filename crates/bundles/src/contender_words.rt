@@ -4,8 +4,8 @@ ghost use Rattle.bundles.specs.ContenderWords.{contender_said, contender_of, wit
 ghost use Rattle.bundles.specs.ContenderWords.{contender_in, past_cholds};
 ghost use Rattle.bundles.specs.Texts.{texts_of};
 
-use crate::fault::BundleFault;
 use crate::field::{Fields, cut_at_colon, holds_of};
+use crate::flaw::{Flaw, Key};
 use smbus::Contender;
 use std::alloc::{AllocError, Global};
 use texts::{ReadError, pair_of, pairs_of};
@@ -35,55 +35,56 @@ fn contender_said(alloc: Global, text: &str) -> Result<Option<Contender>, AllocE
 /// Another controller, if a word says one.
 fn contender_of(
     alloc: Global,
-    fault: BundleFault,
+    bad: Flaw,
     text: Option<&str>,
-) -> Result<Option<Contender>, ReadError<BundleFault>>
+) -> Result<Option<Contender>, ReadError<Flaw>>
     ensures { Gives (λ c. c) result
-        (some_or fault (contender_of (option_copied text.entry))) }
+        (some_or bad (contender_of (option_copied text.entry))) }
 {
     let Some(text) = text else {
         return Ok(None);
     };
     match contender_said(alloc, text)? {
         Some(contender) => Ok(Some(contender)),
-        None => Err(fault.error()),
+        None => Err(bad.error()),
     }
 }
 
 /// Another controller with its holds; no word of holds may stand where there is none.
 fn with_holds(
     alloc: Global,
-    fault: BundleFault,
+    bad: Flaw,
     contender: Option<Contender>,
     text: Option<&str>,
-) -> Result<Option<Contender>, ReadError<BundleFault>>
+) -> Result<Option<Contender>, ReadError<Flaw>>
     ensures { Gives (λ c. c) result
-        (some_or fault (with_holds contender (option_copied text.entry))) }
+        (some_or bad (with_holds contender (option_copied text.entry))) }
 {
     let Some(contender) = contender else {
         return match text {
             None => Ok(None),
-            Some(_) => Err(fault.error()),
+            Some(_) => Err(bad.error()),
         };
     };
     match holds_of(alloc, text)? {
         Some(holds) => Ok(Some(Contender { holds, ..contender })),
-        None => Err(fault.error()),
+        None => Err(bad.error()),
     }
 }
 
-/// The other controller of the words `contender= cholds=`, if they say one, or the fault of their
-/// line.
+/// The other controller of the words `contender= cholds=`, if they say one, or the flaw of the
+/// first that can't.
 #[tactic(auto, unfolding(crate::specs::ContenderWords::contender_in))]
 pub(crate) fn contender_in(
     alloc: Global,
-    fault: BundleFault,
     words: &mut Fields<'_>,
-) -> Result<Option<Contender>, ReadError<BundleFault>>
-    ensures value { Gives (λ c. c) result (contender_in fault (texts_of words.old.words.now)) }
+) -> Result<Option<Contender>, ReadError<Flaw>>
+    ensures value { Gives (λ c. c) result (contender_in (texts_of words.old.words.now)) }
     ensures rest { OnOk result
         (texts_of words.new.words.now ≡ past_cholds (texts_of words.old.words.now)) }
 {
-    let said = contender_of(alloc, fault, words.take("contender="))?;
-    with_holds(alloc, fault, said, words.take("cholds="))
+    let bad = words.bad(Key::Contender);
+    let said = contender_of(alloc, bad, words.take(Key::Contender))?;
+    let bad = words.bad(Key::ContenderHolds);
+    with_holds(alloc, bad, said, words.take(Key::ContenderHolds))
 }

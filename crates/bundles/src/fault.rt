@@ -1,11 +1,13 @@
 ghost use Rattle.std.specs.Prelude.{◌≡◌};
 ghost use Rattle.bundles.specs.Faults.{number_of, name_of};
+ghost use Rattle.bundles.specs.Flaws.{at_line};
 
 use crate::command::Header;
+use crate::flaw::Flaw;
 use texts::ReadError;
 use thiserror::Error;
 
-/// What is wrong with a bundle: its first fault, with its line.
+/// What is wrong with a bundle: its first fault, with its line and the line's flaw.
 #[derive(Clone, Copy, Debug, PartialEq, Eq, Error)]
 pub enum BundleFault {
     #[error("the bundle is empty")]
@@ -19,13 +21,13 @@ pub enum BundleFault {
     #[error("a section is missing")]
     MissingSection(Header),
     #[error("line {0} is no message")]
-    BadMessage(usize),
+    BadMessage(usize, Flaw),
     #[error("line {0} is no answer")]
-    BadAnswer(usize),
+    BadAnswer(usize, Flaw),
     #[error("the bundle is too large")]
     TooLarge,
     #[error("line {0} is no seed")]
-    BadSeed(usize),
+    BadSeed(usize, Flaw),
 }
 
 impl BundleFault {
@@ -39,10 +41,10 @@ impl BundleFault {
             BundleFault::UnknownCommand => 3,
             BundleFault::Unexpected(_) => 4,
             BundleFault::MissingSection(_) => 5,
-            BundleFault::BadMessage(_) => 6,
-            BundleFault::BadAnswer(_) => 7,
+            BundleFault::BadMessage(..) => 6,
+            BundleFault::BadAnswer(..) => 7,
             BundleFault::TooLarge => 8,
-            BundleFault::BadSeed(_) => 9,
+            BundleFault::BadSeed(..) => 9,
         }
     }
 
@@ -56,10 +58,10 @@ impl BundleFault {
             BundleFault::UnknownCommand => "UnknownCommand",
             BundleFault::Unexpected(_) => "Unexpected",
             BundleFault::MissingSection(_) => "MissingSection",
-            BundleFault::BadMessage(_) => "BadMessage",
-            BundleFault::BadAnswer(_) => "BadAnswer",
+            BundleFault::BadMessage(..) => "BadMessage",
+            BundleFault::BadAnswer(..) => "BadAnswer",
             BundleFault::TooLarge => "TooLarge",
-            BundleFault::BadSeed(_) => "BadSeed",
+            BundleFault::BadSeed(..) => "BadSeed",
         }
     }
 
@@ -68,5 +70,25 @@ impl BundleFault {
         ensures { result ≡ ReadError.Fault self }
     {
         ReadError::Fault(self)
+    }
+}
+
+/// A flaw of the line of a message with this number, as the bundle's fault.
+pub(crate) fn bad_message(number: usize, error: ReadError<Flaw>) -> ReadError<BundleFault>
+    ensures { result ≡ at_line (BundleFault.BadMessage number) error }
+{
+    match error {
+        ReadError::Memory => ReadError::Memory,
+        ReadError::Fault(flaw) => BundleFault::BadMessage(number, flaw).error(),
+    }
+}
+
+/// A flaw of the line of an answer with this number, as the bundle's fault.
+pub(crate) fn bad_answer(number: usize, error: ReadError<Flaw>) -> ReadError<BundleFault>
+    ensures { result ≡ at_line (BundleFault.BadAnswer number) error }
+{
+    match error {
+        ReadError::Memory => ReadError::Memory,
+        ReadError::Fault(flaw) => BundleFault::BadAnswer(number, flaw).error(),
     }
 }

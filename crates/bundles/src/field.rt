@@ -3,11 +3,14 @@ ghost use Rattle.std.specs.Prelude.{replicate, option_map, option_copied, vec_le
 ghost use Rattle.std.specs.Prelude.{IfSome, All, Some, None, option_and_then, if◌then◌else◌};
 ghost use Rattle.std.specs.List.{slice_split};
 ghost use Rattle.bundles.specs.Texts.{texts_of};
+ghost use Rattle.bundles.specs.Flaws.{bad_field, bad_word};
+ghost use Rattle.bundles.specs.Keys.{key_text};
 ghost use Rattle.bundles.specs.Fields.{after_key, value_of, rest_of, refuse_of, number_of};
 ghost use Rattle.bundles.specs.Fields.{bytes_of, cut_at};
 ghost use Rattle.bundles.specs.Holds.{hold_of, holds_of};
 ghost use Rattle.bundles.specs.HoldsRead.{with_hold, holds_from};
 
+use crate::flaw::{Flaw, Key};
 use bit_bus::LONGEST_HOLD;
 use std::alloc::{AllocError, Global};
 use texts::{decimal_within, hex_number, pairs_of};
@@ -28,20 +31,36 @@ fn after_key<'a>(key: &str, word: &'a str) -> Option<&'a str>
 impl<'a> Fields<'a> {
     /// Takes the first word, if it has this key, and gives its value.
     #[tactic(auto, unfolding(crate::specs::Fields::value_of, crate::specs::Fields::rest_of))]
-    pub fn take(&mut self, key: &str) -> Option<&'a str>
-        ensures value { option_copied result ≡ value_of key.now (texts_of self.old.words.now) }
-        ensures rest { texts_of self.new.words.now ≡ rest_of key.now (texts_of self.old.words.now) }
+    pub fn take(&mut self, key: Key) -> Option<&'a str>
+        ensures value { option_copied result
+            ≡ value_of (key_text key) (texts_of self.old.words.now) }
+        ensures rest { texts_of self.new.words.now
+            ≡ rest_of (key_text key) (texts_of self.old.words.now) }
     {
         let [word, rest @ ..] = self.words else {
             return None;
         };
-        match after_key(key, word) {
+        match after_key(key.text(), word) {
             Some(value) => {
                 self.words = rest;
                 Some(value)
             }
             None => None,
         }
+    }
+
+    /// The flaw where the field of this key comes next.
+    pub fn bad(&self, key: Key) -> Flaw
+        ensures { result ≡ bad_field key (texts_of self.now.words.now) }
+    {
+        Flaw::Field(key, self.words.len())
+    }
+
+    /// The flaw where no field takes the word that comes next.
+    pub fn unread(&self) -> Flaw
+        ensures { result ≡ bad_word (texts_of self.now.words.now) }
+    {
+        Flaw::Word(self.words.len())
     }
 }
 

@@ -14,6 +14,7 @@ mod contender_words;
 mod counted;
 mod fault;
 mod field;
+mod flaw;
 mod form;
 mod law;
 mod lines;
@@ -31,6 +32,7 @@ pub use command::{COMMANDS, Command, Header};
 pub use composing::{compose, end_last_line};
 pub use counted::is_counted;
 pub use fault::BundleFault;
+pub use flaw::{Flaw, Key};
 pub use form::form_word;
 pub use law::{
     answer_lines_are_read, composed_bundles_are_read, message_lines_are_read,

@@ -3,7 +3,8 @@ ghost use Rattle.std.specs.Prelude.{IfSome, OnOk, ◌≤◌, All, Some, None, if
 ghost use Rattle.smbus.specs.Asked.{IsAddressed};
 ghost use Rattle.texts.specs.Reading.{Gives};
 ghost use Rattle.bundles.specs.Messages.{code_of, form_of, address_for, address_of, asked_of};
-ghost use Rattle.bundles.specs.Messages.{exchange_of, past_asked, only_exchange, exchange_in};
+ghost use Rattle.bundles.specs.Messages.{exchange_of, exchange_said, past_asked, only_exchange};
+ghost use Rattle.bundles.specs.Messages.{exchange_in};
 ghost use Rattle.bundles.specs.AnswerWords.{answer_of};
 ghost use Rattle.bundles.specs.Texts.{texts_of};
 ghost use Rattle.bundles.specs.Views.{section_view};
@@ -12,8 +13,9 @@ ghost use Rattle.bit_bus.specs.declared.plan.TheConstants.{LONGEST_HOLD};
 
 use crate::answer_words::answer_of;
 use crate::counted::first_counted;
-use crate::fault::BundleFault;
+use crate::fault::{BundleFault, bad_message};
 use crate::field::{Fields, bytes_of};
+use crate::flaw::{Flaw, Key};
 use crate::section::Section;
 use smbus::{Answer, Form, Message, carries_code, form_named};
 use std::alloc::Global;
@@ -70,13 +72,6 @@ fn address_of(form: Form, text: &str) -> Option<u8>
     }
 }
 
-/// The fault of a line that is no message.
-fn bad_message(line: usize) -> ReadError<BundleFault>
-    ensures { result ≡ ReadError.Fault (BundleFault.BadMessage line) }
-{
-    BundleFault::BadMessage(line).error()
-}
-
 /// Takes the form word.
 fn take_form(words: &mut Fields<'_>) -> Option<Form>
     ensures value { result
@@ -84,7 +79,7 @@ fn take_form(words: &mut Fields<'_>) -> Option<Form>
     ensures rest { texts_of words.new.words.now
         ≡ rest_of (codes "form=") (texts_of words.old.words.now) }
 {
-    form_of(words.take("form=")?)
+    form_of(words.take(Key::Form)?)
 }
 
 /// Takes the address.
@@ -95,31 +90,31 @@ fn take_address(form: Form, words: &mut Fields<'_>) -> Option<u8>
     ensures rest { texts_of words.new.words.now
         ≡ rest_of (codes "address=") (texts_of words.old.words.now) }
 {
-    address_of(form, words.take("address=")?)
+    address_of(form, words.take(Key::Address)?)
 }
 
 /// What the controller asks, by the first words of a line.
 #[tactic(auto, unfolding(crate::specs::Messages::asked_of))]
-fn asked_of(
-    alloc: Global,
-    line: usize,
-    words: &mut Fields<'_>,
-) -> Result<Message, ReadError<BundleFault>>
-    ensures value { Gives (λ m. m) result (asked_of line (texts_of words.old.words.now)) }
+fn asked_of(alloc: Global, words: &mut Fields<'_>) -> Result<Message, ReadError<Flaw>>
+    ensures value { Gives (λ m. m) result (asked_of (texts_of words.old.words.now)) }
     ensures rest { OnOk result
         (texts_of words.new.words.now ≡ past_asked (texts_of words.old.words.now)) }
 {
+    let bad = words.bad(Key::Form);
     let Some(form) = take_form(words) else {
-        return Err(bad_message(line));
+        return Err(bad.error());
     };
+    let bad = words.bad(Key::Address);
     let Some(address) = take_address(form, words) else {
-        return Err(bad_message(line));
+        return Err(bad.error());
     };
-    let Some(code) = code_of(form, words.take("code=")) else {
-        return Err(bad_message(line));
+    let bad = words.bad(Key::Code);
+    let Some(code) = code_of(form, words.take(Key::Code)) else {
+        return Err(bad.error());
     };
-    let Some(out) = bytes_of(alloc, words.take("out="))? else {
-        return Err(bad_message(line));
+    let bad = words.bad(Key::Out);
+    let Some(out) = bytes_of(alloc, words.take(Key::Out))? else {
+        return Err(bad.error());
     };
     Ok(Message {
         address,
@@ -129,8 +124,22 @@ fn asked_of(
     })
 }
 
+/// The message and the answer of all words of a line.
+#[tactic(auto, unfolding(crate::specs::Messages::exchange_said))]
+fn exchange_said(alloc: Global, words: &mut Fields<'_>) -> Result<Exchange, ReadError<Flaw>>
+    ensures held { IfOk result
+        (λ exchange. All (λ hold. hold ≤ LONGEST_HOLD) exchange.answer.holds) }
+    ensures value { Gives (λ e. e) result (exchange_said (texts_of words.old.words.now)) }
+{
+    let message = asked_of(alloc, words)?;
+    let answer = answer_of(alloc, words)?;
+    if !words.words.is_empty() {
+        return Err(words.unread().error());
+    }
+    Ok(Exchange { message, answer })
+}
+
 /// The message and the answer of a line.
-#[tactic(auto, unfolding(crate::specs::Messages::exchange_of))]
 fn exchange_of(alloc: Global, number: usize, line: &str) -> Result<Exchange, ReadError<BundleFault>>
     ensures held { IfOk result
         (λ exchange. All (λ hold. hold ≤ LONGEST_HOLD) exchange.answer.holds) }
@@ -138,18 +147,16 @@ fn exchange_of(alloc: Global, number: usize, line: &str) -> Result<Exchange, Rea
 {
     let list = words_of(alloc, line)?;
     let mut words = Fields { words: &list };
-    let message = asked_of(alloc, number, &mut words)?;
-    let answer = answer_of(alloc, BundleFault::BadMessage(number), &mut words)?;
-    if !words.words.is_empty() {
-        return Err(bad_message(number));
+    match exchange_said(alloc, &mut words) {
+        Ok(exchange) => Ok(exchange),
+        Err(error) => Err(bad_message(number, error)),
     }
-    Ok(Exchange { message, answer })
 }
 
 /// The message of a section and the answer to it, which its one line that counts says. BadMessage
-/// is answered with that line where it says none, with the second where there are two, and with the
-/// line below the section's last where there is none. Memory is answered where a growth was
-/// refused.
+/// is answered with that line and its flaw where it says none, with the second where there are two,
+/// and with the line below the section's last where there is none. Memory is answered where a
+/// growth was refused.
 #[tactic(auto, unfolding(crate::specs::Messages::only_exchange))]
 pub fn exchange_in(alloc: Global, section: &Section<'_>) -> Result<Exchange, ReadError<BundleFault>>
     ensures held { IfOk result
@@ -157,11 +164,12 @@ pub fn exchange_in(alloc: Global, section: &Section<'_>) -> Result<Exchange, Rea
     ensures value { Gives (λ e. e) result (exchange_in (section_view section.now)) }
 {
     let Some(first) = first_counted(section) else {
-        return Err(bad_message(section.first_line + section.count));
+        let below = section.first_line + section.count;
+        return Err(BundleFault::BadMessage(below, Flaw::NoLine).error());
     };
     let exchange = exchange_of(alloc, first.number, first.line)?;
     match first_counted(&first.below) {
-        Some(second) => Err(bad_message(second.number)),
+        Some(second) => Err(BundleFault::BadMessage(second.number, Flaw::Second).error()),
         None => Ok(exchange),
     }
 }

@@ -6,6 +6,7 @@ ghost use Rattle.bundles.specs.Views.{section_view};
 
 use crate::counted::first_counted;
 use crate::fault::BundleFault;
+use crate::flaw::Flaw;
 use crate::section::Section;
 use texts::decimal_within;
 
@@ -15,7 +16,7 @@ fn seed_of(number: usize, line: &str) -> Result<u64, BundleFault>
 {
     match decimal_within(line, u64::MAX) {
         Some(seed) => Ok(seed),
-        None => Err(BundleFault::BadSeed(number)),
+        None => Err(BundleFault::BadSeed(number, Flaw::Whole)),
     }
 }
 
@@ -27,11 +28,12 @@ pub fn seed_in(section: &Section<'_>) -> Result<u64, BundleFault>
     ensures { result ≡ seed_in (section_view section.now) }
 {
     let Some(first) = first_counted(section) else {
-        return Err(BundleFault::BadSeed(section.first_line + section.count));
+        let below = section.first_line + section.count;
+        return Err(BundleFault::BadSeed(below, Flaw::NoLine));
     };
     let seed = seed_of(first.number, first.line)?;
     match first_counted(&first.below) {
-        Some(second) => Err(BundleFault::BadSeed(second.number)),
+        Some(second) => Err(BundleFault::BadSeed(second.number, Flaw::Second)),
         None => Ok(seed),
     }
 }

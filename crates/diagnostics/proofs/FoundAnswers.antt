@@ -13,7 +13,9 @@ use Rattle.texts.specs.Reading.{◌>>=◌, some_or}
 use Rattle.texts.specs.Words.{words_of}
 use Rattle.smbus.specs.Answered.{Answered}
 use Rattle.bundles.specs.declared.fault.BundleFault.{BundleFault}
-use Rattle.bundles.specs.AnswerLines.{answer_line_of, bad_answer}
+use Rattle.bundles.specs.declared.fault.BundleFault.TheVariants.{BadAnswer}
+use Rattle.bundles.specs.declared.flaw.Flaw.TheVariants.{Whole}
+use Rattle.bundles.specs.AnswerLines.{answer_line_of}
 use Rattle.bundles.specs.Answers.{Answers, answers_of, answer_lines_of, start_of}
 use Rattle.bundles.specs.Bundles.{Line, Section}
 use Rattle.bundles.specs.CountedLines.{is_counted, counted_lines}
@@ -144,7 +146,7 @@ below last (first ∷ later) answers e = record {
   later = later;
   parts = refl;
   reads =
-      below_start (bad_answer first.0) (start_of (words_of first.1)) (answer_lines_of later)
+      below_start (BadAnswer first.0 Whole) (start_of (words_of first.1)) (answer_lines_of later)
       answers e;
 }
 

@@ -29,10 +29,10 @@ IsOnSectionLine text sections header index line note =
 -- where a fault has no line of its own, the note is on the first, which has the command
 abbrev pub IsOnFault : List ℕ → List Section → BundleFault → Note → Type 0
 IsOnFault text sections (faults.Unexpected line) note = IsOnBundleLine text line note
-IsOnFault text sections (faults.BadMessage line) note =
+IsOnFault text sections (faults.BadMessage line flaw) note =
     IsOnSectionLine text sections Message 0 line note
-IsOnFault text sections (faults.BadAnswer line) note =
+IsOnFault text sections (faults.BadAnswer line flaw) note =
     IsOnSectionLine text sections Answers 2 line note
-IsOnFault text sections (faults.BadSeed line) note =
+IsOnFault text sections (faults.BadSeed line flaw) note =
     IsOnSectionLine text sections Seed 2 line note
 IsOnFault text sections fault note = IsOnBundleLine text 1 note

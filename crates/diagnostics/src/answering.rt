@@ -9,13 +9,14 @@ ghost use Rattle.session.specs.Promises.{GivesUpOnLoopsAlone, IsKeptPromise};
 ghost use Rattle.session.specs.Sessions.{IsAnswered, IsCutShort, IsReplyTo};
 ghost use Rattle.session.specs.declared.answering.DeviceFault.TheVariants.{Writer};
 
+use crate::Result;
 use crate::bound::{Beside, bound_on};
 use crate::input::note_on;
 use crate::other_errors::{OtherErrors, other_errors_on};
 use crate::warning::{Warnings, warnings_on};
 use notes::Note;
 use session::{Case, DeviceFault, Reply, Status, deliver, judge, read_input, reply_of};
-use std::alloc::{AllocError, Global};
+use std::alloc::Global;
 use std::io::{Read, Write};
 
 /// What a person is told of an input, beside the reply.
@@ -31,7 +32,7 @@ pub struct Notes {
 }
 
 /// What a person is told of an input, by what became of it: what to mend, and what is warned of.
-fn notes_on(alloc: Global, case: &Case<'_>, beside: Beside) -> Result<Notes, AllocError>
+fn notes_on(alloc: Global, case: &Case<'_>, beside: Beside) -> Result<Notes>
     ensures { IfOk result (AreNotesOf beside case.now) }
 {
     let error = note_on(alloc, case)?;
@@ -54,7 +55,7 @@ struct Told {
 }
 
 /// The reply to a case, beside these notes.
-fn with_reply(alloc: Global, case: Case<'_>, notes: Notes) -> Result<Told, AllocError>
+fn with_reply(alloc: Global, case: Case<'_>, notes: Notes) -> Result<Told>
     requires { IsTrue case.outcome }
     ensures notes { IfOk result (λ told. told.notes ≡ notes) }
     ensures whole { IfOk result (λ told. told.reply.status ≢ Status.DeviceFault) }
@@ -73,7 +74,7 @@ fn with_reply(alloc: Global, case: Case<'_>, notes: Notes) -> Result<Told, Alloc
 }
 
 /// What a person is told of a case, and the reply to it.
-fn told_of(alloc: Global, case: Case<'_>, beside: Beside) -> Result<Told, AllocError>
+fn told_of(alloc: Global, case: Case<'_>, beside: Beside) -> Result<Told>
     requires { IsTrue case.outcome }
     ensures notes { IfOk result (λ told. AreNotesOf beside case.entry told.notes) }
     ensures whole { IfOk result (λ told. told.reply.status ≢ Status.DeviceFault) }

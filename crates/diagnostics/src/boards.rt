@@ -20,6 +20,7 @@ mod twice;
 mod values;
 mod words;
 
+use crate::Result;
 use crate::note::{marked, note_in};
 use board::{BoardFault, FaultKind};
 use draft::Draft;
@@ -39,17 +40,13 @@ fn finding_in_tree<'a>(
     text: &'a str,
     tree: &Table,
     fault: BoardFault,
-) -> Result<Finding<'a>, AllocError> {
+) -> Result<Finding<'a>> {
     let draft = Draft::new(alloc, text, tree, fault)?;
     finding_in(alloc, &draft)
 }
 
 /// The same of a text that is no TOML document.
-fn finding_of_error<'a>(
-    alloc: Global,
-    text: &'a str,
-    error: &Error,
-) -> Result<Finding<'a>, AllocError> {
+fn finding_of_error<'a>(alloc: Global, text: &'a str, error: &Error) -> Result<Finding<'a>> {
     if error.is_memory() {
         return Err(AllocError);
     }
@@ -57,11 +54,7 @@ fn finding_of_error<'a>(
 }
 
 /// The line that a fault is told on, and what is said of it.
-fn finding_on<'a>(
-    alloc: Global,
-    text: &'a str,
-    fault: BoardFault,
-) -> Result<Finding<'a>, AllocError> {
+fn finding_on<'a>(alloc: Global, text: &'a str, fault: BoardFault) -> Result<Finding<'a>> {
     match toml::table_from_str(alloc, text) {
         Ok(tree) => finding_in_tree(alloc, text, &tree, fault),
         Err(error) => finding_of_error(alloc, text, &error),
@@ -84,7 +77,7 @@ fn number_within(text: &str, number: usize) -> usize
 /// The fault is to be the one that `read_board` answers for the text, and says at which key of
 /// which table it is. That key's line is found by the looks of the lines: where a file is laid out
 /// in an unusual way, a line above may be named. Fails only for want of memory.
-pub fn board_note(alloc: Global, text: &str, fault: BoardFault) -> Result<Option<Note>, AllocError>
+pub fn board_note(alloc: Global, text: &str, fault: BoardFault) -> Result<Option<Note>>
     ensures memory { IfOk result (λ note. fault.kind ≡ Memory → note ≡ None) }
     ensures line { IfOk result (λ note. fault.kind ≢ Memory → IsOnSomeLine text.now note) }
 {

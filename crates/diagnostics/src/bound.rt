@@ -8,6 +8,7 @@ ghost use Rattle.session.specs.Parts.{sections_view};
 
 mod dearest;
 
+use crate::Result;
 use crate::bound::dearest::{Dearest, Turns, dearest_way};
 use crate::input::{as_found, program_text};
 use crate::note::note_in;
@@ -16,7 +17,7 @@ use crate::remark::Remark;
 use bundles::Section;
 use notes::{Level, Note};
 use session::{Case, Judged, Outcome, Sequence, place_line, place_lines};
-use std::alloc::{AllocError, Global};
+use std::alloc::Global;
 use table_check::Judgement;
 
 /// What is told beside a verdict.
@@ -28,7 +29,7 @@ pub enum Beside {
 }
 
 /// Ticks in milliseconds, or in seconds where they are many; few as they are.
-fn push_time(text: &mut String, ticks: u64) -> Result<(), AllocError> {
+fn push_time(text: &mut String, ticks: u64) -> Result<()> {
     if ticks < 20 {
         let unit = if ticks == 1 { "tick" } else { "ticks" };
         return write!(text, "{ticks} {unit}");
@@ -43,9 +44,8 @@ fn push_time(text: &mut String, ticks: u64) -> Result<(), AllocError> {
 }
 
 /// Turns of a loop in words.
-fn turns_text(alloc: Global, lines: &[usize], turns: &Turns) -> Result<String, AllocError> {
-    let first = lines.get(turns.first).copied().unwrap_or(0);
-    let last = lines.get(turns.last).copied().unwrap_or(0);
+fn turns_text(alloc: Global, judging: Judging<'_>, turns: &Turns) -> Result<String> {
+    let (first, last) = (judging.line(turns.first), judging.line(turns.last));
     let times = turns.times;
     let mut text = String::new(alloc);
     for _ in 0..turns.depth {
@@ -68,7 +68,7 @@ fn ticks_in_loops(turns: &[Turns]) -> u64 {
 }
 
 /// Adds what a bound has beyond a way.
-fn push_beyond(alloc: Global, facts: &mut Vec<String>, ticks: u64) -> Result<(), AllocError> {
+fn push_beyond(alloc: Global, facts: &mut Vec<String>, ticks: u64) -> Result<()> {
     if ticks == 0 {
         return Ok(());
     }
@@ -81,13 +81,13 @@ fn push_beyond(alloc: Global, facts: &mut Vec<String>, ticks: u64) -> Result<(),
 /// The dearest way that was found, loop by loop, and how much the bound has beyond it.
 fn facts_on(
     alloc: Global,
-    lines: &[usize],
+    judging: Judging<'_>,
     dearest: &Dearest,
     bound: u64,
-) -> Result<Vec<String>, AllocError> {
+) -> Result<Vec<String>> {
     let mut facts = Vec::new(alloc);
     for turns in &dearest.turns {
-        facts.push(turns_text(alloc, lines, turns)?)?;
+        facts.push(turns_text(alloc, judging, turns)?)?;
     }
     let mut rest = String::from_str(alloc, "all else on the dearest way: ")?;
     push_time(
@@ -100,7 +100,7 @@ fn facts_on(
 }
 
 /// What is said of a bound.
-fn remark_on(alloc: Global, bound: u64) -> Result<Remark, AllocError> {
+fn remark_on(alloc: Global, bound: u64) -> Result<Remark> {
     let mut message = String::from_str(alloc, "every run ends within ")?;
     if bound >= 20 {
         write!(message, "{bound} ticks, ")?;
@@ -115,17 +115,16 @@ fn accepted_note(
     text: &str,
     judging: Judging<'_>,
     bound: u64,
-) -> Result<Option<Note>, AllocError>
+) -> Result<Option<Note>>
     ensures { IfOk result (IsOnPlace Level.Info (lines_by_feed text.now) 0) }
 {
-    let lines = place_lines(alloc, text)?;
     let Some(number) = place_line(alloc, text, 0)? else {
         return Ok(None);
     };
     let remark = remark_on(alloc, bound)?;
     let note = note_in(alloc, Level::Info, "%program", text, number, remark)?;
     let facts = match dearest_way(alloc, judging)? {
-        Some(dearest) => facts_on(alloc, &lines, &dearest, bound)?,
+        Some(dearest) => facts_on(alloc, judging, &dearest, bound)?,
         None => Vec::new(alloc),
     };
     Ok(Some(Note { facts, ..note }))
@@ -137,7 +136,7 @@ fn judgement_note(
     sections: &[Section<'_>],
     sequence: &Sequence,
     judged: &Judged,
-) -> Result<Option<Note>, AllocError>
+) -> Result<Option<Note>>
     ensures { IfOk result
         (IsBoundOfJudgement (sections_view sections.now) judged.now.judgement) }
 {
@@ -145,12 +144,13 @@ fn judgement_note(
         return Ok(None);
     };
     let text = program_text(alloc, sections)?;
-    accepted_note(alloc, &text, as_found(sequence, judged), bound)
+    let lines = place_lines(alloc, &text)?;
+    accepted_note(alloc, &text, as_found(sequence, &lines, judged), bound)
 }
 
 /// Where the ticks of the bound go of a program that was verified, if that is asked for: the
 /// dearest way, loop by loop, on the line of its first instruction. Fails only for want of memory.
-pub fn bound_on(alloc: Global, case: &Case<'_>, beside: Beside) -> Result<Option<Note>, AllocError>
+pub fn bound_on(alloc: Global, case: &Case<'_>, beside: Beside) -> Result<Option<Note>>
     ensures { IfOk result
         (IsBoundOf beside (sections_view case.now.sections.items) case.now.outcome) }
 {

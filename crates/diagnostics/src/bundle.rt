@@ -7,26 +7,22 @@ ghost use Rattle.diagnostics.specs.BundlePlaces.{IsOnPart};
 ghost use Rattle.session.specs.Parts.{sections_view};
 
 mod field;
+mod flawed;
 mod header;
-mod spot;
 
-use crate::bundle::field::Flaw;
+use crate::Result;
+use crate::bundle::flawed::{Flawed, flawed_line};
 use crate::bundle::header::{missing_section, unexpected_line, unknown_command};
-use crate::bundle::spot::{Spot, flawed_word, spot_flaw};
 use crate::note::{marked, note_in};
+use crate::program::column::word_at;
 use crate::remark::{Remark, help_of};
-use bundles::{BundleFault, Header, Section};
+use bundles::{BundleFault, Flaw, Header, Section};
 use notes::{Level, Note, line_at};
 use session::section_text;
-use std::alloc::{AllocError, Global};
+use std::alloc::Global;
 
 /// The note on a line of the bundle.
-fn bundle_line_note(
-    alloc: Global,
-    text: &str,
-    line: usize,
-    remark: Remark,
-) -> Result<Note, AllocError>
+fn bundle_line_note(alloc: Global, text: &str, line: usize, remark: Remark) -> Result<Note>
     ensures { IfOk result (IsOnBundleLine text.now line) }
 {
     note_in(alloc, Level::Error, "bundle", text, line, remark)
@@ -43,31 +39,34 @@ fn whole_word(line: Option<&str>) -> Option<(&str, &str)> {
 }
 
 /// The same with a mark below the line, if it is a command or a header.
-fn header_note(alloc: Global, text: &str, line: usize, remark: Remark) -> Result<Note, AllocError>
+fn header_note(alloc: Global, text: &str, line: usize, remark: Remark) -> Result<Note>
     ensures { IfOk result (IsOnBundleLine text.now line) }
 {
     let note = bundle_line_note(alloc, text, line, remark)?;
     marked(alloc, note, whole_word(line_at(text, line)))
 }
 
-/// The note on the line of a section that has this number in the bundle.
+/// The word of a number in a line, if there are both, with what stands before it.
+fn word_in(line: Option<&str>, at: Option<usize>) -> Option<(&str, &str)> {
+    word_at(line?, at?)
+}
+
+/// The note on the line of a section that has this number in the bundle, and this flaw.
 fn part_note(
     alloc: Global,
     header: Header,
     section: &Section<'_>,
     line: usize,
-) -> Result<Note, AllocError>
+    flaw: Flaw,
+) -> Result<Note>
     ensures { IfOk result (IsOnPart header (section_view section.now) line) }
 {
     let text = section_text(alloc, section)?;
     let number = line.saturating_sub(section.first_line.saturating_sub(1));
-    let spot = Spot {
-        text: &text,
-        number,
-    };
-    let Flaw { remark, at } = spot_flaw(alloc, header, spot)?;
+    let line = line_at(&text, number);
+    let Flawed { remark, at } = flawed_line(alloc, header, line.unwrap_or(""), flaw)?;
     let note = note_in(alloc, Level::Error, header.text(), &text, number, remark)?;
-    marked(alloc, note, flawed_word(spot, at))
+    marked(alloc, note, word_in(line, at))
 }
 
 /// The note on the line of the section of an index that has this number in the bundle.
@@ -78,12 +77,13 @@ fn section_note(
     header: Header,
     index: usize,
     line: usize,
-) -> Result<Note, AllocError>
+    flaw: Flaw,
+) -> Result<Note>
     ensures { IfOk result
         (IsOnSectionLine text.now (sections_view sections.now) header index line) }
 {
     match sections.get(index) {
-        Some(section) => part_note(alloc, header, section, line),
+        Some(section) => part_note(alloc, header, section, line, flaw),
         None => {
             let remark = Remark::plain(alloc, "this line doesn't belong here")?;
             bundle_line_note(alloc, text, line, remark)
@@ -98,7 +98,7 @@ fn last_line(text: &str) -> usize {
 }
 
 /// What is said of an input that is cut where it is no text, or too large.
-fn no_text(alloc: Global, text: &str, fault: BundleFault) -> Result<Remark, AllocError> {
+fn no_text(alloc: Global, text: &str, fault: BundleFault) -> Result<Remark> {
     let message = match fault {
         BundleFault::NotText if !text.is_empty() => {
             let line = last_line(text);
@@ -110,7 +110,7 @@ fn no_text(alloc: Global, text: &str, fault: BundleFault) -> Result<Remark, Allo
 }
 
 /// What is said of an input without a line.
-fn no_command(alloc: Global) -> Result<Remark, AllocError> {
+fn no_command(alloc: Global) -> Result<Remark> {
     let message = String::from_str(alloc, "the input is empty")?;
     let help = help_of(
         alloc,
@@ -132,18 +132,18 @@ pub fn bundle_note(
     text: &str,
     sections: &[Section<'_>],
     fault: BundleFault,
-) -> Result<Note, AllocError>
+) -> Result<Note>
     ensures { IfOk result (IsOnFault text.now (sections_view sections.now) fault) }
 {
     let remark = match fault {
-        BundleFault::BadMessage(line) => {
-            return section_note(alloc, text, sections, Header::Message, 0, line);
+        BundleFault::BadMessage(line, flaw) => {
+            return section_note(alloc, text, sections, Header::Message, 0, line, flaw);
         }
-        BundleFault::BadAnswer(line) => {
-            return section_note(alloc, text, sections, Header::Answers, 2, line);
+        BundleFault::BadAnswer(line, flaw) => {
+            return section_note(alloc, text, sections, Header::Answers, 2, line, flaw);
         }
-        BundleFault::BadSeed(line) => {
-            return section_note(alloc, text, sections, Header::Seed, 2, line);
+        BundleFault::BadSeed(line, flaw) => {
+            return section_note(alloc, text, sections, Header::Seed, 2, line, flaw);
         }
         BundleFault::Unexpected(line) => {
             let remark = unexpected_line(alloc, text, line)?;

@@ -7,6 +7,7 @@ ghost use Rattle.diagnostics.specs.DraftPlaces.{IsOnBoard, IsOnDraftFault};
 ghost use Rattle.notes.specs.Notes.{IsOn};
 ghost use Rattle.session.specs.Parts.{sections_view};
 
+use crate::Result;
 use crate::boards::{NamedLine, limit_of, line_or_first, place_of, saying_lines};
 use crate::note::{marked, note_in, note_on};
 use crate::plan_line::{blamed_at, line_remark};
@@ -22,7 +23,7 @@ use notes::{Level, Note, line_at};
 use plans::PlanFault;
 use session::{DraftFault, Planned, section_of};
 use smbus::Form;
-use std::alloc::{AllocError, Global};
+use std::alloc::Global;
 use texts::without_comment;
 
 const ALL_TOGETHER: &str =
@@ -36,7 +37,7 @@ const FEWER: &str =
      of the rails by hand";
 
 /// The note on a plan's bad line.
-fn plan_note(alloc: Global, board: &Board, plan: &str, fault: PlanFault) -> Result<Note, AllocError>
+fn plan_note(alloc: Global, board: &Board, plan: &str, fault: PlanFault) -> Result<Note>
     ensures { IfOk result
         (IsOn Level.Error (codes "%plan") fault.line (lines_by_feed plan.now)) }
 {
@@ -54,13 +55,11 @@ fn plan_note(alloc: Global, board: &Board, plan: &str, fault: PlanFault) -> Resu
 fn no_entry(board: &Board, target: usize, form: Form, code: u8) -> Advice<'_> {
     let target = target_word(board, target);
     let entry = Entry(form_word(form), Some(code));
-    Advice {
-        message: say![
-            "the program would send " {Command(code)} " to " {target}
-            ", and no entry of its `allow` permits it with this value"
-        ],
-        help: Some(say!["if its data sheet allows it, add " {entry}]),
-    }
+    say![
+        "the program would send " {Command(code)} " to " {target}
+        ", and no entry of its `allow` permits it with this value"
+    ]
+    .with_help(say!["if its data sheet allows it, add " {entry}])
 }
 
 /// What a rail's voltages are up to, where the plan wishes one over that.
@@ -79,43 +78,34 @@ fn limit_advice(board: &Board, rail: usize) -> Advice<'_> {
         Some(message) => message,
         None => say!["a voltage that the plan wishes is over the limit of its rail"],
     };
-    Advice {
-        message,
-        help: Some(say![{ Text(LOWER) }]),
-    }
+    message.with_text(LOWER)
 }
 
 /// What is said of a program that isn't accepted.
 fn not_accepted(place: usize, rule: Rule) -> Advice<'static> {
-    Advice {
-        message: say![
-            "the program that was drafted is refused at place " {Count(place)} " by "
-            {Text(rule.name())}
-        ],
-        help: None,
-    }
+    say![
+        "the program that was drafted is refused at place " {Count(place)} " by "
+        {Text(rule.name())}
+    ]
+    .alone()
 }
 
 /// What is said of a fault that is none of the plan's lines.
 fn advice_on(board: &Board, fault: DraftFault) -> Advice<'_> {
     match fault {
-        DraftFault::BadPlan(fault) => Advice {
-            message: say!["line " {Count(fault.line)} " of the plan is no wish"],
-            help: None,
-        },
-        DraftFault::Circle(rail) => Advice {
-            message: say![
-                "no order can place " {rail_word(board, rail)}
-                ": it waits for rails that wait for one another"
-            ],
-            help: Some(say![{ Text(ALL_TOGETHER) }]),
-        },
+        DraftFault::BadPlan(fault) =>
+            say!["line " {Count(fault.line)} " of the plan is no wish"].alone(),
+        DraftFault::Circle(rail) => say![
+            "no order can place " {rail_word(board, rail)}
+            ": it waits for rails that wait for one another"
+        ]
+        .with_text(ALL_TOGETHER),
         DraftFault::NoEntry { target, form, code } => no_entry(board, target, form, code),
         DraftFault::OverLimit(rail) => limit_advice(board, rail),
-        DraftFault::TooLong => Advice {
-            message: say!["the program would have over 1024 instructions"],
-            help: Some(say![{ Text(FEWER) }]),
-        },
+        DraftFault::TooLong => {
+            let message = say!["the program would have over 1024 instructions"];
+            message.with_text(FEWER)
+        }
         DraftFault::NotAccepted { place, rule } => not_accepted(place, rule),
     }
 }
@@ -136,7 +126,7 @@ fn on_board_note(
     text: &str,
     board: &Board,
     fault: DraftFault,
-) -> Result<Option<Note>, AllocError>
+) -> Result<Option<Note>>
     ensures { IfOk result (IsOnSomeLine text.now) }
 {
     let lines = saying_lines(alloc, text)?;
@@ -153,7 +143,7 @@ fn board_note(
     sections: &[Section<'_>],
     board: &Board,
     fault: DraftFault,
-) -> Result<Option<Note>, AllocError>
+) -> Result<Option<Note>>
     ensures { IfOk result (IsOnBoard (sections_view sections.now)) }
 {
     match section_of(alloc, sections, 0)? {
@@ -168,7 +158,7 @@ pub(crate) fn draft_fault_note(
     sections: &[Section<'_>],
     planned: &Planned,
     fault: DraftFault,
-) -> Result<Option<Note>, AllocError>
+) -> Result<Option<Note>>
     ensures { IfOk result
         (IsOnDraftFault (sections_view sections.now) (string_bytes planned.now.plan) fault) }
 {

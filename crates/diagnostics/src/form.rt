@@ -1,8 +1,9 @@
 //! The names of forms in messages.
 
+use crate::Result;
 use crate::listing::listed;
 use notes::lowercase_suggestion;
-use std::alloc::{AllocError, Global};
+use std::alloc::Global;
 
 /// The words of all forms, the last that of alert responses.
 pub(crate) const NAMES: [&str; 13] = [
@@ -22,7 +23,7 @@ pub(crate) const NAMES: [&str; 13] = [
 ];
 
 /// What may help where a word is no form.
-pub(crate) fn form_help(alloc: Global, word: &str) -> Result<String, AllocError> {
+pub(crate) fn form_help(alloc: Global, word: &str) -> Result<String> {
     match lowercase_suggestion(alloc, word, &NAMES)? {
         Some(help) => Ok(help),
         None => {

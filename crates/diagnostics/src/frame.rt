@@ -4,6 +4,7 @@ ghost use Rattle.std.specs.Prelude.{IfOk};
 ghost use Rattle.diagnostics.specs.Inputs.{IsOnMessage};
 ghost use Rattle.session.specs.Parts.{sections_view};
 
+use crate::Result;
 use crate::counted::counted_line;
 use crate::note::note_in;
 use crate::run::misfit::refuse_misfit;
@@ -13,7 +14,7 @@ use bundles::{Exchange, Section};
 use notes::{Level, Note};
 use session::section_of;
 use smbus::{Form, Message, SmbusFault};
-use std::alloc::{AllocError, Global};
+use std::alloc::Global;
 
 /// How many data bytes a message of a form has, if it has no block.
 fn data_count(form: Form) -> Option<usize> {
@@ -30,16 +31,13 @@ fn bad_data(exchange: &Exchange) -> Advice<'static> {
     let (message, answer) = (&exchange.message, &exchange.answer);
     let found = message.out.len();
     match data_count(message.form) {
-        Some(count) if count != found => Advice {
-            message: say![
-                "data bytes in \"out=\": expected " {Count(count)} ", found " {Count(found)}
-            ],
-            help: Some(say!["the code stands in \"code=\", and words low byte first"]),
-        },
-        _ => Advice {
-            message: refuse_misfit(message, answer),
-            help: Some(say!["addresses, code, count and data are counted"]),
-        },
+        Some(count) if count != found => say![
+            "data bytes in \"out=\": expected " {Count(count)} ", found " {Count(found)}
+        ]
+        .with_help(say!["the code stands in \"code=\", and words low byte first"]),
+        _ => refuse_misfit(message, answer).with_help(say![
+            "addresses, code, count and data are counted"
+        ]),
     }
 }
 
@@ -56,10 +54,7 @@ fn bad_block(message: &Message, returned: usize) -> Advice<'static> {
     };
     let help = "a block has 1 to 255 bytes of two digits each, as in \"bytes=4143\", and both of a \
                 block call have at most 255 together";
-    Advice {
-        message,
-        help: Some(say![{ Text(help) }]),
-    }
+    message.with_text(help)
 }
 
 /// What is said of a message that has no frame.
@@ -68,10 +63,7 @@ fn advice_on(exchange: &Exchange, fault: SmbusFault) -> Advice<'static> {
     match fault {
         SmbusFault::BadData => bad_data(exchange),
         SmbusFault::BadBlock => bad_block(message, answer.bytes.len()),
-        SmbusFault::Memory => Advice {
-            message: say!["out of memory"],
-            help: None,
-        },
+        SmbusFault::Memory => say!["out of memory"].alone(),
     }
 }
 
@@ -81,7 +73,7 @@ pub(crate) fn frame_note(
     sections: &[Section<'_>],
     exchange: &Exchange,
     fault: SmbusFault,
-) -> Result<Option<Note>, AllocError>
+) -> Result<Option<Note>>
     ensures { IfOk result (IsOnMessage (sections_view sections.now)) }
 {
     let Some(text) = section_of(alloc, sections, 0)? else {

@@ -14,6 +14,7 @@ ghost use Rattle.diagnostics.specs.Inputs.{IsOnLine, IsOnUnread, IsOnJudgement, 
 ghost use Rattle.diagnostics.specs.Inputs.{IsOnMessage, IsOnRunFault};
 ghost use Rattle.diagnostics.specs.ProgramPlaces.{program_lines, IsOnRefusal};
 
+use crate::Result;
 use crate::boards::board_note;
 use crate::bundle::bundle_note;
 use crate::drafted::draft_fault_note;
@@ -31,13 +32,13 @@ use notes::{Level, Note};
 use seq_program::{Program, ProgramFault};
 use session::{
     Case, Checked, Drafted, Framed, Judged, Outcome, Ran, Searched, Sequence, Trial, Unread,
-    Verified, section_of,
+    Verified, place_lines, section_of,
 };
-use std::alloc::{AllocError, Global};
+use std::alloc::Global;
 use table_check::{Judgement, Refusal};
 
 /// The text of a bundle's program, or nothing.
-pub(crate) fn program_text(alloc: Global, sections: &[Section<'_>]) -> Result<String, AllocError>
+pub(crate) fn program_text(alloc: Global, sections: &[Section<'_>]) -> Result<String>
     ensures { IfOk result (λ text. lines_by_feed (string_bytes text)
         ≡ program_lines (sections_view sections.now)) }
 {
@@ -52,7 +53,7 @@ fn board_fault_note(
     alloc: Global,
     sections: &[Section<'_>],
     fault: BoardFault,
-) -> Result<Option<Note>, AllocError>
+) -> Result<Option<Note>>
     ensures { IfOk result (λ note. fault.kind ≢ Memory
         → MatchOption (slice_get (sections_view sections.now) 0) (note ≡ None)
         (λ section. IsOnSomeLine (section_text section) note)) }
@@ -69,7 +70,7 @@ fn program_fault_note(
     sections: &[Section<'_>],
     board: &Board,
     fault: ProgramFault,
-) -> Result<Option<Note>, AllocError>
+) -> Result<Option<Note>>
     ensures { IfOk result (IsOnLine (sections_view sections.now) (line_of fault)) }
 {
     let text = program_text(alloc, sections)?;
@@ -82,7 +83,7 @@ fn unread_note(
     text: &str,
     sections: &[Section<'_>],
     unread: &Unread,
-) -> Result<Option<Note>, AllocError>
+) -> Result<Option<Note>>
     ensures { IfOk result (IsOnUnread text.now (sections_view sections.now) unread.now) }
 {
     match unread {
@@ -92,17 +93,25 @@ fn unread_note(
     }
 }
 
-/// The note on a refusal.
+/// The note on a program that is refused with a table that was read.
 fn broken_note(
     alloc: Global,
     sections: &[Section<'_>],
-    judging: Judging<'_>,
+    trial: &Trial,
+    judged: &Judged,
     refusal: Refusal,
-) -> Result<Option<Note>, AllocError>
+) -> Result<Option<Note>>
     ensures { IfOk result (IsOnRefusal (sections_view sections.now) refusal.place) }
 {
     let program = program_text(alloc, sections)?;
-    let (kind, cause) = cause_of(alloc, judging, &program, refusal)?;
+    let lines = place_lines(alloc, &program)?;
+    let judging = Judging {
+        board: &trial.board,
+        program: &trial.program,
+        lines: &lines,
+        table: &judged.table,
+    };
+    let (kind, cause) = cause_of(alloc, judging, refusal)?;
     detailed_note(alloc, &program, refusal.place, kind, cause)
 }
 
@@ -112,7 +121,7 @@ fn gave_up_note(
     sections: &[Section<'_>],
     program: &Program,
     place: usize,
-) -> Result<Option<Note>, AllocError>
+) -> Result<Option<Note>>
     ensures { IfOk result (IsOnRefusal (sections_view sections.now) place) }
 {
     let written = program_text(alloc, sections)?;
@@ -124,37 +133,33 @@ fn gave_up_note(
 fn verdict_note(
     alloc: Global,
     sections: &[Section<'_>],
-    judging: Judging<'_>,
-    judgement: Judgement,
-) -> Result<Option<Note>, AllocError>
-    ensures { IfOk result (IsOnJudgement (sections_view sections.now) judgement) }
+    trial: &Trial,
+    judged: &Judged,
+) -> Result<Option<Note>>
+    ensures { IfOk result (IsOnJudgement (sections_view sections.now) judged.now.judgement) }
 {
-    match judgement {
+    match judged.judgement {
         Judgement::Accepted { .. } => Ok(None),
-        Judgement::Refused(refusal) => broken_note(alloc, sections, judging, refusal),
+        Judgement::Refused(refusal) => broken_note(alloc, sections, trial, judged, refusal),
     }
 }
 
-/// A table that was read, with its board and its program.
-fn as_read<'a>(trial: &'a Trial, judged: &'a Judged) -> Judging<'a> {
-    Judging {
-        board: &trial.board,
-        program: &trial.program,
-        table: &judged.table,
-    }
-}
-
-/// A table that was found, with its board and its program.
-pub(crate) fn as_found<'a>(sequence: &'a Sequence, judged: &'a Judged) -> Judging<'a> {
+/// A table that was found, with its board and its program, whose places have these lines.
+pub(crate) fn as_found<'a>(
+    sequence: &'a Sequence,
+    lines: &'a [usize],
+    judged: &'a Judged,
+) -> Judging<'a> {
     Judging {
         board: &sequence.board,
         program: &sequence.program,
+        lines,
         table: &judged.table,
     }
 }
 
 /// What may help where the first line is none of a table.
-fn version_help(alloc: Global, number: usize) -> Result<Option<String>, AllocError> {
+fn version_help(alloc: Global, number: usize) -> Result<Option<String>> {
     if number != 1 {
         return Ok(None);
     }
@@ -163,7 +168,7 @@ fn version_help(alloc: Global, number: usize) -> Result<Option<String>, AllocErr
 }
 
 /// The note on a line that is none of a table.
-fn table_note(alloc: Global, table: &str, number: usize) -> Result<Note, AllocError>
+fn table_note(alloc: Global, table: &str, number: usize) -> Result<Note>
     ensures { IfOk result
         (IsOn Level.Error (codes "%table") number (lines_by_feed table.now)) }
 {
@@ -173,11 +178,7 @@ fn table_note(alloc: Global, table: &str, number: usize) -> Result<Note, AllocEr
 }
 
 /// The note on a message and its answer, if they have no frame.
-fn framed_note(
-    alloc: Global,
-    sections: &[Section<'_>],
-    framed: &Framed,
-) -> Result<Option<Note>, AllocError>
+fn framed_note(alloc: Global, sections: &[Section<'_>], framed: &Framed) -> Result<Option<Note>>
     ensures { IfOk result (λ note. MatchResult framed.now.told (λ _. note ≡ None)
         (λ _. IsOnMessage (sections_view sections.now) note)) }
 {
@@ -188,11 +189,7 @@ fn framed_note(
 }
 
 /// The note on a run, if it fails.
-fn ran_note(
-    alloc: Global,
-    sections: &[Section<'_>],
-    ran: &Ran<'_>,
-) -> Result<Option<Note>, AllocError>
+fn ran_note(alloc: Global, sections: &[Section<'_>], ran: &Ran<'_>) -> Result<Option<Note>>
     ensures { IfOk result (λ note. MatchResult ran.now.told (λ _. note ≡ None)
         (λ fault. IsOnRunFault (sections_view sections.now) fault note)) }
 {
@@ -203,11 +200,7 @@ fn ran_note(
 }
 
 /// The note on a program with a table, if that is refused or is none.
-fn checked_note(
-    alloc: Global,
-    sections: &[Section<'_>],
-    checked: &Checked,
-) -> Result<Option<Note>, AllocError>
+fn checked_note(alloc: Global, sections: &[Section<'_>], checked: &Checked) -> Result<Option<Note>>
     ensures { IfOk result (λ note. MatchResult checked.now.judged
         (λ judged. IsOnJudgement (sections_view sections.now) judged.judgement note)
         (λ number. IsSomeAnd note (IsOn Level.Error (codes "%table") number
@@ -215,7 +208,7 @@ fn checked_note(
 {
     let Checked { trial, judged } = checked;
     match judged {
-        Ok(judged) => { verdict_note(alloc, sections, as_read(trial, judged), judged.judgement) }
+        Ok(judged) => verdict_note(alloc, sections, trial, judged),
         Err(number) => Ok(Some(table_note(alloc, &trial.table, *number)?)),
     }
 }
@@ -225,7 +218,7 @@ fn searched_note(
     alloc: Global,
     sections: &[Section<'_>],
     searched: &Searched,
-) -> Result<Option<Note>, AllocError>
+) -> Result<Option<Note>>
     ensures { IfOk result (λ note. MatchResult searched.now.found (λ _. note ≡ None)
         (λ place. IsOnRefusal (sections_view sections.now) place note)) }
 {
@@ -242,12 +235,13 @@ fn unverified_note(
     verified: &Verified,
     judged: &Judged,
     refusal: Refusal,
-) -> Result<Option<Note>, AllocError>
+) -> Result<Option<Note>>
     ensures { IfOk result (IsOnRefusal (sections_view sections.now) refusal.place) }
 {
     let program = program_text(alloc, sections)?;
-    let judging = as_found(&verified.sequence, judged);
-    let (kind, cause) = unverified_cause(alloc, verified, judging, &program, refusal)?;
+    let lines = place_lines(alloc, &program)?;
+    let judging = as_found(&verified.sequence, &lines, judged);
+    let (kind, cause) = unverified_cause(alloc, judging, refusal, verified.shown.as_ref())?;
     detailed_note(alloc, &program, refusal.place, kind, cause)
 }
 
@@ -256,7 +250,7 @@ fn verified_note(
     alloc: Global,
     sections: &[Section<'_>],
     verified: &Verified,
-) -> Result<Option<Note>, AllocError>
+) -> Result<Option<Note>>
     ensures { IfOk result (λ note. MatchResult verified.now.judged
         (λ judged. IsOnJudgement (sections_view sections.now) judged.judgement note)
         (λ place. IsOnRefusal (sections_view sections.now) place note)) }
@@ -273,11 +267,7 @@ fn verified_note(
 }
 
 /// The note on a plan, if there is no draft for it.
-fn drafted_note(
-    alloc: Global,
-    sections: &[Section<'_>],
-    drafted: &Drafted,
-) -> Result<Option<Note>, AllocError>
+fn drafted_note(alloc: Global, sections: &[Section<'_>], drafted: &Drafted) -> Result<Option<Note>>
     ensures { IfOk result (λ note. MatchResult drafted.now.told (λ _. note ≡ None)
         (λ fault. IsOnDraftFault (sections_view sections.now)
         (string_bytes drafted.now.planned.plan) fault note)) }
@@ -294,7 +284,7 @@ fn drafted_note(
 ///
 /// It is for standard error, beside the reply of the same outcome, and has no say in that. Fails
 /// only for want of memory.
-pub fn note_on(alloc: Global, case: &Case<'_>) -> Result<Option<Note>, AllocError>
+pub fn note_on(alloc: Global, case: &Case<'_>) -> Result<Option<Note>>
     ensures { IfOk result (IsErrorOf case.now.text.now (sections_view case.now.sections.items)
         case.now.outcome) }
 {

@@ -9,7 +9,9 @@ mod counted;
 mod drafted;
 mod form;
 mod frame;
+mod happened;
 mod input;
+mod kept;
 mod law;
 mod listing;
 mod note;
@@ -31,4 +33,8 @@ pub use law::answers_are_found;
 pub use other_errors::{OtherErrors, Untold, other_errors_on};
 pub use program::program_note;
 pub use refusal::{RefusalKind, refusal_note};
+use std::alloc::AllocError;
 pub use warning::{Warnings, warnings_on};
+
+/// What can fail for want of memory, or by another error where one is named.
+pub(crate) type Result<T, E = AllocError> = std::result::Result<T, E>;

@@ -1,7 +1,8 @@
-use std::alloc::{AllocError, Global};
+use crate::Result;
+use std::alloc::Global;
 
 /// Words with commas between them.
-pub(crate) fn listed(alloc: Global, words: &[&str]) -> Result<String, AllocError> {
+pub(crate) fn listed(alloc: Global, words: &[&str]) -> Result<String> {
     let mut text = String::new(alloc);
     for word in words {
         let comma = if text.is_empty() { "" } else { ", " };
@@ -11,7 +12,7 @@ pub(crate) fn listed(alloc: Global, words: &[&str]) -> Result<String, AllocError
 }
 
 /// Names in quotes, with commas between them.
-pub(crate) fn quoted(alloc: Global, names: &[&str]) -> Result<String, AllocError> {
+pub(crate) fn quoted(alloc: Global, names: &[&str]) -> Result<String> {
     let mut text = String::new(alloc);
     for name in names {
         let comma = if text.is_empty() { "" } else { ", " };

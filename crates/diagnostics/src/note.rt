@@ -4,12 +4,13 @@ ghost use Rattle.std.specs.Prelude.{IfOk, option_copied};
 ghost use Rattle.texts.specs.Words.{lines_by_feed};
 ghost use Rattle.notes.specs.Notes.{IsOn, IsQuoting, StaysOn};
 
+use crate::Result;
 use crate::remark::Remark;
 use notes::{Level, Note, line_at};
-use std::alloc::{AllocError, Global};
+use std::alloc::Global;
 
 /// What may help, if there is something, in a list.
-fn listed(alloc: Global, help: Option<String>) -> Result<Vec<String>, AllocError> {
+fn listed(alloc: Global, help: Option<String>) -> Result<Vec<String>> {
     let mut helps = Vec::new(alloc);
     push_some(&mut helps, help)?;
     Ok(helps)
@@ -23,7 +24,7 @@ pub(crate) fn note_on(
     number: usize,
     line: Option<&str>,
     remark: Remark,
-) -> Result<Note, AllocError>
+) -> Result<Note>
     ensures { IfOk result (IsQuoting level section.now number (option_copied line.entry)) }
 {
     let note = Note::quoting(alloc, level, section, number, line)?;
@@ -44,18 +45,14 @@ pub(crate) fn note_in(
     text: &str,
     number: usize,
     remark: Remark,
-) -> Result<Note, AllocError>
+) -> Result<Note>
     ensures { IfOk result (IsOn level section.now number (lines_by_feed text.now)) }
 {
     note_on(alloc, level, section, number, line_at(text, number), remark)
 }
 
 /// The same note with a mark below a word, which stands behind this in its line, if one is known.
-pub(crate) fn marked(
-    alloc: Global,
-    note: Note,
-    at: Option<(&str, &str)>,
-) -> Result<Note, AllocError>
+pub(crate) fn marked(alloc: Global, note: Note, at: Option<(&str, &str)>) -> Result<Note>
     ensures { IfOk result (StaysOn note) }
 {
     match at {
@@ -65,7 +62,7 @@ pub(crate) fn marked(
 }
 
 /// Adds a text to others, if there is one.
-pub(crate) fn push_some(texts: &mut Vec<String>, text: Option<String>) -> Result<(), AllocError> {
+pub(crate) fn push_some(texts: &mut Vec<String>, text: Option<String>) -> Result<()> {
     if let Some(text) = text {
         texts.push(text)?;
     }

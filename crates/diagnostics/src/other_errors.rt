@@ -9,6 +9,7 @@ ghost use Rattle.seq_program.specs.Faults.{line_of};
 ghost use Rattle.session.specs.Parts.{sections_view};
 ghost use Rattle.texts.specs.Words.{lines_by_feed};
 
+use crate::Result;
 use crate::input::program_text;
 use crate::program::{Written, note_at};
 use board::Board;
@@ -16,7 +17,7 @@ use bundles::Section;
 use notes::{LineFinder, Note};
 use seq_program::{LineFaults, ProgramFault, other_faults};
 use session::{Case, Outcome, Unread};
-use std::alloc::{AllocError, Global};
+use std::alloc::Global;
 use std::fmt;
 
 /// How many lines are told beside the first: twenty in all.
@@ -60,12 +61,7 @@ impl OtherErrors {
 }
 
 /// The notes on some faults of a program.
-fn notes_of(
-    alloc: Global,
-    board: &Board,
-    text: &str,
-    faults: &[ProgramFault],
-) -> Result<Vec<Note>, AllocError>
+fn notes_of(alloc: Global, board: &Board, text: &str, faults: &[ProgramFault]) -> Result<Vec<Note>>
     ensures errors { IfOk result
         (λ notes. All (IsError (lines_by_feed text.now)) notes.items) }
     ensures lines { IfOk result
@@ -89,7 +85,7 @@ fn others_than(
     sections: &[Section<'_>],
     board: &Board,
     line: usize,
-) -> Result<OtherErrors, AllocError>
+) -> Result<OtherErrors>
     ensures { IfOk result
         (AreOthers board.now line (program_lines (sections_view sections.now))) }
 {
@@ -105,7 +101,7 @@ fn others_than(
 /// What a person has to mend in the other lines of a program, where its reply tells a fault of one:
 /// a note on each line that has a fault by itself, in their order, on 19 at most, and how many
 /// there are more. Fails only for want of memory.
-pub fn other_errors_on(alloc: Global, case: &Case<'_>) -> Result<OtherErrors, AllocError>
+pub fn other_errors_on(alloc: Global, case: &Case<'_>) -> Result<OtherErrors>
     ensures { IfOk result
         (AreOthersOf (sections_view case.now.sections.items) case.now.outcome) }
 {

@@ -1,5 +1,6 @@
 //! What is said of a plan's bad line.
 
+use crate::Result;
 use crate::program::habit::habit_in;
 use crate::program::unknown_target::{target_remark, unnamed};
 use crate::remark::{Remark, help_of};
@@ -8,7 +9,7 @@ use crate::sentence::{Sentence, say};
 use board::Board;
 use notes::lowercase_suggestion;
 use plans::{LineFault, MOST_TICKS, MOST_TIMES};
-use std::alloc::{AllocError, Global};
+use std::alloc::Global;
 use texts::{without_comment, words_of};
 
 /// The words that wishes begin with, and how each goes on.
@@ -49,7 +50,7 @@ fn shape_of(word: &str) -> Option<&'static str> {
 }
 
 /// The words that wishes begin with.
-fn wish_words(alloc: Global) -> Result<Vec<&'static str>, AllocError> {
+fn wish_words(alloc: Global) -> Result<Vec<&'static str>> {
     let mut words = Vec::new(alloc);
     for (name, _) in WISHES {
         words.push(name)?;
@@ -58,7 +59,7 @@ fn wish_words(alloc: Global) -> Result<Vec<&'static str>, AllocError> {
 }
 
 /// What may help where no wish begins with a word.
-fn word_help(alloc: Global, word: &str) -> Result<Option<String>, AllocError> {
+fn word_help(alloc: Global, word: &str) -> Result<Option<String>> {
     let names = wish_words(alloc)?;
     match lowercase_suggestion(alloc, word, &names)? {
         Some(help) => Ok(Some(help)),
@@ -67,13 +68,13 @@ fn word_help(alloc: Global, word: &str) -> Result<Option<String>, AllocError> {
 }
 
 /// What is said of a word with which no wish begins.
-fn wish_remark(alloc: Global, word: &str) -> Result<Remark, AllocError> {
+fn wish_remark(alloc: Global, word: &str) -> Result<Remark> {
     let help = word_help(alloc, word)?;
     say!["unknown wish " {Name(word)}].helped_by(alloc, help)
 }
 
 /// The names of a board's rails, in its order.
-fn rail_names<'b>(alloc: Global, board: &'b Board) -> Result<Vec<&'b str>, AllocError> {
+fn rail_names<'b>(alloc: Global, board: &'b Board) -> Result<Vec<&'b str>> {
     let mut names = Vec::new(alloc);
     for rail in 0..board.rails().len() {
         names.push(board.rail_name(rail).unwrap_or(""))?;
@@ -82,14 +83,14 @@ fn rail_names<'b>(alloc: Global, board: &'b Board) -> Result<Vec<&'b str>, Alloc
 }
 
 /// What is said of a word that is no rail's name.
-fn rail_remark(alloc: Global, board: &Board, word: &str) -> Result<Remark, AllocError> {
+fn rail_remark(alloc: Global, board: &Board, word: &str) -> Result<Remark> {
     let names = rail_names(alloc, board)?;
     let help = lowercase_suggestion(alloc, word, &names)?;
     unnamed(alloc, "rail", word, &names, help)
 }
 
 /// What is said of a line with this first word, and how it goes on.
-fn shaped(alloc: Global, first: &str, message: Sentence<'_>) -> Result<Remark, AllocError> {
+fn shaped(alloc: Global, first: &str, message: Sentence<'_>) -> Result<Remark> {
     let help = help_of(alloc, shape_of(first))?;
     message.helped_by(alloc, help)
 }
@@ -116,7 +117,7 @@ fn word_remark(
     first: &str,
     word: &str,
     why: LineFault,
-) -> Result<Remark, AllocError> {
+) -> Result<Remark> {
     let found = Name(word);
     let message = match why {
         LineFault::NoWish => return wish_remark(alloc, word),
@@ -141,7 +142,7 @@ pub(crate) fn line_remark(
     board: &Board,
     line: &str,
     why: LineFault,
-) -> Result<Remark, AllocError> {
+) -> Result<Remark> {
     let words = words_of(alloc, without_comment(line))?;
     let first = words.first().copied().unwrap_or("");
     let word = words.get(blamed_at(why)).copied().unwrap_or("");

@@ -18,6 +18,7 @@ pub(crate) mod unknown_target;
 pub(crate) mod unknown_word;
 pub(crate) mod usage;
 
+use crate::Result;
 use crate::note::{marked, note_on};
 use crate::program::bad_number::{Misplaced, bad_number};
 use crate::program::bad_operand::bad_operand;
@@ -31,7 +32,7 @@ use crate::remark::Remark;
 use board::Board;
 use notes::{Level, Note, line_at};
 use seq_program::ProgramFault;
-use std::alloc::{AllocError, Global};
+use std::alloc::Global;
 use texts::{without_comment, words_of};
 
 /// A program's text, for a board, and its labels, which notes on some of its faults name.
@@ -49,7 +50,7 @@ impl<'a> Written<'a> {
         board: &'a Board,
         text: &'a str,
         faults: &[ProgramFault],
-    ) -> Result<Written<'a>, AllocError> {
+    ) -> Result<Written<'a>> {
         let labels = labels_for(alloc, text, faults)?;
         Ok(Written {
             board,
@@ -65,7 +66,7 @@ fn remark_on(
     written: &Written<'_>,
     words: &[&str],
     fault: ProgramFault,
-) -> Result<Remark, AllocError> {
+) -> Result<Remark> {
     let Written {
         board,
         text,
@@ -100,7 +101,7 @@ pub(crate) fn note_at(
     number: usize,
     line: Option<&str>,
     fault: ProgramFault,
-) -> Result<Note, AllocError>
+) -> Result<Note>
     ensures { IfOk result
         (IsQuoting Level.Error (codes "%program") number (option_copied line.entry)) }
 {
@@ -122,7 +123,7 @@ pub fn program_note(
     board: &Board,
     text: &str,
     fault: ProgramFault,
-) -> Result<Option<Note>, AllocError>
+) -> Result<Option<Note>>
     ensures { IfOk result (λ note. MatchOption (line_of fault)
         (note ≡ None)
         (λ number. IsSomeAnd note

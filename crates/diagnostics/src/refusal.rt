@@ -22,13 +22,14 @@ mod uncounted;
 mod way;
 mod widened;
 
+use crate::Result;
 use crate::note::push_some;
 use crate::refusal::cause::{Cause, Evidence};
 use crate::remark::{Remark, help_of};
 use facts::Rule;
 use notes::{Level, Note};
 use session::place_line;
-use std::alloc::{AllocError, Global};
+use std::alloc::Global;
 
 /// Why a program isn't accepted.
 #[derive(Clone, Copy, Debug, PartialEq, Eq)]
@@ -124,7 +125,7 @@ pub(crate) fn blaming(
     sentence: &str,
     kind: RefusalKind,
     blame: Option<Remark>,
-) -> Result<Remark, AllocError> {
+) -> Result<Remark> {
     let Some(
         Remark {
             message: detail,
@@ -154,7 +155,7 @@ pub(crate) fn page_of(kind: RefusalKind) -> Option<&'static str> {
 }
 
 /// Adds what is known of a refusal.
-fn push_known(facts: &mut Vec<String>, known: [Option<String>; 4]) -> Result<(), AllocError> {
+fn push_known(facts: &mut Vec<String>, known: [Option<String>; 4]) -> Result<()> {
     let [first, second, third, fourth] = known;
     push_some(facts, first)?;
     push_some(facts, second)?;
@@ -163,7 +164,7 @@ fn push_known(facts: &mut Vec<String>, known: [Option<String>; 4]) -> Result<(),
 }
 
 /// Adds the lines that tell a run.
-fn push_lines(facts: &mut Vec<String>, lines: Vec<String>) -> Result<(), AllocError> {
+fn push_lines(facts: &mut Vec<String>, lines: Vec<String>) -> Result<()> {
     for line in lines {
         facts.push(line)?;
     }
@@ -176,7 +177,7 @@ fn push_evidence(
     facts: &mut Vec<String>,
     helps: &mut Vec<String>,
     evidence: Option<Evidence>,
-) -> Result<(), AllocError> {
+) -> Result<()> {
     match evidence {
         Some(Evidence::Shown(lines)) => {
             push_lines(facts, lines)?;
@@ -200,7 +201,7 @@ pub(crate) fn detailed_note(
     place: usize,
     kind: RefusalKind,
     cause: Cause,
-) -> Result<Option<Note>, AllocError>
+) -> Result<Option<Note>>
     ensures { IfOk result (IsOnPlace Level.Error (lines_by_feed text.now) place) }
 {
     let Some(number) = place_line(alloc, text, place)? else {
@@ -238,7 +239,7 @@ pub fn refusal_note(
     text: &str,
     place: usize,
     kind: RefusalKind,
-) -> Result<Option<Note>, AllocError>
+) -> Result<Option<Note>>
     ensures { IfOk result (IsOnPlace Level.Error (lines_by_feed text.now) place) }
 {
     detailed_note(alloc, text, place, kind, Cause::none())

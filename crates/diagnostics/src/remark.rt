@@ -1,7 +1,8 @@
 //! What is said of a fault.
 
+use crate::Result;
 use crate::sentence::{Sentence, told};
-use std::alloc::{AllocError, Global};
+use std::alloc::Global;
 
 /// What is said of a fault, and what may help.
 #[derive(Drop)]
@@ -21,14 +22,14 @@ impl Remark {
         alloc: Global,
         message: Sentence<'_>,
         help: Option<Sentence<'_>>,
-    ) -> Result<Remark, AllocError> {
+    ) -> Result<Remark> {
         let message = message.told(alloc)?;
         let help = told(alloc, help)?;
         Ok(Remark::new(message, help))
     }
 
     /// A message without help.
-    pub(crate) fn plain(alloc: Global, message: &str) -> Result<Remark, AllocError> {
+    pub(crate) fn plain(alloc: Global, message: &str) -> Result<Remark> {
         Ok(Remark::new(String::from_str(alloc, message)?, None))
     }
 }
@@ -42,7 +43,7 @@ pub(crate) fn bare(message: Option<String>) -> Option<Remark> {
 }
 
 /// A help of these words, if there are some.
-pub(crate) fn help_of(alloc: Global, help: Option<&str>) -> Result<Option<String>, AllocError> {
+pub(crate) fn help_of(alloc: Global, help: Option<&str>) -> Result<Option<String>> {
     match help {
         Some(help) => Ok(Some(String::from_str(alloc, help)?)),
         None => Ok(None),

@@ -12,12 +12,13 @@ mod returned;
 mod run_answer;
 mod step;
 
+use crate::Result;
 use crate::run::run_answer::answer_note;
 use bundles::Section;
 use notes::Note;
 use session::{Ran, section_of};
 use simulator::RunFault;
-use std::alloc::{AllocError, Global};
+use std::alloc::Global;
 
 /// The note on the fault of a run.
 pub(crate) fn run_note(
@@ -25,7 +26,7 @@ pub(crate) fn run_note(
     sections: &[Section<'_>],
     ran: &Ran<'_>,
     fault: RunFault,
-) -> Result<Option<Note>, AllocError>
+) -> Result<Option<Note>>
     ensures { IfOk result (IsOnRunFault (sections_view sections.now) fault) }
 {
     let Some(answers) = section_of(alloc, sections, 2)? else {

@@ -1,11 +1,12 @@
 //! What is said, before it is written: a sentence of words.
 
+use crate::Result;
 use crate::refusal::facts_here::{push_pages, push_permitting, push_protects};
 use crate::remark::Remark;
 use facts::{PageSet, ProtectSet};
 use notes::Quoted;
 use pmbus_table::{by_code, name_of};
-use std::alloc::{AllocError, Global};
+use std::alloc::Global;
 
 /// A part of a sentence.
 #[derive(Clone, Copy)]
@@ -39,7 +40,7 @@ pub(crate) enum Word<'a> {
 }
 
 /// Adds the name of a command.
-fn push_command(alloc: Global, text: &mut String, code: u8) -> Result<(), AllocError> {
+fn push_command(alloc: Global, text: &mut String, code: u8) -> Result<()> {
     match by_code(code) {
         Some(command) => {
             let name = name_of(alloc, command)?;
@@ -50,7 +51,7 @@ fn push_command(alloc: Global, text: &mut String, code: u8) -> Result<(), AllocE
 }
 
 /// Adds the numbers of a span.
-fn push_span(text: &mut String, low: u16, high: u16) -> Result<(), AllocError> {
+fn push_span(text: &mut String, low: u16, high: u16) -> Result<()> {
     if low == high {
         write!(text, "{low}")
     } else {
@@ -59,7 +60,7 @@ fn push_span(text: &mut String, low: u16, high: u16) -> Result<(), AllocError> {
 }
 
 /// Adds hexadecimal digits.
-fn push_hex(text: &mut String, number: u16, digits: usize) -> Result<(), AllocError> {
+fn push_hex(text: &mut String, number: u16, digits: usize) -> Result<()> {
     match digits {
         4 => write!(text, "{number:04X}"),
         2 => write!(text, "{number:02X}"),
@@ -68,12 +69,7 @@ fn push_hex(text: &mut String, number: u16, digits: usize) -> Result<(), AllocEr
 }
 
 /// Adds what is read by a command from a target, or what that sends by itself.
-fn push_read(
-    alloc: Global,
-    text: &mut String,
-    code: Option<u8>,
-    name: &str,
-) -> Result<(), AllocError> {
+fn push_read(alloc: Global, text: &mut String, code: Option<u8>, name: &str) -> Result<()> {
     match code {
         Some(code) => {
             push_command(alloc, text, code)?;
@@ -84,12 +80,7 @@ fn push_read(
 }
 
 /// Adds an entry of `allow`.
-fn push_entry(
-    alloc: Global,
-    text: &mut String,
-    form: &str,
-    code: Option<u8>,
-) -> Result<(), AllocError> {
+fn push_entry(alloc: Global, text: &mut String, form: &str, code: Option<u8>) -> Result<()> {
     write!(text, "{{form = \"{form}\"")?;
     if let Some(code) = code {
         text.push_str(", command = \"")?;
@@ -100,7 +91,7 @@ fn push_entry(
 }
 
 /// Adds a word.
-fn push_word(alloc: Global, text: &mut String, word: Word) -> Result<(), AllocError> {
+fn push_word(alloc: Global, text: &mut String, word: Word) -> Result<()> {
     match word {
         Word::Nothing => Ok(()),
         Word::Text(word) => text.push_str(word),
@@ -199,18 +190,35 @@ impl<'a> Sentence<'a> {
         }
     }
 
+    /// What is said, where no more may be said to mend it.
+    pub(crate) fn alone(self) -> Advice<'a> {
+        Advice {
+            message: self,
+            help: None,
+        }
+    }
+
     /// What is said, with what may help.
-    pub(crate) fn helped_by(
-        &self,
-        alloc: Global,
-        help: Option<String>,
-    ) -> Result<Remark, AllocError> {
+    pub(crate) fn with_help(self, help: Sentence<'a>) -> Advice<'a> {
+        Advice {
+            message: self,
+            help: Some(help),
+        }
+    }
+
+    /// The same with a text.
+    pub(crate) fn with_text(self, help: &'static str) -> Advice<'a> {
+        self.with_help(say![{ Word::Text(help) }])
+    }
+
+    /// What is said, with what may help.
+    pub(crate) fn helped_by(&self, alloc: Global, help: Option<String>) -> Result<Remark> {
         let message = self.told(alloc)?;
         Ok(Remark::new(message, help))
     }
 
     /// The sentence as a text.
-    pub(crate) fn told(&self, alloc: Global) -> Result<String, AllocError> {
+    pub(crate) fn told(&self, alloc: Global) -> Result<String> {
         let mut text = String::new(alloc);
         for (piece, word) in self.template.split("{}").zip(&self.words) {
             text.push_str(piece)?;
@@ -221,10 +229,7 @@ impl<'a> Sentence<'a> {
 }
 
 /// The text of a sentence, if there is one.
-pub(crate) fn told(
-    alloc: Global,
-    sentence: Option<Sentence>,
-) -> Result<Option<String>, AllocError> {
+pub(crate) fn told(alloc: Global, sentence: Option<Sentence>) -> Result<Option<String>> {
     match sentence {
         Some(sentence) => Ok(Some(sentence.told(alloc)?)),
         None => Ok(None),
@@ -240,13 +245,13 @@ pub(crate) struct Advice<'a> {
 
 impl Advice<'_> {
     /// The sentences as texts.
-    pub(crate) fn told(&self, alloc: Global) -> Result<Remark, AllocError> {
+    pub(crate) fn told(&self, alloc: Global) -> Result<Remark> {
         Remark::told(alloc, self.message, self.help)
     }
 }
 
 /// What is said, and what may help, if there is something to say.
-pub(crate) fn advised(alloc: Global, advice: Option<Advice>) -> Result<Option<Remark>, AllocError> {
+pub(crate) fn advised(alloc: Global, advice: Option<Advice>) -> Result<Option<Remark>> {
     match advice {
         Some(advice) => Ok(Some(advice.told(alloc)?)),
         None => Ok(None),

@@ -13,6 +13,7 @@ mod label_warning;
 mod program_lint;
 mod program_warning;
 
+use crate::Result;
 use crate::input::program_text;
 use crate::note::note_in;
 use crate::refusal::cause::Cause;
@@ -29,7 +30,7 @@ use notes::{Level, Note};
 use run_monitor::{Breach, Reached};
 use seq_program::Program;
 use session::{Case, Judged, Outcome, Scenario, Sequence, Trial, place_line};
-use std::alloc::{AllocError, Global};
+use std::alloc::Global;
 use table_check::Judgement;
 
 /// What breaks a rule, in a sentence.
@@ -54,7 +55,7 @@ fn cause_of(
     program: &Program,
     breach: Breach,
     row: &Row,
-) -> Result<Cause, AllocError> {
+) -> Result<Cause> {
     match program.at(breach.place) {
         Some(instr) => instr_cause(alloc, board, instr, row),
         None => Ok(Cause::none()),
@@ -68,7 +69,7 @@ fn remark_on(
     program: &Program,
     breach: Breach,
     row: &Row,
-) -> Result<Remark, AllocError> {
+) -> Result<Remark> {
     let Breach { index, rule, .. } = breach;
     let cause = cause_of(alloc, board, program, breach, row)?;
     let sentence = sentence_of(rule);
@@ -84,7 +85,7 @@ fn breach_warning(
     program: &Program,
     breach: Breach,
     row: &Row,
-) -> Result<Note, AllocError>
+) -> Result<Note>
     ensures { IfOk result (IsWarningAt (sections_view sections.now) breach.place) }
 {
     let text = program_text(alloc, sections)?;
@@ -102,7 +103,7 @@ fn run_warning(
     board: &Board,
     program: &Program,
     found: Option<&Reached>,
-) -> Result<Option<Note>, AllocError>
+) -> Result<Option<Note>>
     ensures { IfOk result (WarnsOfBreach (sections_view sections.now)
         (option_map (λ x. x.now.breach) found.entry)) }
 {
@@ -150,7 +151,7 @@ fn judged_warnings(
     board: &Board,
     program: &Program,
     judged: Option<&Judged>,
-) -> Result<Vec<Note>, AllocError>
+) -> Result<Vec<Note>>
     ensures { IfOk result (λ warnings. WarnsOfJudged (sections_view sections.now) board.now
         program.now (option_map (λ x. x.now) judged.entry) warnings.items) }
 {
@@ -165,7 +166,7 @@ fn labels_judged(
     alloc: Global,
     sections: &[Section<'_>],
     judged: Option<&Judged>,
-) -> Result<Vec<Note>, AllocError>
+) -> Result<Vec<Note>>
     ensures { IfOk result (λ warnings. WarnsOfLabels (sections_view sections.now)
         (option_map (λ x. x.now) judged.entry) warnings.items) }
 {
@@ -187,7 +188,7 @@ fn warnings_of(
     program: &Program,
     judged: Option<&Judged>,
     found: Option<&Reached>,
-) -> Result<Warnings, AllocError>
+) -> Result<Warnings>
     ensures board { IfOk result (λ warnings. WarnsOfBoard (sections_view sections.now) board.now
         program.now warnings.of_board.items) }
     ensures program { IfOk result (λ warnings. WarnsOfJudged (sections_view sections.now) board.now
@@ -237,7 +238,7 @@ fn judged_in(judged: &Result<Judged, usize>) -> Option<&Judged>
 /// fit. The run of a program that is accepted has no warning.
 ///
 /// Fails only for want of memory.
-pub fn warnings_on(alloc: Global, case: &Case<'_>) -> Result<Warnings, AllocError>
+pub fn warnings_on(alloc: Global, case: &Case<'_>) -> Result<Warnings>
     ensures { IfOk result
         (AreWarningsOf (sections_view case.now.sections.items) case.now.outcome) }
 {

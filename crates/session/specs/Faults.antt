@@ -25,9 +25,9 @@ faulted as_input (Err fault) = Err (as_input fault)
 abbrev pub detail_of : BundleFault → List ℕ
 detail_of (Unexpected line) = codes " " ++ decimal line
 detail_of (MissingSection header) = codes " " ++ header_text header
-detail_of (BadMessage line) = codes " " ++ decimal line
-detail_of (BadAnswer line) = codes " " ++ decimal line
-detail_of (BadSeed line) = codes " " ++ decimal line
+detail_of (BadMessage line flaw) = codes " " ++ decimal line
+detail_of (BadAnswer line flaw) = codes " " ++ decimal line
+detail_of (BadSeed line flaw) = codes " " ++ decimal line
 detail_of _ = []
 
 -- the line or the index, where there is one

@@ -34,9 +34,9 @@ fn detail_of(alloc: Global, fault: BundleFault) -> Result<String, AllocError>
 {
     match fault {
         BundleFault::Unexpected(line)
-        | BundleFault::BadMessage(line)
-        | BundleFault::BadAnswer(line)
-        | BundleFault::BadSeed(line) => { format!(in alloc; " {line}") }
+        | BundleFault::BadMessage(line, _)
+        | BundleFault::BadAnswer(line, _)
+        | BundleFault::BadSeed(line, _) => { format!(in alloc; " {line}") }
         BundleFault::MissingSection(header) => {
             let text = header.text();
             format!(in alloc; " {text}")

@@ -1,12 +1,13 @@
 //! Answer lines, and the sections of a bundle.
 
+mod flaws;
 mod forms;
 mod said;
 mod seeds;
 
 use crate::expected::{holds, same};
 use bundles::{
-    Answers, BundleFault, Command, Header, Section, answer_line_of, answers_in, compose,
+    Answers, BundleFault, Command, Flaw, Header, Key, Section, answer_line_of, answers_in, compose,
     end_last_line, exchange_in, is_counted, read_bundle,
 };
 use session::section_text;
@@ -105,66 +106,6 @@ fn the_last_slot(rt: HostRuntime) {
     same(&rt, seen, Some((4096, Some(1))));
 }
 
-static BAD_LINES: [&str; 41] = [
-    "refuse=1 holds=0:1",
-    "value=1 refuse=1",
-    "bytes=01 value=1",
-    "took=1 bytes=01",
-    "alerts=1 took=1",
-    "refuse=1 refuse=1",
-    "took=1 took=1",
-    "alerts=1 alerts=1",
-    "value=4G",
-    "value=4g",
-    "value=",
-    "value=00001",
-    "alerts=",
-    "alerts=12345",
-    "holds=",
-    "holds=3:2,1:1",
-    "holds=1:1,1:2",
-    "holds=4096:1",
-    "holds=0:7000",
-    "holds=01:1",
-    "holds=1:01",
-    "holds=0",
-    "holds=0:1,",
-    "refuse=",
-    "refuse=01",
-    "refuse=65536",
-    "refuse=+1",
-    "bytes=",
-    "bytes=0",
-    "bytes=0g",
-    "took=0",
-    "took=",
-    "took=11",
-    "- refuse=1",
-    "refuse=1 -",
-    "- -",
-    "--",
-    "refuse",
-    "Refuse=1",
-    "refuse=1\ttook=1",
-    "form=send",
-];
-
-fn all_are_bad(rt: &impl Abort, alloc: Global, lines: &[&str]) {
-    for line in lines {
-        let fault = answer_line_of(alloc, 7, line).err();
-        same(
-            rt,
-            (*line, fault),
-            (*line, Some(BundleFault::BadAnswer(7).error())),
-        );
-    }
-}
-
-#[test]
-fn bad_answer_lines(rt: HostRuntime) {
-    all_are_bad(&rt, rt.alloc(), &BAD_LINES);
-}
-
 /// The answers of a bundle for a run.
 pub(crate) fn answers_of(alloc: Global, text: &str) -> Result<Answers<'_>, ReadError<BundleFault>> {
     let bundle = read_bundle(alloc, text)?;
@@ -247,31 +188,45 @@ fn sections(rt: HostRuntime) {
     same(&rt, all_are_started(&rt, rt.alloc(), &STARTED), Ok(()));
 }
 
-/// What stands below `%answers` on the fourth line, and the line of its fault.
-static BAD_SECTIONS: [(&str, usize); 17] = [
-    ("", 5),
-    ("\n\n# start 00 00\n", 7),
-    ("\n-\n", 5),
-    ("\n\n#\n-\nstart 00 00", 7),
-    ("\nstart", 5),
-    ("\nstart 00", 5),
-    ("\nstart 00 00 00", 5),
-    ("\nstart 0,00 00", 5),
-    ("\nstart 00, 00", 5),
-    ("\nstart 00 ,00", 5),
-    ("\nstart 0a 00", 5),
-    ("\nstart 00;00 00", 5),
-    ("\nSTART 00 00", 5),
-    ("\nstart 00,00 00,00\nrefuse=01\n", 6),
-    ("\nstart 00,00 00,00\n-\n\n-\nstart 00,00 00,00\n", 9),
-    ("\nstart 00,00 00,00\n #\n", 6),
-    ("\nstart 0G 00\nvalue=4G\n", 5),
+/// What stands below `%answers` on the fourth line, and the line of its fault with its flaw.
+static BAD_SECTIONS: [(&str, usize, Flaw); 17] = [
+    ("", 5, Flaw::NoLine),
+    ("\n\n# start 00 00\n", 7, Flaw::NoLine),
+    ("\n-\n", 5, Flaw::Whole),
+    ("\n\n#\n-\nstart 00 00", 7, Flaw::Whole),
+    ("\nstart", 5, Flaw::Whole),
+    ("\nstart 00", 5, Flaw::Whole),
+    ("\nstart 00 00 00", 5, Flaw::Whole),
+    ("\nstart 0,00 00", 5, Flaw::Whole),
+    ("\nstart 00, 00", 5, Flaw::Whole),
+    ("\nstart 00 ,00", 5, Flaw::Whole),
+    ("\nstart 0a 00", 5, Flaw::Whole),
+    ("\nstart 00;00 00", 5, Flaw::Whole),
+    ("\nSTART 00 00", 5, Flaw::Whole),
+    (
+        "\nstart 00,00 00,00\nrefuse=01\n",
+        6,
+        Flaw::Field(Key::Refuse, 1),
+    ),
+    (
+        "\nstart 00,00 00,00\n-\n\n-\nstart 00,00 00,00\n",
+        9,
+        Flaw::Word(3),
+    ),
+    ("\nstart 00,00 00,00\n #\n", 6, Flaw::Word(1)),
+    ("\nstart 0G 00\nvalue=4G\n", 5, Flaw::Whole),
 ];
 
-fn has_fault(rt: &impl Abort, alloc: Global, below: &str, line: usize) -> Result<(), AllocError> {
+fn has_fault(
+    rt: &impl Abort,
+    alloc: Global,
+    below: &str,
+    line: usize,
+    flaw: Flaw,
+) -> Result<(), AllocError> {
     let text = format!(in alloc; "%run\n%board\n%program\n%answers{below}")?;
     let fault = answers_of(alloc, &text).err();
-    let want = Some(BundleFault::BadAnswer(line).error());
+    let want = Some(BundleFault::BadAnswer(line, flaw).error());
     same(rt, (below, fault), (below, want));
     Ok(())
 }
@@ -279,10 +234,10 @@ fn has_fault(rt: &impl Abort, alloc: Global, below: &str, line: usize) -> Result
 fn all_have_faults(
     rt: &impl Abort,
     alloc: Global,
-    rows: &[(&str, usize)],
+    rows: &[(&str, usize, Flaw)],
 ) -> Result<(), AllocError> {
-    for (below, line) in rows {
-        has_fault(rt, alloc, below, *line)?;
+    for (below, line, flaw) in rows {
+        has_fault(rt, alloc, below, *line, *flaw)?;
     }
     Ok(())
 }

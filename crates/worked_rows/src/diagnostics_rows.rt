@@ -9,7 +9,7 @@ use crate::boards::{TWO, two_board};
 use crate::expected::{Noted, begins, noted, notes, says, text_of};
 use crate::session_rows::input_of;
 use board::{BoardFault, read_board};
-use bundles::{BundleFault, Header};
+use bundles::{BundleFault, Flaw, Header};
 use diagnostics::{board_note, bundle_note, program_note};
 use seq_program::{Misfit, ProgramFault, read_program};
 use session::judge;
@@ -183,7 +183,7 @@ static BUNDLES: [(&str, BundleFault, &str); 3] = [
     ),
     (
         BUNDLE,
-        BundleFault::BadAnswer(8),
+        BundleFault::BadAnswer(8, Flaw::Word(1)),
         "%answers:2:1: error: unknown field \"vale=1\"\n    vale=1\n    ^^^^^^\nhelp: did you mean \
          \"value=\"?\n",
     ),

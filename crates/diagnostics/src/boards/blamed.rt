@@ -1,12 +1,13 @@
 //! The table of a board file that has its fault.
 
+use crate::Result;
 use crate::boards::describe::name_of;
 use crate::boards::draft::{Draft, items_at};
 use crate::boards::key_words::holds;
 use crate::sentence::Word::{Name, Text};
 use crate::sentence::{Sentence, Word, say};
 use board::{Key, Place};
-use std::alloc::{AllocError, Global};
+use std::alloc::Global;
 use toml::{Table, Value};
 
 /// A table that has the fault of its file, and what it is called.
@@ -24,7 +25,7 @@ impl<'a> Blamed<'a> {
         draft: &'a Draft<'a>,
         place: Place,
         table: &'a Table,
-    ) -> Result<Blamed<'a>, AllocError> {
+    ) -> Result<Blamed<'a>> {
         Ok(Blamed {
             draft,
             place,

@@ -1,5 +1,6 @@
 //! Tables and values of a board file in messages.
 
+use crate::Result;
 use crate::boards::draft::Draft;
 use board::Place;
 use notes::{Quoted, beginning_of};
@@ -8,12 +9,7 @@ use toml::ser::Error;
 use toml::{Table, Value};
 
 /// A target or a rail by its name, or by its number, counted from 1.
-fn named(
-    alloc: Global,
-    word: &str,
-    name: Option<&str>,
-    index: usize,
-) -> Result<String, AllocError> {
+fn named(alloc: Global, word: &str, name: Option<&str>, index: usize) -> Result<String> {
     match name {
         Some(name) => {
             let name = Quoted(name);
@@ -27,7 +23,7 @@ fn named(
 }
 
 /// What a target or a rail is called.
-fn simple_name(alloc: Global, draft: &Draft<'_>, place: Place) -> Result<String, AllocError> {
+fn simple_name(alloc: Global, draft: &Draft<'_>, place: Place) -> Result<String> {
     let name = draft.text(place, "name");
     match place {
         Place::Target(index) => named(alloc, "target", name, index),
@@ -37,23 +33,14 @@ fn simple_name(alloc: Global, draft: &Draft<'_>, place: Place) -> Result<String,
 }
 
 /// What an entry is called.
-fn entry_name(
-    alloc: Global,
-    draft: &Draft<'_>,
-    target: usize,
-    entry: usize,
-) -> Result<String, AllocError> {
+fn entry_name(alloc: Global, draft: &Draft<'_>, target: usize, entry: usize) -> Result<String> {
     let target = simple_name(alloc, draft, Place::Target(target))?;
     let number = entry.saturating_add(1);
     format!(in alloc; "entry {number} of {target}")
 }
 
 /// What a table is called.
-pub(crate) fn name_of(
-    alloc: Global,
-    draft: &Draft<'_>,
-    place: Place,
-) -> Result<String, AllocError> {
+pub(crate) fn name_of(alloc: Global, draft: &Draft<'_>, place: Place) -> Result<String> {
     match place {
         Place::Entry { target, entry } => entry_name(alloc, draft, target, entry),
         _ => simple_name(alloc, draft, place),
@@ -61,7 +48,7 @@ pub(crate) fn name_of(
 }
 
 /// A value as TOML has it, on one line.
-fn printed(alloc: Global, value: &Value) -> Result<Option<String>, AllocError> {
+fn printed(alloc: Global, value: &Value) -> Result<Option<String>> {
     let mut table = Table::new(alloc);
     let key = String::from_str(alloc, "v")?;
     table.insert(key, value.clone()?)?;
@@ -77,7 +64,7 @@ fn printed(alloc: Global, value: &Value) -> Result<Option<String>, AllocError> {
 }
 
 /// What stands at a key, cut short where it is long.
-pub(crate) fn shown(alloc: Global, value: &Value) -> Result<String, AllocError> {
+pub(crate) fn shown(alloc: Global, value: &Value) -> Result<String> {
     if let Value::String(text) = value {
         let text = Quoted(text);
         return format!(in alloc; "{text}");

@@ -1,8 +1,9 @@
 //! A board file that has a fault, and its tables.
 
+use crate::Result;
 use crate::boards::lines::{SayingLine, saying_lines};
 use board::{BoardFault, Place};
-use std::alloc::{AllocError, Global};
+use std::alloc::Global;
 use toml::{Table, Value};
 
 /// A board file with its fault.
@@ -33,7 +34,7 @@ impl<'a> Draft<'a> {
         text: &'a str,
         tree: &'a Table,
         fault: BoardFault,
-    ) -> Result<Draft<'a>, AllocError> {
+    ) -> Result<Draft<'a>> {
         Ok(Draft {
             lines: saying_lines(alloc, text)?,
             tree,

@@ -1,5 +1,6 @@
 //! What is found out about the fault of a board file.
 
+use crate::Result;
 use crate::boards::blamed::Blamed;
 use crate::boards::draft::Draft;
 use crate::boards::foreign::{foreign_remark, too_many as too_many_foreign};
@@ -14,7 +15,7 @@ use crate::remark::Remark;
 use crate::sentence::Word::Count;
 use crate::sentence::say;
 use board::{At, FaultKind, Key, Place, Site};
-use std::alloc::{AllocError, Global};
+use std::alloc::Global;
 use toml::{Table, Value};
 
 /// A line of a board file, and what is said of it; and what stands in the line before the word that
@@ -27,12 +28,12 @@ pub(crate) struct Finding<'a> {
 }
 
 /// What is said of a fault of which no more is known.
-fn bare(alloc: Global, kind: FaultKind) -> Result<Remark, AllocError> {
+fn bare(alloc: Global, kind: FaultKind) -> Result<Remark> {
     Remark::plain(alloc, &format!(in alloc; "{kind}")?)
 }
 
 /// What is said of a board with too many tables.
-fn too_many(alloc: Global, draft: &Draft<'_>, place: Place) -> Result<Remark, AllocError> {
+fn too_many(alloc: Global, draft: &Draft<'_>, place: Place) -> Result<Remark> {
     let message = match place {
         Place::Rail(_) => {
             let count = Count(draft.rails.len());
@@ -47,7 +48,7 @@ fn too_many(alloc: Global, draft: &Draft<'_>, place: Place) -> Result<Remark, Al
 }
 
 /// What is said of a table as a whole.
-fn table_remark(alloc: Global, blamed: &Blamed<'_>) -> Result<Remark, AllocError> {
+fn table_remark(alloc: Global, blamed: &Blamed<'_>) -> Result<Remark> {
     match blamed.draft.fault.kind {
         FaultKind::SameName => same_name(alloc, blamed),
         FaultKind::TooMany => too_many(alloc, blamed.draft, blamed.place),
@@ -56,12 +57,7 @@ fn table_remark(alloc: Global, blamed: &Blamed<'_>) -> Result<Remark, AllocError
 }
 
 /// What is said of the value at a key.
-fn value_remark(
-    alloc: Global,
-    blamed: &Blamed<'_>,
-    key: Key,
-    value: &Value,
-) -> Result<Remark, AllocError> {
+fn value_remark(alloc: Global, blamed: &Blamed<'_>, key: Key, value: &Value) -> Result<Remark> {
     match (blamed.draft.fault.kind, key) {
         (FaultKind::BadKey, _) => bad_sort(alloc, blamed, key, value),
         (FaultKind::TooMany, Key::Foreign) => too_many_foreign(alloc, blamed),
@@ -79,7 +75,7 @@ fn value_remark(
 }
 
 /// What is said of a key, or of what stands there.
-fn key_remark(alloc: Global, blamed: &Blamed<'_>, key: Key) -> Result<Remark, AllocError> {
+fn key_remark(alloc: Global, blamed: &Blamed<'_>, key: Key) -> Result<Remark> {
     match blamed.value(key) {
         _ if blamed.draft.fault.kind == FaultKind::MissingKey => missing_key(alloc, blamed, key),
         Some(value) => value_remark(alloc, blamed, key, value),
@@ -88,12 +84,7 @@ fn key_remark(alloc: Global, blamed: &Blamed<'_>, key: Key) -> Result<Remark, Al
 }
 
 /// What is said of an item of the list at a key.
-fn item_remark(
-    alloc: Global,
-    blamed: &Blamed<'_>,
-    key: Key,
-    item: &Value,
-) -> Result<Remark, AllocError> {
+fn item_remark(alloc: Global, blamed: &Blamed<'_>, key: Key, item: &Value) -> Result<Remark> {
     match (blamed.draft.fault.kind, key) {
         (FaultKind::BadStart, _) => bad_start(alloc, blamed, key, item),
         (FaultKind::UnknownNeed, _) => unknown_need(alloc, blamed, item),
@@ -106,7 +97,7 @@ fn item_remark(
 }
 
 /// What is said of what has the fault.
-fn remark_at(alloc: Global, blamed: &Blamed<'_>, at: At) -> Result<Remark, AllocError> {
+fn remark_at(alloc: Global, blamed: &Blamed<'_>, at: At) -> Result<Remark> {
     match at {
         At::Table => table_remark(alloc, blamed),
         At::Key(key) => key_remark(alloc, blamed, key),
@@ -135,7 +126,7 @@ fn key_at(table: &Table, at: At) -> Option<&str> {
 }
 
 /// What is said of the fault of a file that is a TOML document, and of which line.
-pub(crate) fn finding_in(alloc: Global, draft: &Draft<'_>) -> Result<Finding<'static>, AllocError> {
+pub(crate) fn finding_in(alloc: Global, draft: &Draft<'_>) -> Result<Finding<'static>> {
     let Site { table: place, at } = draft.fault.site;
     let Some(table) = draft.table(place) else {
         return Ok(Finding {

@@ -1,12 +1,13 @@
 //! Addresses of other controllers that can't be.
 
+use crate::Result;
 use crate::boards::blamed::Blamed;
 use crate::boards::draft::items_at;
 use crate::remark::Remark;
 use crate::sentence::Word::{Count, Hex};
 use crate::sentence::{Advice, Sentence, Word, say};
 use board::{FaultKind, Key};
-use std::alloc::{AllocError, Global};
+use std::alloc::Global;
 use toml::Value;
 
 /// Whether a target of the file has an address.
@@ -30,7 +31,7 @@ pub(crate) fn foreign_remark(
     alloc: Global,
     blamed: &Blamed<'_>,
     address: &Value,
-) -> Result<Remark, AllocError> {
+) -> Result<Remark> {
     let number = u16::try_from(address.as_integer().unwrap_or(0)).unwrap_or(0);
     let hex = Hex(number, 2);
     let message = match blamed.draft.fault.kind {
@@ -42,7 +43,7 @@ pub(crate) fn foreign_remark(
 }
 
 /// What is said of too many addresses.
-pub(crate) fn too_many(alloc: Global, blamed: &Blamed<'_>) -> Result<Remark, AllocError> {
+pub(crate) fn too_many(alloc: Global, blamed: &Blamed<'_>) -> Result<Remark> {
     let list = items_at(blamed.table, "foreign");
     let message = say!["\"foreign\" of the board has " {Count(list.len())} " addresses"];
     let help = blamed.key_help(Key::Foreign);

@@ -1,7 +1,8 @@
 //! The keys of a board file's tables, and in words what stands there.
 
+use crate::Result;
 use board::{Key, Place};
-use std::alloc::{AllocError, Global};
+use std::alloc::Global;
 
 /// A key, and what stands there.
 type Field = (Key, &'static str);
@@ -107,7 +108,7 @@ fn fields_of(place: Place) -> &'static [Field] {
 }
 
 /// The names of the keys that a table may have, those that are needed first.
-pub(crate) fn key_names(alloc: Global, place: Place) -> Result<Vec<&'static str>, AllocError> {
+pub(crate) fn key_names(alloc: Global, place: Place) -> Result<Vec<&'static str>> {
     let mut names = Vec::new(alloc);
     for (key, _) in fields_of(place) {
         names.push(key.name())?;

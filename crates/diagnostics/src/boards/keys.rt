@@ -1,5 +1,6 @@
 //! Keys that are missing or can't be, and what can't stand at a key.
 
+use crate::Result;
 use crate::boards::blamed::Blamed;
 use crate::boards::describe::shown;
 use crate::boards::key_words::{has_key, holds, key_names};
@@ -9,11 +10,11 @@ use crate::sentence::Word::{Name, Text};
 use crate::sentence::{Sentence, say};
 use board::{Key, Place};
 use notes::lowercase_suggestion;
-use std::alloc::{AllocError, Global};
+use std::alloc::Global;
 use toml::Value;
 
 /// What is said of a board without targets.
-fn no_target(alloc: Global) -> Result<Remark, AllocError> {
+fn no_target(alloc: Global) -> Result<Remark> {
     let names = key_names(alloc, Place::Target(0))?;
     let names = quoted(alloc, &names)?;
     Remark::told(
@@ -24,11 +25,7 @@ fn no_target(alloc: Global) -> Result<Remark, AllocError> {
 }
 
 /// What is said of a table without a key that it needs.
-pub(crate) fn missing_key(
-    alloc: Global,
-    blamed: &Blamed<'_>,
-    key: Key,
-) -> Result<Remark, AllocError> {
+pub(crate) fn missing_key(alloc: Global, blamed: &Blamed<'_>, key: Key) -> Result<Remark> {
     if blamed.place == Place::Board {
         return no_target(alloc);
     }
@@ -40,7 +37,7 @@ pub(crate) fn missing_key(
 }
 
 /// What is said of a key that no table of its kind has.
-fn unknown_key(alloc: Global, blamed: &Blamed<'_>, key: &str) -> Result<Remark, AllocError> {
+fn unknown_key(alloc: Global, blamed: &Blamed<'_>, key: &str) -> Result<Remark> {
     let names = key_names(alloc, blamed.place)?;
     let help = lowercase_suggestion(alloc, key, &names)?;
     let names = quoted(alloc, &names)?;
@@ -56,11 +53,7 @@ fn key_of_other_form<'a>(blamed: &'a Blamed<'_>, key: &'a str) -> Sentence<'a> {
 }
 
 /// What is said of a key that a table can't have: none of its kind has it, or none of its form.
-pub(crate) fn other_key(
-    alloc: Global,
-    blamed: &Blamed<'_>,
-    index: usize,
-) -> Result<Remark, AllocError> {
+pub(crate) fn other_key(alloc: Global, blamed: &Blamed<'_>, index: usize) -> Result<Remark> {
     match blamed.table.keys().nth(index) {
         Some(key) if has_key(blamed.place, key) => {
             key_of_other_form(blamed, key).helped_by(alloc, None)
@@ -77,7 +70,7 @@ pub(crate) fn bad_value(
     key: Key,
     value: &Value,
     help: Option<Sentence>,
-) -> Result<Remark, AllocError> {
+) -> Result<Remark> {
     let value = shown(alloc, value)?;
     Remark::told(
         alloc,
@@ -113,7 +106,7 @@ pub(crate) fn bad_sort(
     blamed: &Blamed<'_>,
     key: Key,
     value: &Value,
-) -> Result<Remark, AllocError> {
+) -> Result<Remark> {
     let (sort, help) = (value.type_str(), sort_help(blamed, key, value));
     let value = shown(alloc, value)?;
     Remark::told(
@@ -132,7 +125,7 @@ pub(crate) fn bad_item(
     blamed: &Blamed<'_>,
     key: Key,
     item: &Value,
-) -> Result<Remark, AllocError> {
+) -> Result<Remark> {
     let (sort, help) = (item.type_str(), sort_help(blamed, key, item));
     let item = shown(alloc, item)?;
     Remark::told(

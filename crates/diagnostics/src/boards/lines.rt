@@ -5,8 +5,9 @@ ghost use Rattle.diagnostics.specs.Boards.{IsLineNumber, IsNumbered};
 ghost use Rattle.notes.specs.Lines.{line_at};
 ghost use Rattle.texts.specs.Words.{lines_by_feed};
 
+use crate::Result;
 use notes::line_at;
-use std::alloc::{AllocError, Global};
+use std::alloc::Global;
 use texts::first_by_feed;
 
 /// Which quotation mark a text began with, while it lasts.
@@ -59,7 +60,7 @@ pub(crate) struct SayingLine<'a> {
 }
 
 /// The lines of a text that say something. A file may have many millions of others.
-pub(crate) fn saying_lines(alloc: Global, text: &str) -> Result<Vec<SayingLine<'_>>, AllocError>
+pub(crate) fn saying_lines(alloc: Global, text: &str) -> Result<Vec<SayingLine<'_>>>
     ensures { IfOk result (λ found. All (IsNumbered (lines_by_feed text.now)) found.items) }
 {
     let mut found = Vec::new(alloc);

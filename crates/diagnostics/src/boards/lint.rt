@@ -1,13 +1,14 @@
 //! What is said of a lint.
 
+use crate::Result;
 use crate::refusal::facts_here::{rail_word, target_word};
 use crate::remark::Remark;
 use crate::sentence::Word::{Hex, Number, Text, Voltage};
-use crate::sentence::{Advice, Sentence, Word, say};
+use crate::sentence::{Advice, Word, say};
 use board::{Board, Place};
 use board_lints::{Lack, Lint};
 use notes::Quoted;
-use std::alloc::{AllocError, Global};
+use std::alloc::Global;
 
 const UNPROTECT: &str =
     "the program has to write WRITE_PROTECT before, or the target doesn't start so";
@@ -52,21 +53,13 @@ pub(crate) fn site_of(lint: &Lint) -> (Place, &'static str) {
     }
 }
 
-/// What is said, and what may help.
-fn advice<'a>(message: Sentence<'a>, help: &'static str) -> Advice<'a> {
-    Advice {
-        message,
-        help: Some(say![{ Text(help) }]),
-    }
-}
-
 fn of_pages(board: &Board, target: usize, read: u8) -> Advice<'_> {
     let message = say![
         "PAGE of " {target_word(board, target)}
         " may be 255 at the start, all pages, and the program reads " {Word::Command(read)}
         ", which needs one"
     ];
-    advice(message, SELECT)
+    message.with_text(SELECT)
 }
 
 fn of_protect(board: &Board, target: usize, protect: u8, written: u8) -> Advice<'_> {
@@ -74,11 +67,11 @@ fn of_protect(board: &Board, target: usize, protect: u8, written: u8) -> Advice<
         "WRITE_PROTECT of " {target_word(board, target)} " may be 0x" {Hex(u16::from(protect), 2)}
         " at the start, which forbids " {Word::Command(written)} ", and the program writes that"
     ];
-    advice(message, UNPROTECT)
+    message.with_text(UNPROTECT)
 }
 
 /// The needs from the first rail of a circle to itself.
-fn circle_text(alloc: Global, board: &Board, circle: &[usize]) -> Result<String, AllocError> {
+fn circle_text(alloc: Global, board: &Board, circle: &[usize]) -> Result<String> {
     let mut text = String::new(alloc);
     for rail in circle {
         let name = Quoted(board.rail_name(*rail).unwrap_or(""));
@@ -90,10 +83,10 @@ fn circle_text(alloc: Global, board: &Board, circle: &[usize]) -> Result<String,
     Ok(text)
 }
 
-fn of_circle(alloc: Global, board: &Board, circle: &[usize]) -> Result<Remark, AllocError> {
+fn of_circle(alloc: Global, board: &Board, circle: &[usize]) -> Result<Remark> {
     let text = circle_text(alloc, board, circle)?;
     let message = say!["needs in a circle: " {Text(&text)}];
-    advice(message, NONE_GOOD).told(alloc)
+    message.with_text(NONE_GOOD).told(alloc)
 }
 
 /// The target of a rail in a sentence.
@@ -112,7 +105,7 @@ fn of_idle(board: &Board, rail: usize, lacks: Lack) -> Advice<'_> {
         Lack::Value => NO_VALUE,
         Lack::Page => NO_PAGE,
     };
-    advice(message, help)
+    message.with_text(help)
 }
 
 /// A voltage in microvolts, rounded down: its mantissa times two to the exponent.
@@ -137,7 +130,7 @@ fn of_limit(board: &Board, rail: usize, greatest: u16) -> Advice<'_> {
         {rail_word(board, rail)} ", " {Number(u64::from(limit))} " uV: it takes up to "
         {Voltage(u64::from(greatest), microvolts(greatest, exponent))}
     ];
-    advice(message, SAFE)
+    message.with_text(SAFE)
 }
 
 fn of_address(address: u8) -> Advice<'static> {
@@ -145,7 +138,7 @@ fn of_address(address: u8) -> Advice<'static> {
         "another controller's frame to 0x" {Hex(u16::from(address), 2)}
         " never wins over one of the program's"
     ];
-    advice(message, LOWER)
+    message.with_text(LOWER)
 }
 
 fn of_contentions(contentions: u16) -> Advice<'static> {
@@ -153,16 +146,16 @@ fn of_contentions(contentions: u16) -> Advice<'static> {
         "other controllers may win " {Number(u64::from(contentions))}
         " times, and the board has no `foreign`"
     ];
-    advice(message, NO_ONE_WINS)
+    message.with_text(NO_ONE_WINS)
 }
 
 fn of_no_contentions() -> Advice<'static> {
     let message = say!["other controllers share the bus, and none of them may win"];
-    advice(message, NONE_WINS)
+    message.with_text(NONE_WINS)
 }
 
 /// What is said of a lint of a board.
-pub(crate) fn remark_of(alloc: Global, board: &Board, lint: &Lint) -> Result<Remark, AllocError> {
+pub(crate) fn remark_of(alloc: Global, board: &Board, lint: &Lint) -> Result<Remark> {
     match lint {
         Lint::AllPages { target, read } => of_pages(board, *target, *read).told(alloc),
         Lint::Protected {

@@ -1,11 +1,12 @@
 //! Texts that are no TOML document.
 
+use crate::Result;
 use crate::boards::finding::Finding;
 use crate::program::unknown_word::SWAPPED;
 use crate::program::usage::usage_of;
 use crate::remark::Remark;
 use notes::line_at;
-use std::alloc::{AllocError, Global};
+use std::alloc::Global;
 use texts::cut_at_space;
 use toml::de::Error;
 
@@ -60,7 +61,7 @@ fn line_of_twin(above: &str, key: &str) -> Option<usize> {
 }
 
 /// What may help where a key stands twice.
-fn twin_help(alloc: Global, text: &str, start: usize) -> Result<Option<String>, AllocError> {
+fn twin_help(alloc: Global, text: &str, start: usize) -> Result<Option<String>> {
     let (Some(above), Some((_, key))) = (text.get(..start), word_at(text, start)) else {
         return Ok(None);
     };
@@ -72,7 +73,7 @@ fn twin_help(alloc: Global, text: &str, start: usize) -> Result<Option<String>, 
 }
 
 /// What is said of a text that ends too early: its last line is told.
-fn cut_short(alloc: Global, number: usize, message: &str) -> Result<Finding<'static>, AllocError> {
+fn cut_short(alloc: Global, number: usize, message: &str) -> Result<Finding<'static>> {
     let message = format!(in alloc; "no TOML document: {message}, behind the last line")?;
     Ok(Finding {
         number: number.saturating_sub(1),
@@ -82,11 +83,7 @@ fn cut_short(alloc: Global, number: usize, message: &str) -> Result<Finding<'sta
 }
 
 /// What is said of a text that TOML refuses, at the place that it tells.
-pub(crate) fn not_toml<'a>(
-    alloc: Global,
-    text: &'a str,
-    error: &Error,
-) -> Result<Finding<'a>, AllocError> {
+pub(crate) fn not_toml<'a>(alloc: Global, text: &'a str, error: &Error) -> Result<Finding<'a>> {
     let start = match error.span() {
         Some(span) => span.start,
         None => 0,

@@ -1,5 +1,6 @@
 //! What stands twice in a board file.
 
+use crate::Result;
 use crate::boards::blamed::Blamed;
 use crate::boards::describe::name_of;
 use crate::boards::draft::Draft;
@@ -8,7 +9,7 @@ use crate::remark::Remark;
 use crate::sentence::Word::{Count, Hex, Name, Text};
 use crate::sentence::say;
 use board::{Key, Place};
-use std::alloc::{AllocError, Global};
+use std::alloc::Global;
 use toml::Value;
 
 /// The table of an index in the same list.
@@ -62,12 +63,7 @@ pub(crate) fn first_alike(draft: &Draft<'_>, place: Place, keys: &[&str]) -> Opt
 }
 
 /// Where another table stands, or a key of it.
-fn place_help(
-    alloc: Global,
-    draft: &Draft<'_>,
-    other: Place,
-    key: Option<&str>,
-) -> Result<String, AllocError> {
+fn place_help(alloc: Global, draft: &Draft<'_>, other: Place, key: Option<&str>) -> Result<String> {
     let name = name_of(alloc, draft, other)?;
     let line = number_of(&draft.lines, other, key);
     format!(in alloc; "{name} has it in line {line}")
@@ -79,7 +75,7 @@ fn alike_help(
     blamed: &Blamed<'_>,
     keys: &[&str],
     key: Option<&str>,
-) -> Result<Option<String>, AllocError> {
+) -> Result<Option<String>> {
     match first_alike(blamed.draft, blamed.place, keys) {
         Some(other) => Ok(Some(place_help(alloc, blamed.draft, other, key)?)),
         None => Ok(None),
@@ -87,7 +83,7 @@ fn alike_help(
 }
 
 /// Where a target or a rail above has the same name. It is told by its number.
-fn name_help(alloc: Global, blamed: &Blamed<'_>, sort: &str) -> Result<Option<String>, AllocError> {
+fn name_help(alloc: Global, blamed: &Blamed<'_>, sort: &str) -> Result<Option<String>> {
     let Some(other) = first_alike(blamed.draft, blamed.place, &["name"]) else {
         return Ok(None);
     };
@@ -97,7 +93,7 @@ fn name_help(alloc: Global, blamed: &Blamed<'_>, sort: &str) -> Result<Option<St
 }
 
 /// What is said of a target or a rail whose name stands above.
-fn same_word(alloc: Global, blamed: &Blamed<'_>, sort: &'static str) -> Result<Remark, AllocError> {
+fn same_word(alloc: Global, blamed: &Blamed<'_>, sort: &'static str) -> Result<Remark> {
     let help = name_help(alloc, blamed, sort)?;
     say![
         "two " {Text(sort)} "s have the name " {Name(blamed.text(Key::Name))} ": this is "
@@ -107,7 +103,7 @@ fn same_word(alloc: Global, blamed: &Blamed<'_>, sort: &'static str) -> Result<R
 }
 
 /// What is said of an entry whose form and command stand above.
-fn same_entry(alloc: Global, blamed: &Blamed<'_>) -> Result<Remark, AllocError> {
+fn same_entry(alloc: Global, blamed: &Blamed<'_>) -> Result<Remark> {
     let help = alike_help(alloc, blamed, &["form", "command"], None)?;
     let form = Name(blamed.text(Key::Form));
     let message = match blamed.table.get("command") {
@@ -121,7 +117,7 @@ fn same_entry(alloc: Global, blamed: &Blamed<'_>) -> Result<Remark, AllocError> 
 }
 
 /// What is said of a name, or of an entry, that stands above.
-pub(crate) fn same_name(alloc: Global, blamed: &Blamed<'_>) -> Result<Remark, AllocError> {
+pub(crate) fn same_name(alloc: Global, blamed: &Blamed<'_>) -> Result<Remark> {
     match blamed.place {
         Place::Target(_) => same_word(alloc, blamed, "target"),
         Place::Rail(_) => same_word(alloc, blamed, "rail"),
@@ -130,11 +126,7 @@ pub(crate) fn same_name(alloc: Global, blamed: &Blamed<'_>) -> Result<Remark, Al
 }
 
 /// What is said of an address that a target above has.
-pub(crate) fn same_address(
-    alloc: Global,
-    blamed: &Blamed<'_>,
-    value: &Value,
-) -> Result<Remark, AllocError> {
+pub(crate) fn same_address(alloc: Global, blamed: &Blamed<'_>, value: &Value) -> Result<Remark> {
     let help = alike_help(alloc, blamed, &["address"], Some("address"))?;
     let address = u16::try_from(value.as_integer().unwrap_or(0)).unwrap_or(0);
     say![{blamed.word()} " has the address 0x" {Hex(address, 2)} " of another target"].helped_by(
@@ -143,11 +135,7 @@ pub(crate) fn same_address(
 }
 
 /// What is said of a rail whose page has a rail above.
-pub(crate) fn same_page(
-    alloc: Global,
-    blamed: &Blamed<'_>,
-    other: Place,
-) -> Result<Remark, AllocError> {
+pub(crate) fn same_page(alloc: Global, blamed: &Blamed<'_>, other: Place) -> Result<Remark> {
     let help = place_help(alloc, blamed.draft, other, Some("page"))?;
     say![
         {blamed.word()} " is on a page of target " {Name(blamed.text(Key::Target))}

@@ -1,5 +1,6 @@
 //! Numbers and lists that can't stand at their keys.
 
+use crate::Result;
 use crate::boards::blamed::Blamed;
 use crate::boards::describe::shown;
 use crate::boards::keys::bad_value;
@@ -8,7 +9,7 @@ use crate::sentence::Word::{Hex, Name, Number, Text};
 use crate::sentence::{Sentence, say};
 use board::{Key, full_values, is_target_address};
 use smbus::form_named;
-use std::alloc::{AllocError, Global};
+use std::alloc::Global;
 use toml::Value;
 
 /// The address whose seven bits stand above a direction bit in the byte that was written.
@@ -22,11 +23,7 @@ fn shifted_address(value: &Value) -> Option<u8> {
 }
 
 /// What is said of an address that no target may have.
-pub(crate) fn bad_address(
-    alloc: Global,
-    blamed: &Blamed<'_>,
-    value: &Value,
-) -> Result<Remark, AllocError> {
+pub(crate) fn bad_address(alloc: Global, blamed: &Blamed<'_>, value: &Value) -> Result<Remark> {
     let help = match shifted_address(value) {
         Some(address) => Some(say![
             "without the direction bit, the last of eight, it is 0x" {Hex(u16::from(address), 2)}
@@ -37,7 +34,7 @@ pub(crate) fn bad_address(
 }
 
 /// What is said of a list of start values without one.
-pub(crate) fn no_start(alloc: Global, blamed: &Blamed<'_>, key: Key) -> Result<Remark, AllocError> {
+pub(crate) fn no_start(alloc: Global, blamed: &Blamed<'_>, key: Key) -> Result<Remark> {
     Remark::told(
         alloc,
         say![{Name(key.name())} " of " {blamed.word()} " has no value"],
@@ -51,7 +48,7 @@ pub(crate) fn bad_start(
     blamed: &Blamed<'_>,
     key: Key,
     value: &Value,
-) -> Result<Remark, AllocError> {
+) -> Result<Remark> {
     let value = shown(alloc, value)?;
     Remark::told(
         alloc,
@@ -93,7 +90,7 @@ pub(crate) fn bad_range(
     blamed: &Blamed<'_>,
     key: Key,
     value: &Value,
-) -> Result<Remark, AllocError> {
+) -> Result<Remark> {
     match key {
         Key::Values | Key::Length => {
             bad_value(alloc, blamed, key, value, Some(range_help(blamed, key)))

@@ -1,5 +1,6 @@
 //! Words that name nothing: forms, commands, targets and rails.
 
+use crate::Result;
 use crate::boards::blamed::Blamed;
 use crate::boards::describe::shown;
 use crate::boards::twice::{first_alike, same_page};
@@ -13,7 +14,7 @@ use board::Key;
 use notes::lowercase_suggestion;
 use pmbus_table::{Command, by_name};
 use smbus::form_named;
-use std::alloc::{AllocError, Global};
+use std::alloc::Global;
 use toml::Value;
 
 /// How manufacturer commands are written.
@@ -21,12 +22,7 @@ const MANUFACTURER_RULE: &str =
     "manufacturer commands are D0 to FD, with the digits 0 to 9 and A to F";
 
 /// Proposes one of some names, or lists them.
-fn names_help(
-    alloc: Global,
-    word: &str,
-    sort: &str,
-    names: &[&str],
-) -> Result<Option<String>, AllocError> {
+fn names_help(alloc: Global, word: &str, sort: &str, names: &[&str]) -> Result<Option<String>> {
     match lowercase_suggestion(alloc, word, names)? {
         Some(help) => Ok(Some(help)),
         None => names_listed(alloc, sort, names),
@@ -34,14 +30,14 @@ fn names_help(
 }
 
 /// Lists names of a sort.
-fn names_listed(alloc: Global, sort: &str, names: &[&str]) -> Result<Option<String>, AllocError> {
+fn names_listed(alloc: Global, sort: &str, names: &[&str]) -> Result<Option<String>> {
     let names = quoted(alloc, names)?;
     let sentence = say!["the " {Text(sort)} " are " {Text(&names)}];
     told(alloc, Some(sentence))
 }
 
 /// What is said of an entry whose form isn't known.
-pub(crate) fn unknown_form(alloc: Global, blamed: &Blamed<'_>) -> Result<Remark, AllocError> {
+pub(crate) fn unknown_form(alloc: Global, blamed: &Blamed<'_>) -> Result<Remark> {
     let word = blamed.text(Key::Form);
     let names = NAMES.as_slice();
     // (the last is that of alert responses, which no entry has)
@@ -62,7 +58,7 @@ fn other_form<'a>(blamed: &'a Blamed<'_>, command: Command) -> Advice<'a> {
 }
 
 /// What is said of an entry whose command isn't known, or doesn't take its form.
-pub(crate) fn unknown_command(alloc: Global, blamed: &Blamed<'_>) -> Result<Remark, AllocError> {
+pub(crate) fn unknown_command(alloc: Global, blamed: &Blamed<'_>) -> Result<Remark> {
     let word = blamed.text(Key::Command);
     if let Some(command) = by_name(word) {
         return other_form(blamed, command).told(alloc);
@@ -75,7 +71,7 @@ pub(crate) fn unknown_command(alloc: Global, blamed: &Blamed<'_>) -> Result<Rema
 }
 
 /// The names of tables.
-fn names_of<'a>(alloc: Global, tables: &'a [Value]) -> Result<Vec<&'a str>, AllocError> {
+fn names_of<'a>(alloc: Global, tables: &'a [Value]) -> Result<Vec<&'a str>> {
     let mut names = Vec::new(alloc);
     for value in tables {
         match value.get("name") {
@@ -87,11 +83,7 @@ fn names_of<'a>(alloc: Global, tables: &'a [Value]) -> Result<Vec<&'a str>, Allo
 }
 
 /// What is said of a rail that needs a rail that isn't there.
-pub(crate) fn unknown_need(
-    alloc: Global,
-    blamed: &Blamed<'_>,
-    need: &Value,
-) -> Result<Remark, AllocError> {
+pub(crate) fn unknown_need(alloc: Global, blamed: &Blamed<'_>, need: &Value) -> Result<Remark> {
     let word = need.as_str().unwrap_or("");
     let rails = names_of(alloc, blamed.draft.rails)?;
     let help = names_help(alloc, word, "rails", &rails)?;
@@ -101,7 +93,7 @@ pub(crate) fn unknown_need(
 }
 
 /// What is said of a rail that needs itself.
-pub(crate) fn self_need(alloc: Global, blamed: &Blamed<'_>) -> Result<Remark, AllocError> {
+pub(crate) fn self_need(alloc: Global, blamed: &Blamed<'_>) -> Result<Remark> {
     let help = "\"needs\" names the other rails that have to be good before it is turned on";
     Remark::told(
         alloc,
@@ -111,7 +103,7 @@ pub(crate) fn self_need(alloc: Global, blamed: &Blamed<'_>) -> Result<Remark, Al
 }
 
 /// What is said of a rail whose target isn't there.
-pub(crate) fn unknown_target(alloc: Global, blamed: &Blamed<'_>) -> Result<Remark, AllocError> {
+pub(crate) fn unknown_target(alloc: Global, blamed: &Blamed<'_>) -> Result<Remark> {
     let word = blamed.text(Key::Target);
     let targets = names_of(alloc, blamed.draft.targets)?;
     let help = names_help(alloc, word, "targets", &targets)?;
@@ -138,7 +130,7 @@ fn pages_help<'a>(blamed: &'a Blamed<'_>) -> Option<Sentence<'a>> {
 }
 
 /// What is said of a rail on a page that its target hasn't.
-fn foreign_page(alloc: Global, blamed: &Blamed<'_>, value: &Value) -> Result<Remark, AllocError> {
+fn foreign_page(alloc: Global, blamed: &Blamed<'_>, value: &Value) -> Result<Remark> {
     let page = shown(alloc, value)?;
     Remark::told(
         alloc,
@@ -151,11 +143,7 @@ fn foreign_page(alloc: Global, blamed: &Blamed<'_>, value: &Value) -> Result<Rem
 }
 
 /// What is said of a rail on a page that its target hasn't, or that has a rail above.
-pub(crate) fn bad_page(
-    alloc: Global,
-    blamed: &Blamed<'_>,
-    value: &Value,
-) -> Result<Remark, AllocError> {
+pub(crate) fn bad_page(alloc: Global, blamed: &Blamed<'_>, value: &Value) -> Result<Remark> {
     match first_alike(blamed.draft, blamed.place, &["target", "page"]) {
         Some(other) => same_page(alloc, blamed, other),
         None => foreign_page(alloc, blamed, value),

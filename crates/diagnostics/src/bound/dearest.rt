@@ -1,9 +1,10 @@
 //! The dearest way through an accepted program, by the ticks that its table leaves.
 
+use crate::Result;
 use crate::refusal::roads::{Edge, Judged};
 use facts::Row;
 use seq_program::Instr;
-use std::alloc::{AllocError, Global};
+use std::alloc::Global;
 
 /// So many steps at most are followed: each loop is gone once, and then counted.
 const MOST_STEPS: usize = 20_000;
@@ -130,7 +131,7 @@ fn dearest_step(
     judged: Judged<'_>,
     here: Here,
     favored: Favored,
-) -> Result<Option<(Here, u64)>, AllocError> {
+) -> Result<Option<(Here, u64)>> {
     let Some(instr) = judged.program.at(here.place) else {
         return Ok(None);
     };
@@ -174,7 +175,7 @@ fn without(counters: [u64; 4], counter: usize) -> [u64; 4] {
 }
 
 impl Dearest {
-    fn new(alloc: Global, places: usize) -> Result<Dearest, AllocError> {
+    fn new(alloc: Global, places: usize) -> Result<Dearest> {
         Ok(Dearest {
             turns: Vec::new(alloc),
             ticks: 0,
@@ -222,7 +223,7 @@ impl Dearest {
     }
 
     /// The turns of a loop join those that were found, before the ones inside it.
-    fn add(&mut self, at: usize, turns: Turns) -> Result<(), AllocError> {
+    fn add(&mut self, at: usize, turns: Turns) -> Result<()> {
         for inner in self.turns.iter_mut().skip(at) {
             inner.depth = inner.depth.saturating_add(1);
         }
@@ -234,7 +235,7 @@ impl Dearest {
 
     /// A turn was made since a step: those that its counter leaves are like it. In the last turn of
     /// a loop around it they are told with that.
-    fn close(&mut self, step: Step, left: u64) -> Result<(), AllocError> {
+    fn close(&mut self, step: Step, left: u64) -> Result<()> {
         let (first, last) = self.places_since(step.place);
         let turn = self.ticks.saturating_sub(step.ticks);
         self.take(turn.saturating_mul(left));
@@ -256,7 +257,7 @@ impl Dearest {
     }
 
     /// The way comes to a place: a loop of which a turn was made is counted, and left.
-    fn come(&mut self, here: Here) -> Result<Here, AllocError> {
+    fn come(&mut self, here: Here) -> Result<Here> {
         let mut here = here;
         self.leave(here.place);
         if let Some(step) = self.last_at(here.place) {
@@ -282,11 +283,7 @@ impl Dearest {
 
 /// A dear way, where it ends within 20,000 steps: at each place the edge with the most ticks, its
 /// own and those that are left behind it.
-fn dear_way(
-    alloc: Global,
-    judged: Judged<'_>,
-    favored: Favored,
-) -> Result<Option<Dearest>, AllocError> {
+fn dear_way(alloc: Global, judged: Judged<'_>, favored: Favored) -> Result<Option<Dearest>> {
     let mut dearest = Dearest::new(alloc, judged.program.places())?;
     let mut here = Here {
         place: 0,
@@ -316,10 +313,7 @@ fn dearer(one: Option<Dearest>, other: Option<Dearest>) -> Option<Dearest> {
 
 /// The dearest way that is found. By the table a loop whose counter is used up costs no less than
 /// the way out of it, so of edges that cost the same the first is tried, and then the last.
-pub(crate) fn dearest_way(
-    alloc: Global,
-    judged: Judged<'_>,
-) -> Result<Option<Dearest>, AllocError> {
+pub(crate) fn dearest_way(alloc: Global, judged: Judged<'_>) -> Result<Option<Dearest>> {
     let first = dear_way(alloc, judged, Favored::First)?;
     let last = dear_way(alloc, judged, Favored::Last)?;
     Ok(dearer(first, last))

@@ -1,250 +1,163 @@
 //! The fields of messages and answers: words of the form KEY=VALUE, in a fixed order.
 
+use crate::Result;
+use crate::bundle::flawed::Flawed;
 use crate::form::form_help;
 use crate::listing::listed;
 use crate::remark::Remark;
 use crate::sentence::Word::{Name, Text};
-use crate::sentence::{say, told};
-use bundles::answer_line_of;
+use crate::sentence::{Sentence, say, told};
+use bundles::Key;
 use notes::lowercase_suggestion;
-use smbus::form_named;
-use std::alloc::{AllocError, Global};
-use texts::{ReadError, pair_of};
+use std::alloc::Global;
+use texts::pair_of;
 
-/// A field, and what stands behind its key.
+/// The words of a line, and the keys that they may have, in their order.
 #[derive(Clone, Copy)]
-pub(crate) struct Field {
-    pub key: &'static str,
-    pub expected: &'static str,
+pub(crate) struct FieldLine<'a> {
+    pub words: &'a [&'a str],
+    pub keys: &'static [Key],
 }
 
-const WORD: &str = "one to four digits, 0 to 9 or A to F";
+impl<'a> FieldLine<'a> {
+    /// The key of a word.
+    fn key_of(self, word: &str) -> Option<Key> {
+        let key = self.keys.iter().find(|key| word.starts_with(key.text()))?;
+        Some(*key)
+    }
 
-const BYTES: &str = "bytes of two digits, 0 to 9 or A to F";
+    /// The number of the first word with a key.
+    fn place_of(self, key: Key) -> Option<usize> {
+        self.words
+            .iter()
+            .position(|word| word.starts_with(key.text()))
+    }
 
-const HOLDS: &str = "SLOT:TICKS with commas, slots below 4096 in ascending order, ticks up to 6999";
-
-pub(crate) const MESSAGE_FIELDS: [Field; 8] = [
-    Field {
-        key: "form=",
-        expected: "the name of a form",
-    },
-    Field {
-        key: "address=",
-        expected: "two digits, 00 to 7F",
-    },
-    Field {
-        key: "code=",
-        expected: "two digits, 0 to 9 or A to F",
-    },
-    Field {
-        key: "out=",
-        expected: BYTES,
-    },
-    Field {
-        key: "holds=",
-        expected: HOLDS,
-    },
-    Field {
-        key: "refuse=",
-        expected: "a number from 0 to 65535",
-    },
-    Field {
-        key: "value=",
-        expected: WORD,
-    },
-    Field {
-        key: "bytes=",
-        expected: BYTES,
-    },
-];
-
-pub(crate) const ANSWER_FIELDS: [Field; 8] = [
-    Field {
-        key: "holds=",
-        expected: HOLDS,
-    },
-    Field {
-        key: "refuse=",
-        expected: "a number from 0 to 65535",
-    },
-    Field {
-        key: "value=",
-        expected: WORD,
-    },
-    Field {
-        key: "bytes=",
-        expected: BYTES,
-    },
-    Field {
-        key: "took=",
-        expected: "1",
-    },
-    Field {
-        key: "alerts=",
-        expected: WORD,
-    },
-    Field {
-        key: "contender=",
-        expected: "the address byte of another controller's frame, two digits, a colon, and its \
-                   data bytes",
-    },
-    Field {
-        key: "cholds=",
-        expected: HOLDS,
-    },
-];
-
-/// Whether a word alone is an answer.
-fn is_answer(alloc: Global, word: &str) -> Result<bool, AllocError> {
-    match answer_line_of(alloc, 1, word) {
-        Ok(_) => Ok(true),
-        Err(ReadError::Memory) => Err(AllocError),
-        Err(ReadError::Fault(_)) => Ok(false),
+    /// The texts of the keys.
+    fn key_texts(self, alloc: Global) -> Result<Vec<&'static str>> {
+        let mut texts = Vec::new(alloc);
+        for key in self.keys {
+            texts.push(key.text())?;
+        }
+        Ok(texts)
     }
 }
 
-/// Whether a value can stand behind a key.
-fn takes(alloc: Global, key: &str, value: &str) -> Result<bool, AllocError> {
+/// What stands behind a key.
+fn expected_behind(key: Key) -> &'static str {
     match key {
-        "form=" => Ok(value == "alert" || form_named(value).is_some()),
-        "address=" => Ok(pair_of(value).is_some_and(|address| address <= 127)),
-        "code=" => Ok(pair_of(value).is_some()),
-        "out=" => {
-            let word = format!(in alloc; "bytes={value}")?;
-            is_answer(alloc, &word)
+        Key::Form => "the name of a form",
+        Key::Address => "two digits, 00 to 7F",
+        Key::Code => "two digits, 0 to 9 or A to F",
+        Key::Refuse => "a number from 0 to 65535",
+        Key::Took => "1",
+        Key::Value | Key::Alerts => "one to four digits, 0 to 9 or A to F",
+        Key::Out | Key::Bytes => "bytes of two digits, 0 to 9 or A to F",
+        Key::Holds | Key::ContenderHolds => {
+            "SLOT:TICKS with commas, slots below 4096 in ascending order, ticks up to 6999"
         }
-        // it stands behind another controller alone
-        "cholds=" => {
-            let words = format!(in alloc; "contender=00: cholds={value}")?;
-            is_answer(alloc, &words)
-        }
-        _ => {
-            let word = format!(in alloc; "{key}{value}")?;
-            is_answer(alloc, &word)
+        Key::Contender => {
+            "the address byte of another controller's frame, two digits, a colon, and its data \
+             bytes"
         }
     }
 }
 
-/// The keys of fields.
-fn keys_of(alloc: Global, fields: &[Field]) -> Result<Vec<&'static str>, AllocError> {
-    let mut keys = Vec::new(alloc);
-    for field in fields {
-        keys.push(field.key)?;
-    }
-    Ok(keys)
-}
-
-/// What may help where a word has no key of the fields.
-fn unknown_help(alloc: Global, fields: &[Field], word: &str) -> Result<Option<String>, AllocError> {
-    let name = match word.split_once('=') {
-        Some((name, _)) => name,
-        None => word,
-    };
+/// What may help where a word has none of the keys.
+fn unknown_help(alloc: Global, fields: FieldLine, word: &str) -> Result<Option<String>> {
+    let (name, _) = word.split_once('=').unwrap_or((word, ""));
     let typed = format!(in alloc; "{name}=")?;
-    let keys = keys_of(alloc, fields)?;
-    match lowercase_suggestion(alloc, &typed, &keys)? {
-        Some(help) => Ok(Some(help)),
-        None => field_help(alloc, word, &keys),
+    let keys = fields.key_texts(alloc)?;
+    if let Some(help) = lowercase_suggestion(alloc, &typed, &keys)? {
+        return Ok(Some(help));
     }
-}
-
-/// The same where no key is near.
-fn field_help(
-    alloc: Global,
-    word: &str,
-    keys: &[&'static str],
-) -> Result<Option<String>, AllocError> {
     if word == "-" {
         return told(alloc, Some(say!["\"-\" stands alone on its line"]));
     }
-    let keys = listed(alloc, keys)?;
+    let keys = listed(alloc, &keys)?;
     told(alloc, Some(say!["the fields here are " {Text(&keys)}]))
 }
 
-/// What is said of a word that has no key of the fields.
-fn unknown_field(alloc: Global, fields: &[Field], word: &str) -> Result<Remark, AllocError> {
+/// What is said of a word that has none of the keys.
+fn unknown_field(alloc: Global, fields: FieldLine, word: &str) -> Result<Remark> {
     let help = unknown_help(alloc, fields, word)?;
     say!["unknown field " {Name(word)}].helped_by(alloc, help)
 }
 
 /// What is said of a field that stands too late, or twice.
-fn late_field(alloc: Global, fields: &[Field], field: Field) -> Result<Remark, AllocError> {
-    let keys = keys_of(alloc, fields)?;
+fn late_field(alloc: Global, fields: FieldLine, key: Key) -> Result<Remark> {
+    let keys = fields.key_texts(alloc)?;
     let keys = listed(alloc, &keys)?;
     Remark::told(
         alloc,
-        say![{Name(field.key)} " stands behind a later field"],
+        say![{Name(key.text())} " stands behind a later field"],
         Some(say!["each field stands once, in this order: " {Text(&keys)}]),
     )
 }
 
-/// What is said of a value that can't stand behind its key.
-fn bad_value(alloc: Global, field: Field, value: &str) -> Result<Remark, AllocError> {
-    let message = say![{Name(field.key)} " takes " {Text(field.expected)} ", found " {Name(value)}];
-    let help = match field.key {
-        "form=" => Some(form_help(alloc, value)?),
+/// What is said of a field that has to be there and isn't.
+fn missing_field(key: Key) -> Sentence<'static> {
+    match key {
+        Key::Code => say!["\"code=\" is missing, as in \"form=readword address=40 code=79\""],
+        _ => say![{Name(key.text())} " is missing"],
+    }
+}
+
+/// Why a field can't stand though its digits are right.
+fn misplaced(key: Key, value: &str, before: &str) -> Option<Sentence<'static>> {
+    match key {
+        Key::ContenderHolds if !before.starts_with(Key::Contender.text()) => {
+            Some(say!["\"cholds=\" stands only behind \"contender=\""])
+        }
+        Key::Code if pair_of(value).is_some() => {
+            Some(say!["\"code=\" stands here, which this form hasn't"])
+        }
+        Key::Address if pair_of(value)? <= 127 => {
+            Some(say!["the address 0C is for the form alert, which has no other"])
+        }
+        _ => None,
+    }
+}
+
+/// What is said of a field with a value that can't stand.
+fn bad_value(alloc: Global, key: Key, value: &str, before: &str) -> Result<Remark> {
+    if let Some(message) = misplaced(key, value, before) {
+        return Remark::told(alloc, message, None);
+    }
+    let expected = expected_behind(key);
+    let message = say![{Name(key.text())} " takes " {Text(expected)} ", found " {Name(value)}];
+    let help = match key {
+        Key::Form => Some(form_help(alloc, value)?),
         _ => None,
     };
     message.helped_by(alloc, help)
 }
 
-/// What is wrong with a line, and the number of the word that is to blame among its words.
-#[derive(Drop)]
-pub(crate) struct Flaw {
-    pub remark: Remark,
-    pub at: Option<usize>,
-}
-
-impl Flaw {
-    /// A flaw of a word.
-    pub(crate) fn of_word(at: usize, remark: Remark) -> Flaw {
-        Flaw {
-            remark,
-            at: Some(at),
-        }
-    }
-
-    /// A flaw of a whole line.
-    pub(crate) fn of_line(remark: Remark) -> Flaw {
-        Flaw { remark, at: None }
-    }
-}
-
-/// What is wrong with a field, which stands below these.
-fn field_flaw(
-    alloc: Global,
-    fields: &[Field],
-    found: Option<usize>,
-    next: usize,
-    word: &str,
-) -> Result<Option<Remark>, AllocError> {
-    let Some((place, field)) = found.and_then(|place| Some((place, *fields.get(place)?))) else {
-        return Ok(Some(unknown_field(alloc, fields, word)?));
+/// What is said of a word that no field takes.
+pub(crate) fn word_flaw(alloc: Global, fields: FieldLine, at: usize) -> Result<Flawed> {
+    let word = fields.words.get(at).copied().unwrap_or("");
+    let remark = match fields.key_of(word) {
+        Some(key) => late_field(alloc, fields, key)?,
+        None => unknown_field(alloc, fields, word)?,
     };
-    if place < next {
-        return Ok(Some(late_field(alloc, fields, field)?));
-    }
-    let value = word.strip_prefix(field.key).unwrap_or("");
-    if takes(alloc, field.key, value)? {
-        return Ok(None);
-    }
-    Ok(Some(bad_value(alloc, field, value)?))
+    Ok(Flawed::of_word(at, remark))
 }
 
-/// The first word that is no field, or one that can't stand in its place.
-pub(crate) fn first_flaw(
-    alloc: Global,
-    fields: &[Field],
-    words: &[&str],
-) -> Result<Option<Flaw>, AllocError> {
-    let mut next = 0;
-    for (at, word) in words.iter().enumerate() {
-        let found = fields.iter().position(|field| word.starts_with(field.key));
-        if let Some(remark) = field_flaw(alloc, fields, found, next, word)? {
-            return Ok(Some(Flaw::of_word(at, remark)));
-        }
-        next = found.unwrap_or(0).saturating_add(1);
+/// What is said of a field of this key that can't be read, which would be this word.
+pub(crate) fn field_flaw(alloc: Global, fields: FieldLine, key: Key, at: usize) -> Result<Flawed> {
+    let word = fields.words.get(at).copied();
+    if let Some(value) = word.and_then(|word| word.strip_prefix(key.text())) {
+        let before = at
+            .checked_sub(1)
+            .and_then(|at| fields.words.get(at).copied());
+        let remark = bad_value(alloc, key, value, before.unwrap_or(""))?;
+        return Ok(Flawed::of_word(at, remark));
     }
-    Ok(None)
+    if word.is_some_and(|word| fields.key_of(word).is_none()) {
+        return word_flaw(alloc, fields, at);
+    }
+    match fields.place_of(key) {
+        Some(late) => Ok(Flawed::of_word(late, late_field(alloc, fields, key)?)),
+        None => Ok(Flawed::of_line(Remark::told(alloc, missing_field(key), None)?)),
+    }
 }

@@ -1,16 +1,17 @@
 //! The command of a bundle, and the headers of its sections.
 
+use crate::Result;
 use crate::listing::listed;
 use crate::remark::Remark;
 use crate::sentence::Word::{Name, Text};
 use crate::sentence::{say, told};
 use bundles::{COMMANDS, Command, Header};
 use notes::{line_at, lowercase_suggestion};
-use std::alloc::{AllocError, Global};
+use std::alloc::Global;
 use texts::first_line;
 
 /// The lines of all commands.
-fn command_lines(alloc: Global) -> Result<Vec<&'static str>, AllocError> {
+fn command_lines(alloc: Global) -> Result<Vec<&'static str>> {
     let mut lines = Vec::new(alloc);
     for command in COMMANDS {
         lines.push(command.text())?;
@@ -19,7 +20,7 @@ fn command_lines(alloc: Global) -> Result<Vec<&'static str>, AllocError> {
 }
 
 /// What the first line has to be.
-fn commands_help(alloc: Global, commands: &[&str]) -> Result<Option<String>, AllocError> {
+fn commands_help(alloc: Global, commands: &[&str]) -> Result<Option<String>> {
     let commands = listed(alloc, commands)?;
     let sentence = say![
         "the first line is a command alone, one of " {Text(&commands)} ", and its sections follow"
@@ -28,7 +29,7 @@ fn commands_help(alloc: Global, commands: &[&str]) -> Result<Option<String>, All
 }
 
 /// What is said of a first line that is no command.
-pub(crate) fn unknown_command(alloc: Global, line: &str) -> Result<Remark, AllocError> {
+pub(crate) fn unknown_command(alloc: Global, line: &str) -> Result<Remark> {
     let commands = command_lines(alloc)?;
     let help = match lowercase_suggestion(alloc, line, &commands)? {
         Some(help) => Some(help),
@@ -44,7 +45,7 @@ fn command_in(text: &str) -> Option<Command> {
 }
 
 /// The sections of a command: `the sections are %board, %program, in this order`.
-fn sections_help(alloc: Global, text: &str) -> Result<Option<String>, AllocError> {
+fn sections_help(alloc: Global, text: &str) -> Result<Option<String>> {
     let Some(command) = command_in(text) else {
         return Ok(None);
     };
@@ -58,11 +59,7 @@ fn sections_help(alloc: Global, text: &str) -> Result<Option<String>, AllocError
 }
 
 /// What is said of a header that is missing.
-pub(crate) fn missing_section(
-    alloc: Global,
-    text: &str,
-    header: Header,
-) -> Result<Remark, AllocError> {
+pub(crate) fn missing_section(alloc: Global, text: &str, header: Header) -> Result<Remark> {
     let help = sections_help(alloc, text)?;
     say!["the section " {Text(header.text())} " is missing"].helped_by(alloc, help)
 }
@@ -86,11 +83,7 @@ fn headers_above(text: &str, number: usize) -> usize {
 }
 
 /// What may help where a header doesn't come next.
-fn header_help(
-    alloc: Global,
-    line: &str,
-    next: Option<Header>,
-) -> Result<Option<String>, AllocError> {
+fn header_help(alloc: Global, line: &str, next: Option<Header>) -> Result<Option<String>> {
     let Some(header) = next else {
         let sentence = say!["a line that begins with % is a header; none comes here"];
         return told(alloc, Some(sentence));
@@ -106,17 +99,13 @@ fn header_help(
 }
 
 /// What is said of a header that doesn't come next.
-fn other_header(alloc: Global, line: &str, next: Option<Header>) -> Result<Remark, AllocError> {
+fn other_header(alloc: Global, line: &str, next: Option<Header>) -> Result<Remark> {
     let help = header_help(alloc, line, next)?;
     say!["the header " {Name(line)} " doesn't come here"].helped_by(alloc, help)
 }
 
 /// What is said of a line that doesn't belong where it stands.
-pub(crate) fn unexpected_line(
-    alloc: Global,
-    text: &str,
-    number: usize,
-) -> Result<Remark, AllocError> {
+pub(crate) fn unexpected_line(alloc: Global, text: &str, number: usize) -> Result<Remark> {
     let line = line_at(text, number).unwrap_or("").trim_end_matches('\r');
     if !line.starts_with('%') {
         let help = sections_help(alloc, text)?;

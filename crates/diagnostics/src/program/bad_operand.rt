@@ -73,10 +73,7 @@ fn operand_help<'a>(word: &'a str, words: &[&'a str]) -> Sentence<'a> {
 /// What is said of a line with a word that can't stand in its place.
 pub(crate) fn bad_operand<'a>(words: &[&'a str], misfit: Misfit) -> Advice<'a> {
     let Some(word) = words.first().copied() else {
-        return Advice {
-            message: say!["a bad operand"],
-            help: None,
-        };
+        return say!["a bad operand"].alone();
     };
     Advice {
         message: misfit_message(word, words, misfit),

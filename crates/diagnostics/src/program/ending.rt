@@ -1,9 +1,10 @@
 //! Programs that don't end, or are too long.
 
+use crate::Result;
 use crate::remark::{Remark, help_of};
 use notes::Quoted;
 use seq_program::{MOST_PLACES, label_in};
-use std::alloc::{AllocError, Global};
+use std::alloc::Global;
 use texts::{first_by_feed, without_comment, words_of};
 
 /// A line and its number.
@@ -34,7 +35,7 @@ fn last_line(text: &str) -> Option<Numbered<'_>> {
 }
 
 /// What is wrong with the end of a program.
-fn end_message(alloc: Global, text: &str) -> Result<String, AllocError> {
+fn end_message(alloc: Global, text: &str) -> Result<String> {
     let Some(Numbered { line, number }) = last_line(text) else {
         return String::from_str(alloc, "the program has no instruction");
     };
@@ -49,7 +50,7 @@ fn end_message(alloc: Global, text: &str) -> Result<String, AllocError> {
 }
 
 /// What is said of a program that doesn't end.
-pub(crate) fn no_end(alloc: Global, text: &str) -> Result<Remark, AllocError> {
+pub(crate) fn no_end(alloc: Global, text: &str) -> Result<Remark> {
     let message = end_message(alloc, text)?;
     let help = help_of(
         alloc,
@@ -59,7 +60,7 @@ pub(crate) fn no_end(alloc: Global, text: &str) -> Result<Remark, AllocError> {
 }
 
 /// How many lines of a text have an instruction.
-fn instruction_count(alloc: Global, text: &str) -> Result<usize, AllocError> {
+fn instruction_count(alloc: Global, text: &str) -> Result<usize> {
     let mut count = 0usize;
     for line in text.split('\n') {
         let words = words_of(alloc, without_comment(line))?;
@@ -71,7 +72,7 @@ fn instruction_count(alloc: Global, text: &str) -> Result<usize, AllocError> {
 }
 
 /// What is said of the first instruction that is too many.
-pub(crate) fn too_long(alloc: Global, text: &str) -> Result<Remark, AllocError> {
+pub(crate) fn too_long(alloc: Global, text: &str) -> Result<Remark> {
     let count = instruction_count(alloc, text)?;
     let message = format!(in alloc;
         "a program has at most {MOST_PLACES} instructions, and this one has {count}"

@@ -1,12 +1,13 @@
 //! Labels that stand nowhere, or twice.
 
+use crate::Result;
 use crate::remark::{Remark, help_of};
 use crate::sentence::Word::{Count, Name};
 use crate::sentence::{Advice, say};
 use indexmap::IndexMap;
 use notes::lowercase_suggestion;
 use seq_program::{ProgramFault, label_in};
-use std::alloc::{AllocError, Global};
+use std::alloc::Global;
 use texts::{first_by_feed, without_comment, words_of};
 
 /// How many labels are compared with one that stands nowhere, at most.
@@ -29,7 +30,7 @@ fn is_of_label(fault: ProgramFault) -> bool {
 }
 
 /// The label that a line is.
-fn label_on<'a>(alloc: Global, line: &'a str) -> Result<Option<&'a str>, AllocError> {
+fn label_on<'a>(alloc: Global, line: &'a str) -> Result<Option<&'a str>> {
     // there may be millions of them
     if line.is_empty() {
         return Ok(None);
@@ -39,7 +40,7 @@ fn label_on<'a>(alloc: Global, line: &'a str) -> Result<Option<&'a str>, AllocEr
 }
 
 /// The labels of a text.
-fn labels_of<'a>(alloc: Global, text: &'a str) -> Result<LabelLines<'a>, AllocError> {
+fn labels_of<'a>(alloc: Global, text: &'a str) -> Result<LabelLines<'a>> {
     let mut labels = IndexMap::new(alloc);
     let mut number = 1;
     let mut rest = text;
@@ -60,7 +61,7 @@ pub(crate) fn labels_for<'a>(
     alloc: Global,
     text: &'a str,
     faults: &[ProgramFault],
-) -> Result<LabelLines<'a>, AllocError> {
+) -> Result<LabelLines<'a>> {
     if faults.iter().any(|fault| is_of_label(*fault)) {
         labels_of(alloc, text)
     } else {
@@ -69,7 +70,7 @@ pub(crate) fn labels_for<'a>(
 }
 
 /// The first labels, as many as are compared.
-fn first_names<'a>(alloc: Global, labels: &LabelLines<'a>) -> Result<Vec<&'a str>, AllocError> {
+fn first_names<'a>(alloc: Global, labels: &LabelLines<'a>) -> Result<Vec<&'a str>> {
     let mut names = Vec::new(alloc);
     for name in labels.keys().take(MOST_COMPARED) {
         names.push(*name)?;
@@ -82,7 +83,7 @@ pub(crate) fn unknown_label(
     alloc: Global,
     labels: &LabelLines<'_>,
     words: &[&str],
-) -> Result<Remark, AllocError> {
+) -> Result<Remark> {
     let Some(word) = words.last() else {
         return Remark::plain(alloc, "unknown label");
     };
@@ -95,11 +96,7 @@ pub(crate) fn unknown_label(
 }
 
 /// What is said of a line whose label stands before.
-pub(crate) fn same_label(
-    alloc: Global,
-    labels: &LabelLines<'_>,
-    words: &[&str],
-) -> Result<Remark, AllocError> {
+pub(crate) fn same_label(alloc: Global, labels: &LabelLines<'_>, words: &[&str]) -> Result<Remark> {
     let Some(label) = label_in(words) else {
         return Remark::plain(alloc, "the same label once more");
     };

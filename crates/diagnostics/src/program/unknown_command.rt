@@ -1,12 +1,13 @@
 //! A word that is no command, or a command without the form of the instruction.
 
+use crate::Result;
 use crate::remark::Remark;
 use crate::sentence::Word::{Name, Text};
 use crate::sentence::{Advice, Sentence, Word, say, told};
 use notes::suggestion;
 use pmbus_table::{Command, by_code, by_name, name_of};
 use smbus::Form;
-use std::alloc::{AllocError, Global};
+use std::alloc::Global;
 use texts::pair_of;
 
 /// How manufacturer commands are written.
@@ -19,7 +20,7 @@ fn takes(command: Command, forms: &[Form]) -> bool {
 }
 
 /// The names of the table's commands that take one of some forms.
-fn command_names(alloc: Global, forms: &[Form]) -> Result<Vec<String>, AllocError> {
+fn command_names(alloc: Global, forms: &[Form]) -> Result<Vec<String>> {
     let mut names = Vec::new(alloc);
     for code in 0..=u8::MAX {
         match by_code(code) {
@@ -33,11 +34,7 @@ fn command_names(alloc: Global, forms: &[Form]) -> Result<Vec<String>, AllocErro
 }
 
 /// Proposes the nearest of these commands.
-fn command_suggestion(
-    alloc: Global,
-    word: &str,
-    forms: &[Form],
-) -> Result<Option<String>, AllocError> {
+fn command_suggestion(alloc: Global, word: &str, forms: &[Form]) -> Result<Option<String>> {
     let names = command_names(alloc, forms)?;
     let mut candidates = Vec::new(alloc);
     for name in &names {
@@ -83,10 +80,9 @@ pub(crate) fn forms_help(command: Command) -> Option<Sentence<'static>> {
 fn known_command<'a>(instruction: &'a str, word: &'a str, command: Command) -> Advice<'a> {
     let text = Text(word);
     if command.is_manufacturer() {
-        return Advice {
-            message: say!["\"" {text} "\" needs \"b\" or \"w\" behind it"],
-            help: Some(say!["\"" {text} "b\" is for a byte, \"" {text} "w\" for a word"]),
-        };
+        return say!["\"" {text} "\" needs \"b\" or \"w\" behind it"].with_help(
+            say!["\"" {text} "b\" is for a byte, \"" {text} "w\" for a word"],
+        );
     }
     Advice {
         message: say![{Name(instruction)} " doesn't take \"" {text} "\""],
@@ -107,7 +103,7 @@ fn digits_of(word: &str) -> Option<&str> {
 }
 
 /// Whether a word is nearly a manufacturer command.
-fn is_nearly_manufacturer(alloc: Global, word: &str) -> Result<bool, AllocError> {
+fn is_nearly_manufacturer(alloc: Global, word: &str) -> Result<bool> {
     match word.get(..2) {
         Some(digits) if word.len() <= 3 => {
             let digits = digits.to_ascii_uppercase(alloc)?;
@@ -130,7 +126,7 @@ pub(crate) fn command_help(
     word: &str,
     forms: &[Form],
     rule: &'static str,
-) -> Result<Option<String>, AllocError> {
+) -> Result<Option<String>> {
     if let Some(digits) = digits_of(word) {
         let sentence = say!["did you mean " {Name(digits)} "?"];
         return told(alloc, Some(sentence));
@@ -148,11 +144,7 @@ pub(crate) fn command_help(
 }
 
 /// What is said of a line with such a word, in the place of a command that takes one of some forms.
-pub(crate) fn unknown_command(
-    alloc: Global,
-    words: &[&str],
-    forms: &[Form],
-) -> Result<Remark, AllocError> {
+pub(crate) fn unknown_command(alloc: Global, words: &[&str], forms: &[Form]) -> Result<Remark> {
     let [instruction, _, word, ..] = words else {
         return Remark::plain(alloc, "unknown command");
     };

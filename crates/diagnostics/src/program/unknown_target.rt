@@ -4,16 +4,17 @@ ghost use Rattle.std.specs.Prelude.{◌≡◌, map, option_map, string_bytes, If
 ghost use Rattle.std.specs.Str.{str_to_ascii_lowercase};
 ghost use Rattle.notes.specs.Nearest.{IsSuggestion};
 
+use crate::Result;
 use crate::listing::quoted;
 use crate::remark::Remark;
 use crate::sentence::Word::{Name, Number};
 use crate::sentence::{Sentence, say, told};
 use board::Board;
 use notes::{Quoted, lowercase_suggestion};
-use std::alloc::{AllocError, Global};
+use std::alloc::Global;
 
 /// The names of a board's targets, in its order.
-fn target_names<'b>(alloc: Global, board: &'b Board) -> Result<Vec<&'b str>, AllocError>
+fn target_names<'b>(alloc: Global, board: &'b Board) -> Result<Vec<&'b str>>
     ensures { IfOk result (λ names. map (λ n. n.now) names.items ≡ board.now.target_names) }
 {
     let mut names = Vec::new(alloc);
@@ -33,7 +34,7 @@ fn rail_help<'a>(board: &'a Board, word: &'a str) -> Option<Sentence<'a>> {
 }
 
 /// Proposes one of the board's targets.
-fn target_help(alloc: Global, board: &Board, word: &str) -> Result<Option<String>, AllocError>
+fn target_help(alloc: Global, board: &Board, word: &str) -> Result<Option<String>>
     ensures { IfOk result (λ help. IsSuggestion (str_to_ascii_lowercase word.now)
         board.now.target_names (option_map string_bytes help)) }
 {
@@ -48,7 +49,7 @@ pub(crate) fn unnamed(
     word: &str,
     names: &[&str],
     help: Option<String>,
-) -> Result<Remark, AllocError> {
+) -> Result<Remark> {
     let names = quoted(alloc, names)?;
     let word = Quoted(word);
     let message = format!(in alloc; "unknown {kind} {word}: the board has {names}")?;
@@ -56,11 +57,7 @@ pub(crate) fn unnamed(
 }
 
 /// What is said of a word that is no target's name.
-pub(crate) fn target_remark(
-    alloc: Global,
-    board: &Board,
-    word: &str,
-) -> Result<Remark, AllocError> {
+pub(crate) fn target_remark(alloc: Global, board: &Board, word: &str) -> Result<Remark> {
     let help = match rail_help(board, word) {
         Some(help) => told(alloc, Some(help))?,
         None => target_help(alloc, board, word)?,
@@ -70,11 +67,7 @@ pub(crate) fn target_remark(
 }
 
 /// What is said of a line with such a word.
-pub(crate) fn unknown_target(
-    alloc: Global,
-    board: &Board,
-    words: &[&str],
-) -> Result<Remark, AllocError> {
+pub(crate) fn unknown_target(alloc: Global, board: &Board, words: &[&str]) -> Result<Remark> {
     match words.get(1) {
         Some(word) => target_remark(alloc, board, word),
         None => Remark::plain(alloc, "unknown target"),

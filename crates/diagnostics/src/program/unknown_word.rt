@@ -1,12 +1,13 @@
 //! A first word that is no instruction's, on a line that is no label.
 
+use crate::Result;
 use crate::program::habit::habit_in;
 use crate::program::usage::instruction_words;
 use crate::remark::{Remark, help_of};
 use crate::sentence::Word::{Name, Text};
 use crate::sentence::{say, told};
 use notes::lowercase_suggestion;
-use std::alloc::{AllocError, Global};
+use std::alloc::Global;
 use texts::is_name;
 
 /// What is meant where one file stands in the place of another.
@@ -30,7 +31,7 @@ fn is_of_board(words: &[&str]) -> bool {
 }
 
 /// Proposes a colon, or another word.
-fn word_help(alloc: Global, word: &str, words: &[&str]) -> Result<Option<String>, AllocError> {
+fn word_help(alloc: Global, word: &str, words: &[&str]) -> Result<Option<String>> {
     if words.iter().any(|word| word.contains(':')) {
         return help_of(alloc, Some(label_rule(words)));
     }
@@ -46,7 +47,7 @@ fn word_help(alloc: Global, word: &str, words: &[&str]) -> Result<Option<String>
 }
 
 /// What is said of a line that begins with such a word.
-pub(crate) fn unknown_word(alloc: Global, words: &[&str]) -> Result<Remark, AllocError> {
+pub(crate) fn unknown_word(alloc: Global, words: &[&str]) -> Result<Remark> {
     let Some(word) = words.first() else {
         return Remark::plain(alloc, "unknown instruction");
     };

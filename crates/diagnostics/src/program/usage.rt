@@ -1,6 +1,7 @@
 //! The instructions of a program, and what each takes, as `docs/PROGRAM.md` has it.
 
-use std::alloc::{AllocError, Global};
+use crate::Result;
+use std::alloc::Global;
 
 /// An instruction's first word, and what stands behind it.
 type Usage = (&'static str, &'static str);
@@ -36,7 +37,7 @@ pub(crate) fn usage_of(word: &str) -> Option<&'static str> {
 }
 
 /// The first words of all instructions.
-pub(crate) fn instruction_words(alloc: Global) -> Result<Vec<&'static str>, AllocError> {
+pub(crate) fn instruction_words(alloc: Global) -> Result<Vec<&'static str>> {
     let mut words = Vec::new(alloc);
     for (word, _) in &USAGES {
         words.push(*word)?;

@@ -41,24 +41,4 @@ impl Cause {
             evidence: None,
         }
     }
-
-    /// The same, and how the place is reached.
-    pub(crate) fn reached_by(self, way: Option<String>) -> Cause {
-        Cause { way, ..self }
-    }
-
-    /// The same, and what is wrong beside it.
-    pub(crate) fn beside(self, beside: Option<String>) -> Cause {
-        Cause { beside, ..self }
-    }
-
-    /// The same, and what a search for a run came to.
-    pub(crate) fn with(self, evidence: Option<Evidence>) -> Cause {
-        Cause { evidence, ..self }
-    }
-
-    /// The same, and where what is to blame came in.
-    pub(crate) fn coming_from(self, origin: Option<String>) -> Cause {
-        Cause { origin, ..self }
-    }
 }

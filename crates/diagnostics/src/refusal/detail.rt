@@ -1,5 +1,6 @@
 //! What is to blame for a refusal, with names and numbers.
 
+use crate::Result;
 use crate::refusal::cause::Cause;
 use crate::refusal::edge_detail::{edge_detail, end_detail};
 use crate::refusal::entry_words::{
@@ -14,16 +15,8 @@ use crate::sentence::{Advice, Sentence, Word, advised, say, told};
 use board::{Allow, Board, Target};
 use facts::{PageSet, Row, Violation, violation};
 use seq_program::{Content, Instr, Request, Transaction};
-use std::alloc::{AllocError, Global};
+use std::alloc::Global;
 use table_check::{Breach, Refusal};
-
-/// What is said, where no more may be said to mend it.
-fn plain<'a>(message: Sentence<'a>) -> Option<Advice<'a>> {
-    Some(Advice {
-        message,
-        help: None,
-    })
-}
 
 /// The bytes of a block that is written.
 fn block_of<'a>(transaction: &Transaction<'a>) -> &'a [u8] {
@@ -87,13 +80,10 @@ fn limit_advice<'a>(
 
 /// K3: what may be stored that forbids a write of this command, and what permits it.
 fn forbidden(name: Word<'_>, value: u8, code: u8) -> Advice<'_> {
-    Advice {
-        message: say![{name} " may store " {Hex(u16::from(value), 2)} "h here"],
-        help: Some(say![
-            "write " {Permitting(code)} " to WRITE_PROTECT before; where that write wasn't done, \
-             leave by its `else` label, or read it back and test the register"
-        ]),
-    }
+    say![{name} " may store " {Hex(u16::from(value), 2)} "h here"].with_help(say![
+        "write " {Permitting(code)} " to WRITE_PROTECT before; where that write wasn't done, \
+         leave by its `else` label, or read it back and test the register"
+    ])
 }
 
 /// What is to blame in a message to a target.
@@ -112,7 +102,7 @@ fn advice_on<'a>(
             Some(no_entry(name, transaction, device.allow().is_empty()))
         }
         Violation::AllPages => {
-            plain(say![{name} " has " {Word::Command(code)} " for each page"])
+            Some(say![{name} " has " {Word::Command(code)} " for each page"].alone())
         }
         Violation::Protected(value) => Some(forbidden(name, value, code)),
         Violation::OverLimit { rail, most } => {
@@ -120,7 +110,7 @@ fn advice_on<'a>(
         }
         Violation::NotGood { rail, need } => {
             let (rail, need) = (rail_word(board, rail), rail_word(board, need));
-            plain(say![{rail} " needs " {need}])
+            Some(say![{rail} " needs " {need}].alone())
         }
         _ => {
             let entry = device.entry(transaction.form, code)?;
@@ -136,7 +126,7 @@ fn duty_cause(
     instr: &Instr,
     row: &Row,
     violation: Violation,
-) -> Result<Cause, AllocError> {
+) -> Result<Cause> {
     let Some(request) = instr.request() else {
         return Ok(Cause::none());
     };
@@ -146,12 +136,7 @@ fn duty_cause(
 }
 
 /// What is to blame where an instruction breaks a rule at a row, and what is known there.
-pub(crate) fn instr_cause(
-    alloc: Global,
-    board: &Board,
-    instr: &Instr,
-    row: &Row,
-) -> Result<Cause, AllocError> {
+pub(crate) fn instr_cause(alloc: Global, board: &Board, instr: &Instr, row: &Row) -> Result<Cause> {
     match violation(board, instr, row) {
         Some(violation) => duty_cause(alloc, board, instr, row, violation),
         None => Ok(Cause::none()),
@@ -164,26 +149,20 @@ fn place_cause(
     judged: Judged<'_>,
     place: usize,
     violation: Violation,
-) -> Result<Cause, AllocError> {
+) -> Result<Cause> {
     match (judged.program.at(place), judged.row(place)) {
         (Some(instr), Some(row)) => duty_cause(alloc, judged.board, instr, row, violation),
         _ => Ok(Cause::none()),
     }
 }
 
-/// What is to blame for a refusal, and what is known there; `lines` are those of all places.
-pub(crate) fn refusal_cause(
-    alloc: Global,
-    judged: Judged<'_>,
-    lines: &[usize],
-    refusal: Refusal,
-) -> Result<Cause, AllocError> {
+/// What is to blame for a refusal, and what is known there.
+pub(crate) fn refusal_cause(alloc: Global, judged: Judged<'_>, refusal: Refusal) -> Result<Cause> {
     let Refusal { place, breach } = refusal;
     let detail = match breach {
         Breach::Duty(violation) => return place_cause(alloc, judged, place, violation),
-        Breach::NoRow { edge, .. } => edge_detail(alloc, judged, lines, place, edge, breach)?,
-        Breach::Uncovered { edge, .. } => edge_detail(alloc, judged, lines, place, edge, breach)?,
-        Breach::Unpaid { edge, .. } => edge_detail(alloc, judged, lines, place, edge, breach)?,
+        Breach::NoRow { edge, .. } | Breach::Uncovered { edge, .. } | Breach::Unpaid { edge, .. } =>
+            edge_detail(alloc, judged, place, edge, breach)?,
         Breach::UnpaidEnd { .. } => end_detail(alloc, place)?,
         Breach::NoStart => told(alloc, Some(say!["row 0 is none"]))?,
         Breach::Start(unheld) => told(alloc, start_detail(judged, unheld))?,

@@ -1,38 +1,28 @@
 //! K6 and K7: what isn't covered where a place leads, or where the ticks don't fall.
 
+use crate::Result;
+use crate::kept::Kept;
 use crate::refusal::facts_here::{rail_word, target_word};
 use crate::refusal::roads::{Edge, Judged};
-use crate::sentence::Word::{Count, Pages, Protects, Text};
+use crate::sentence::Word::{Count, Text};
 use crate::sentence::{Sentence, Word, say};
 use board::Board;
 use facts::{Row, RowPart, Source, Span};
-use std::alloc::{AllocError, Global};
+use std::alloc::Global;
 use table_check::{Breach, Spot};
 
-/// What a target may store in PAGE, beside what the row has.
-fn pages_detail<'a>(
+/// What a target may keep, beside what the row has.
+fn kept_detail<'a>(
     board: &'a Board,
     known: &'a Row,
     claimed: &'a Row,
+    kept: Kept,
     target: usize,
 ) -> Option<Sentence<'a>> {
     Some(say![
-        "PAGE of " {target_word(board, target)} " may be " {Pages(known.pages.get(target)?)}
-        ", and there the row has only " {Pages(claimed.pages.get(target)?)}
-    ])
-}
-
-/// What a target may store in WRITE_PROTECT, beside what the row has.
-fn protects_detail<'a>(
-    board: &'a Board,
-    known: &'a Row,
-    claimed: &'a Row,
-    target: usize,
-) -> Option<Sentence<'a>> {
-    Some(say![
-        "WRITE_PROTECT of " {target_word(board, target)} " may be "
-        {Protects(known.protects.get(target)?)} ", and there the row has only "
-        {Protects(claimed.protects.get(target)?)}
+        {Text(kept.command())} " of " {target_word(board, target)} " may be "
+        {kept.values(known, target)?} ", and there the row has only "
+        {kept.values(claimed, target)?}
     ])
 }
 
@@ -90,8 +80,8 @@ fn part_detail<'a>(
     part: RowPart,
 ) -> Option<Sentence<'a>> {
     match part {
-        RowPart::Pages(target) => pages_detail(board, known, claimed, target),
-        RowPart::Protects(target) => protects_detail(board, known, claimed, target),
+        RowPart::Pages(target) => kept_detail(board, known, claimed, Kept::Page, target),
+        RowPart::Protects(target) => kept_detail(board, known, claimed, Kept::Protect, target),
         RowPart::Good(rail) => Some(good_detail(board, rail)),
         RowPart::Register(index) => span_detail("r", &known.regs, &claimed.regs, index),
         RowPart::Source(index) => Some(source_detail(board, index, *claimed.sources.get(index)?)),
@@ -107,7 +97,7 @@ fn uncovered_text(
     known: &Row,
     to: usize,
     part: RowPart,
-) -> Result<Option<String>, AllocError> {
+) -> Result<Option<String>> {
     let Some(claimed) = judged.row(to) else {
         return Ok(None);
     };
@@ -126,7 +116,7 @@ fn joint(text: &str) -> &'static str {
 }
 
 /// The counters that count and the lost arbitrations, if they do.
-fn spot_text(alloc: Global, spot: &Spot, row: &Row, next: &Row) -> Result<String, AllocError> {
+fn spot_text(alloc: Global, spot: &Spot, row: &Row, next: &Row) -> Result<String> {
     let mut text = String::new(alloc);
     for (index, counter) in spot.counters.iter().enumerate() {
         if row.coeffs[index] > 0 || next.coeffs[index] > 0 {
@@ -149,7 +139,7 @@ fn ticks_text(
     edge: &Edge,
     at: &Spot,
     sums: (u128, u128),
-) -> Result<Option<String>, AllocError> {
+) -> Result<Option<String>> {
     let (to, row, worst) = edge;
     let Some(next) = judged.row(*to) else {
         return Ok(None);
@@ -171,7 +161,7 @@ fn breach_text(
     place: usize,
     edge: &Edge,
     breach: Breach,
-) -> Result<Option<String>, AllocError> {
+) -> Result<Option<String>> {
     match breach {
         Breach::NoRow { to, .. } => Ok(Some(format!(in alloc; "row {to} is none")?)),
         Breach::Uncovered { to, part, .. } => {
@@ -201,11 +191,10 @@ fn way_name(number: usize) -> &'static str {
 pub(crate) fn edge_detail(
     alloc: Global,
     judged: Judged<'_>,
-    lines: &[usize],
     place: usize,
     number: usize,
     breach: Breach,
-) -> Result<Option<String>, AllocError> {
+) -> Result<Option<String>> {
     let edges = judged.edges(alloc, place)?;
     let Some(edge) = edges.get(number) else {
         return Ok(None);
@@ -214,13 +203,13 @@ pub(crate) fn edge_detail(
         return Ok(None);
     };
     let (to, _row, _ticks) = edge;
-    let line = lines.get(*to).copied().unwrap_or(0);
+    let line = judged.line(*to);
     let way = way_name(number);
     Ok(Some(format!(in alloc; "on the way to line {line}{way}, {detail}")?))
 }
 
 /// K7 at an end: it takes a tick.
-pub(crate) fn end_detail(alloc: Global, place: usize) -> Result<Option<String>, AllocError> {
+pub(crate) fn end_detail(alloc: Global, place: usize) -> Result<Option<String>> {
     Ok(Some(format!(in alloc;
         "the end takes a tick, and the `ticks` of row {place} may leave none"
     )?))

@@ -1,7 +1,7 @@
 //! K1: what an entry doesn't take, in words.
 
 use crate::sentence::Word::{Count, Hex, Name, Number, Text};
-use crate::sentence::{Advice, Sentence, Word, say};
+use crate::sentence::{Advice, Word, say};
 use board::{Range, Target};
 use bundles::form_word;
 use facts::Span;
@@ -30,14 +30,6 @@ const OPERATION_VALUES: &str =
     "OPERATION takes 0 (off), 0x40 (soft off), 0x80 (on), 0x94 (margin low, ignoring faults), 0x98 \
      (margin low, acting on faults), 0xA4 (margin high, ignoring faults) and 0xA8 (margin high, \
      acting on faults) in a program";
-
-/// What is to blame, and what may mend it.
-fn blamed<'a>(message: Sentence<'a>, help: &'static str) -> Advice<'a> {
-    Advice {
-        message,
-        help: Some(say![{ Text(help) }]),
-    }
-}
 
 /// No entry has the form and the command; `first` where the target has no entry at all.
 pub(crate) fn no_entry<'a>(
@@ -73,10 +65,7 @@ fn known_pages(device: &Target) -> Advice<'static> {
         let last = Number(u64::from(last));
         say!["PAGE takes 0 to " {last} " and 255, all of them"]
     };
-    blamed(
-        message,
-        "write one of these, or mend the target's `pages` on the board",
-    )
+    message.with_text("write one of these, or mend the target's `pages` on the board")
 }
 
 /// Which values a command takes, of those that take few.
@@ -87,7 +76,7 @@ pub(crate) fn known_values(device: &Target, code: u8) -> Option<Advice<'static>>
         OPERATION => OPERATION_VALUES,
         _ => return None,
     };
-    Some(blamed(say![{ Text(text) }], ONE_OF_THESE))
+    Some(say![{ Text(text) }].with_text(ONE_OF_THESE))
 }
 
 /// What may be written, where that isn't within a range.
@@ -97,13 +86,13 @@ pub(crate) fn other_values(range: Range, span: Span) -> Advice<'static> {
         let message = say![
             {number(span.hi)} " is written, and its entry takes " {low} " to " {high}
         ];
-        return blamed(message, NARROWER);
+        return message.with_text(NARROWER);
     }
     let message = say![
         {number(span.lo)} " to " {number(span.hi)} " may be written, and its entry takes " {low}
         " to " {high}
     ];
-    blamed(message, BOUNDED)
+    message.with_text(BOUNDED)
 }
 
 /// What is wrong with the length of a block.
@@ -112,7 +101,7 @@ pub(crate) fn other_length(range: Range, count: usize) -> Advice<'static> {
         {Count(count)} " bytes are written, and its entry takes " {number(range.low)} " to "
         {number(range.high)}
     ];
-    blamed(message, OTHER_COUNT)
+    message.with_text(OTHER_COUNT)
 }
 
 /// What is wrong with a byte of a block.
@@ -121,7 +110,7 @@ pub(crate) fn other_byte(range: Range, byte: u8) -> Advice<'static> {
         "the byte " {Hex(u16::from(byte), 2)} " is written, and its entry takes "
         {Hex(range.low, 2)} " to " {Hex(range.high, 2)}
     ];
-    blamed(message, NARROWER)
+    message.with_text(NARROWER)
 }
 
 /// That both blocks of a call have too many bytes together.
@@ -130,5 +119,5 @@ pub(crate) fn no_room(range: Range, count: usize) -> Advice<'static> {
         {Count(count)} " bytes are written and up to " {number(range.high)} " come back, over "
         {Count(MOST_OF_BOTH)} " together"
     ];
-    blamed(message, FEWER)
+    message.with_text(FEWER)
 }

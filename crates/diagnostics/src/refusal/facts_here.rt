@@ -1,18 +1,20 @@
 //! What is known at a place, in words.
 
-use crate::sentence::Word::{Name, Pages, Protects, Text};
+use crate::Result;
+use crate::kept::Kept;
+use crate::sentence::Word::{Name, Pages, Text};
 use crate::sentence::{Sentence, Word, say, told};
 use board::Board;
 use facts::{GoodSet, PageSet, ProtectSet, Row, Rule};
 use notes::Quoted;
 use pmbus_table::permits;
-use std::alloc::{AllocError, Global};
+use std::alloc::Global;
 
 /// The values that WRITE_PROTECT may have (PMBus 1.3 Part II, 11.1).
 const PROTECTIONS: [u8; 4] = [0x00, 0x20, 0x40, 0x80];
 
 /// Adds the values of PAGE in a set.
-pub(crate) fn push_pages(text: &mut String, pages: &PageSet) -> Result<(), AllocError> {
+pub(crate) fn push_pages(text: &mut String, pages: &PageSet) -> Result<()> {
     let mut comma = "";
     for value in 0..=255u8 {
         if pages.contains(value) {
@@ -24,7 +26,7 @@ pub(crate) fn push_pages(text: &mut String, pages: &PageSet) -> Result<(), Alloc
 }
 
 /// Adds the values of WRITE_PROTECT in a set.
-pub(crate) fn push_protects(text: &mut String, protects: &ProtectSet) -> Result<(), AllocError> {
+pub(crate) fn push_protects(text: &mut String, protects: &ProtectSet) -> Result<()> {
     let mut comma = "";
     for value in PROTECTIONS {
         if protects.contains(value) {
@@ -36,7 +38,7 @@ pub(crate) fn push_protects(text: &mut String, protects: &ProtectSet) -> Result<
 }
 
 /// Adds the values of WRITE_PROTECT that permit a write of a command.
-pub(crate) fn push_permitting(text: &mut String, code: u8) -> Result<(), AllocError> {
+pub(crate) fn push_permitting(text: &mut String, code: u8) -> Result<()> {
     let mut or = "";
     for value in PROTECTIONS {
         if permits(value, code) == Some(true) {
@@ -56,11 +58,7 @@ pub(crate) fn has_rail(good: GoodSet, index: usize) -> bool {
 }
 
 /// The names of the rails in a set.
-pub(crate) fn rails_text(
-    alloc: Global,
-    board: &Board,
-    good: GoodSet,
-) -> Result<String, AllocError> {
+pub(crate) fn rails_text(alloc: Global, board: &Board, good: GoodSet) -> Result<String> {
     let mut text = String::new(alloc);
     for index in 0..board.rails().len() {
         if has_rail(good, index) {
@@ -82,27 +80,19 @@ pub(crate) fn rail_word(board: &Board, rail: usize) -> Word<'_> {
     Name(board.rail_name(rail).unwrap_or(""))
 }
 
-/// What PAGE of a target may be.
-fn pages_known<'a>(board: &'a Board, row: &'a Row, target: usize) -> Option<Sentence<'a>> {
-    let pages = Pages(row.pages.get(target)?);
-    let name = target_word(board, target);
-    Some(say!["PAGE of " {name} " may be " {pages} " here"])
-}
-
-/// What WRITE_PROTECT of a target may be.
-fn protects_known<'a>(board: &'a Board, row: &'a Row, target: usize) -> Option<Sentence<'a>> {
-    let protects = Protects(row.protects.get(target)?);
-    let name = target_word(board, target);
-    Some(say!["WRITE_PROTECT of " {name} " may be " {protects} " here"])
+/// What a target may keep.
+fn kept_known<'a>(
+    board: &'a Board,
+    row: &'a Row,
+    kept: Kept,
+    target: usize,
+) -> Option<Sentence<'a>> {
+    let (name, values) = (target_word(board, target), kept.values(row, target)?);
+    Some(say![{Text(kept.command())} " of " {name} " may be " {values} " here"])
 }
 
 /// What PAGE of a target may be, and which rails are good.
-fn order_known(
-    alloc: Global,
-    board: &Board,
-    row: &Row,
-    target: usize,
-) -> Result<Option<String>, AllocError> {
+fn order_known(alloc: Global, board: &Board, row: &Row, target: usize) -> Result<Option<String>> {
     let Some(pages) = row.pages.get(target) else {
         return Ok(None);
     };
@@ -124,10 +114,10 @@ pub(crate) fn facts_here(
     row: &Row,
     target: usize,
     rule: Rule,
-) -> Result<Option<String>, AllocError> {
+) -> Result<Option<String>> {
     match rule {
-        Rule::K2 | Rule::K4 => told(alloc, pages_known(board, row, target)),
-        Rule::K3 => told(alloc, protects_known(board, row, target)),
+        Rule::K2 | Rule::K4 => told(alloc, kept_known(board, row, Kept::Page, target)),
+        Rule::K3 => told(alloc, kept_known(board, row, Kept::Protect, target)),
         Rule::K5 => order_known(alloc, board, row, target),
         _ => Ok(None),
     }

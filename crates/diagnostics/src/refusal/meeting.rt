@@ -1,8 +1,9 @@
 //! Where facts of several ways meet, and what each of them says alone is lost.
 
+use crate::Result;
 use crate::refusal::roads::{Edge, Judged};
 use facts::Rule;
-use std::alloc::{AllocError, Global};
+use std::alloc::Global;
 
 /// Where instructions of a way have two edges to the next place, so many lists of edges are gone
 /// on from at most.
@@ -15,7 +16,7 @@ fn push_edges(
     judged: Judged<'_>,
     place: usize,
     edges: &[Edge],
-) -> Result<(), AllocError> {
+) -> Result<()> {
     for (to, row, _) in edges {
         if *to == place {
             next.push(judged.edges_at(alloc, place, row)?)?;
@@ -30,7 +31,7 @@ fn edges_beyond(
     judged: Judged<'_>,
     place: usize,
     lists: &[Vec<Edge>],
-) -> Result<Vec<Vec<Edge>>, AllocError> {
+) -> Result<Vec<Vec<Edge>>> {
     let mut next = Vec::new(alloc);
     for edges in lists.iter().take(MOST_LISTS) {
         push_edges(alloc, &mut next, judged, place, edges)?;
@@ -50,12 +51,7 @@ fn breaks(judged: Judged<'_>, place: usize, rule: Rule, edges: &[Edge]) -> bool 
 
 /// Whether a rule fails at the end of a way, by what a table says of its first place and the edges
 /// from there on.
-fn fails_along(
-    alloc: Global,
-    judged: Judged<'_>,
-    way: &[usize],
-    rule: Rule,
-) -> Result<bool, AllocError> {
+fn fails_along(alloc: Global, judged: Judged<'_>, way: &[usize], rule: Rule) -> Result<bool> {
     let [first, inner @ .., last] = way else {
         return Ok(true);
     };
@@ -76,7 +72,7 @@ pub(crate) fn meeting_place(
     judged: Judged<'_>,
     way: &[usize],
     rule: Rule,
-) -> Result<Option<usize>, AllocError> {
+) -> Result<Option<usize>> {
     let mut low = 0usize;
     let mut high = way.len().saturating_sub(1);
     for _ in 0..usize::BITS {

@@ -1,5 +1,7 @@
 //! Where on a way that came in what a rule forbids at its end.
 
+use crate::Result;
+use crate::kept::Kept;
 use crate::refusal::facts_here::{has_rail, push_pages};
 use crate::refusal::roads::Judged;
 use crate::refusal::widened::written_register;
@@ -9,16 +11,14 @@ use notes::Quoted;
 use pmbus_table::code::{ALL_PAGES, STATUS_WORD};
 use seq_program::Instr;
 use smbus::Form;
-use std::alloc::{AllocError, Global};
+use std::alloc::Global;
 use ways::Step;
 
 /// What is to blame in what is known at a place.
 #[derive(Clone, Copy)]
 enum Blamed {
-    /// A target may store this page.
-    Page(usize, u8),
-    /// A target may store this in WRITE_PROTECT.
-    Protect(usize, u8),
+    /// A target may keep this value.
+    Kept(Kept, usize, u8),
     /// A register may be as great as this.
     Value(usize, u16),
     /// A rail isn't known to be good.
@@ -29,18 +29,10 @@ impl Blamed {
     /// Whether it is so where this is known.
     fn is_in(self, row: &Row) -> bool {
         match self {
-            Blamed::Page(target, page) => match row.pages.get(target) {
-                Some(pages) => pages.contains(page),
-                None => false,
-            },
-            Blamed::Protect(target, value) => match row.protects.get(target) {
-                Some(protects) => protects.contains(value),
-                None => false,
-            },
-            Blamed::Value(register, value) => match row.regs.get(register) {
-                Some(span) => span.hi >= value,
-                None => false,
-            },
+            Blamed::Kept(kept, target, value) => kept.may_be(row, target, value),
+            Blamed::Value(register, value) => {
+                row.regs.get(register).is_some_and(|span| span.hi >= value)
+            }
             Blamed::NotGood(rail) => !has_rail(row.good, rail),
         }
     }
@@ -56,43 +48,31 @@ fn brought_in(way: &[Step], blamed: Blamed) -> Option<&Step> {
 #[derive(Clone, Copy)]
 pub(crate) struct BadWay<'a> {
     pub judged: Judged<'a>,
-    /// Of each place, its line.
-    pub lines: &'a [usize],
     pub way: &'a [Step],
 }
 
 impl<'a> BadWay<'a> {
-    fn line(self, step: &Step) -> usize {
-        self.lines.get(step.place).copied().unwrap_or(0)
-    }
-
     /// From where on it is so.
-    fn since(self, alloc: Global, blamed: Blamed) -> Result<String, AllocError> {
+    fn since(self, alloc: Global, blamed: Blamed) -> Result<String> {
         match brought_in(self.way, blamed) {
             Some(step) => {
-                let line = self.line(step);
+                let line = self.judged.line(step.place);
                 format!(in alloc; "since line {line}")
             }
             None => String::from_str(alloc, "since the start"),
         }
     }
 
-    /// From where on a target may store a page.
-    fn page_text(self, alloc: Global, target: usize, page: u8) -> Result<String, AllocError> {
+    /// From where on a target may keep a value.
+    fn kept_text(self, alloc: Global, kept: Kept, target: usize, value: u8) -> Result<String> {
         let name = Quoted(self.judged.board.target_name(target).unwrap_or(""));
-        let since = self.since(alloc, Blamed::Page(target, page))?;
-        format!(in alloc; "PAGE of {name} may be {page:02X} {since}")
-    }
-
-    /// From where on a target may store a protection.
-    fn protect_text(self, alloc: Global, target: usize, value: u8) -> Result<String, AllocError> {
-        let name = Quoted(self.judged.board.target_name(target).unwrap_or(""));
-        let since = self.since(alloc, Blamed::Protect(target, value))?;
-        format!(in alloc; "WRITE_PROTECT of {name} may be {value:02X} {since}")
+        let since = self.since(alloc, Blamed::Kept(kept, target, value))?;
+        let command = kept.command();
+        format!(in alloc; "{command} of {name} may be {value:02X} {since}")
     }
 
     /// From where on a register may be as great as a value.
-    fn value_text(self, alloc: Global, register: usize, most: u16) -> Result<String, AllocError> {
+    fn value_text(self, alloc: Global, register: usize, most: u16) -> Result<String> {
         let since = self.since(alloc, Blamed::Value(register, most))?;
         format!(in alloc; "r{register} may be {most} {since}")
     }
@@ -108,9 +88,9 @@ impl<'a> BadWay<'a> {
     }
 
     /// What a report was read at, of a rail that it doesn't show good.
-    fn report_text(self, alloc: Global, step: &Step, need: &Rail) -> Result<String, AllocError> {
+    fn report_text(self, alloc: Global, step: &Step, need: &Rail) -> Result<String> {
         let name = Quoted(self.judged.board.target_name(need.target()).unwrap_or(""));
-        let (line, page) = (self.line(step), need.page());
+        let (line, page) = (self.judged.line(step.place), need.page());
         match step.row.pages.get(need.target()) {
             Some(pages) if !is_only(pages, page) => {
                 let mut text = format!(in alloc;
@@ -137,11 +117,11 @@ impl<'a> BadWay<'a> {
     }
 
     /// Why a rail isn't known to be good.
-    fn need_text(self, alloc: Global, rail: usize, need: &Rail) -> Result<String, AllocError> {
+    fn need_text(self, alloc: Global, rail: usize, need: &Rail) -> Result<String> {
         let board = self.judged.board;
         let name = Quoted(board.rail_name(rail).unwrap_or(""));
         if let Some(step) = brought_in(self.way, Blamed::NotGood(rail)) {
-            let (line, loss) = (self.line(step), self.loss_at(step, need));
+            let (line, loss) = (self.judged.line(step.place), self.loss_at(step, need));
             return format!(in alloc; "{name} was known to be good up to line {line}, which {loss}");
         }
         if let Some(step) = self.last_report(need.target()) {
@@ -163,14 +143,14 @@ impl<'a> BadWay<'a> {
         instr: &Instr,
         rail: usize,
         most: u16,
-    ) -> Result<Option<String>, AllocError> {
+    ) -> Result<Option<String>> {
         if let Some(register) = written_register(instr) {
             return Ok(Some(self.value_text(alloc, register, most)?));
         }
         match self.judged.board.rail(rail) {
             Some(rail) if has_pages(self.judged.board, rail.target()) => {
                 let page = selecting(row, rail);
-                Ok(Some(self.page_text(alloc, rail.target(), page)?))
+                Ok(Some(self.kept_text(alloc, Kept::Page, rail.target(), page)?))
             }
             _ => Ok(None),
         }
@@ -183,13 +163,17 @@ impl<'a> BadWay<'a> {
         row: &Row,
         instr: &Instr,
         violation: Violation,
-    ) -> Result<Option<String>, AllocError> {
+    ) -> Result<Option<String>> {
         let Some(target) = target_of(instr) else {
             return Ok(None);
         };
         match violation {
-            Violation::AllPages => Ok(Some(self.page_text(alloc, target, ALL_PAGES)?)),
-            Violation::Protected(value) => Ok(Some(self.protect_text(alloc, target, value)?)),
+            Violation::AllPages => {
+                Ok(Some(self.kept_text(alloc, Kept::Page, target, ALL_PAGES)?))
+            }
+            Violation::Protected(value) => {
+                Ok(Some(self.kept_text(alloc, Kept::Protect, target, value)?))
+            }
             Violation::OverLimit { rail, most } => {
                 self.voltage_text(alloc, row, instr, rail, most)
             }
@@ -203,7 +187,7 @@ impl<'a> BadWay<'a> {
 
     /// Where on the way that came in what breaks a rule at its end: the protection, the value or
     /// the page, or where it was lost that a rail is good, or why that was never known.
-    pub(crate) fn origin(self, alloc: Global) -> Result<Option<String>, AllocError> {
+    pub(crate) fn origin(self, alloc: Global) -> Result<Option<String>> {
         let Some(last) = self.way.last() else {
             return Ok(None);
         };

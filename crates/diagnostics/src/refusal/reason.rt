@@ -1,5 +1,6 @@
 //! Why a program is refused, or why no facts were found for it.
 
+use crate::Result;
 use crate::refusal::RefusalKind;
 use crate::refusal::branch::{push_branches, push_start};
 use crate::refusal::cause::{Cause, Evidence};
@@ -15,22 +16,17 @@ use crate::refusal::widened::widened_text;
 use crate::remark::bare;
 use facts::Rule;
 use seq_program::Program;
-use session::{Verified, place_lines};
+use session::{Shown, place_lines};
 use simulator::MOST_TICKS;
-use std::alloc::{AllocError, Global};
+use std::alloc::Global;
 use table_check::{Refusal, Table};
 use ways::{MOST_STEPS, Search, Step, bad_way};
 
 /// The shortest way that leads to a place, unless that is the first.
-fn way_note(
-    alloc: Global,
-    judged: Judged<'_>,
-    lines: &[usize],
-    place: usize,
-) -> Result<Option<String>, AllocError> {
+fn way_note(alloc: Global, judged: Judged<'_>, place: usize) -> Result<Option<String>> {
     match way_to(alloc, Roads::Known(judged), place)? {
         Some(way) if way.len() > 1 => {
-            let route = route_of(alloc, lines, &way)?;
+            let route = route_of(alloc, judged.lines, &way)?;
             Ok(Some(format!(in alloc; "the shortest way here: {route}")?))
         }
         _ => Ok(None),
@@ -38,7 +34,7 @@ fn way_note(
 }
 
 /// The places of a way.
-fn places_of(alloc: Global, way: &[Step]) -> Result<Vec<usize>, AllocError> {
+fn places_of(alloc: Global, way: &[Step]) -> Result<Vec<usize>> {
     let mut places = Vec::new(alloc);
     for step in way {
         places.push(step.place)?;
@@ -47,34 +43,24 @@ fn places_of(alloc: Global, way: &[Step]) -> Result<Vec<usize>, AllocError> {
 }
 
 /// What happens on a way that its lines don't tell.
-fn remarks_on(
-    alloc: Global,
-    judged: Judged<'_>,
-    lines: &[usize],
-    way: &[Step],
-) -> Result<String, AllocError> {
+fn remarks_on(alloc: Global, judged: Judged<'_>, way: &[Step]) -> Result<String> {
     let mut remarks = String::new(alloc);
     if let Some(start) = way.first() {
         push_start(alloc, &mut remarks, judged.board, &start.row)?;
     }
-    push_branches(alloc, &mut remarks, judged, lines, way)?;
+    push_branches(alloc, &mut remarks, judged, way)?;
     Ok(remarks)
 }
 
 /// A way on which a rule may fail, with what happens on it that its lines don't tell, unless it is
 /// the first place and nothing else.
-fn found_note(
-    alloc: Global,
-    judged: Judged<'_>,
-    lines: &[usize],
-    way: &[Step],
-) -> Result<Option<String>, AllocError> {
-    let remarks = remarks_on(alloc, judged, lines, way)?;
+fn found_note(alloc: Global, judged: Judged<'_>, way: &[Step]) -> Result<Option<String>> {
+    let remarks = remarks_on(alloc, judged, way)?;
     if way.len() == 1 && remarks.is_empty() {
         return Ok(None);
     }
     let places = places_of(alloc, way)?;
-    let route = route_of(alloc, lines, &places)?;
+    let route = route_of(alloc, judged.lines, &places)?;
     Ok(Some(format!(in alloc; "a way on which it may fail: {route}{remarks}")?))
 }
 
@@ -82,105 +68,71 @@ fn found_note(
 fn joined_note(
     alloc: Global,
     judged: Judged<'_>,
-    lines: &[usize],
     place: usize,
     rule: Rule,
-) -> Result<Option<String>, AllocError> {
+) -> Result<Option<String>> {
     let Some(way) = way_to(alloc, Roads::Known(judged), place)? else {
         return Ok(None);
     };
     let Some(place) = meeting_place(alloc, judged, &way, rule)? else {
         return Ok(None);
     };
-    let line = lines.get(place).copied().unwrap_or(0);
+    let line = judged.line(place);
     Ok(Some(format!(in alloc;
         "no single way shows it: facts of several ways meet at line {line}"
     )?))
 }
 
-/// How a place is reached where a rule fails, and where on the way what breaks it came in.
-#[derive(Drop)]
-struct Reach {
-    way: Option<String>,
-    origin: Option<String>,
+/// That the search for a way was given up.
+fn unknown_note(alloc: Global) -> Result<Option<String>> {
+    Ok(Some(format!(in alloc; "no way on which it may fail was found within {MOST_STEPS} steps")?))
 }
 
-impl Reach {
-    /// The way alone.
-    fn by(way: Option<String>) -> Reach {
-        Reach { way, origin: None }
-    }
-}
-
-/// A way on which a rule may fail, and where on it what breaks that came in.
-fn found_reach(
+/// The same cause, with a way on which a rule may fail at a place, or that none shows it, and where
+/// what breaks the rule came in.
+fn with_way(
     alloc: Global,
     judged: Judged<'_>,
-    lines: &[usize],
-    way: &[Step],
-) -> Result<Reach, AllocError> {
-    let bad = BadWay { judged, lines, way };
-    let origin = bad.origin(alloc)?;
-    let way = found_note(alloc, judged, lines, way)?;
-    Ok(Reach { way, origin })
-}
-
-/// A way on which a rule may fail at a place, or that none shows it.
-fn single_way_note(
-    alloc: Global,
-    judged: Judged<'_>,
-    lines: &[usize],
     place: usize,
     rule: Rule,
-) -> Result<Reach, AllocError> {
-    match bad_way(alloc, judged.board, judged.program, place, rule)? {
-        Search::Found(way) => found_reach(alloc, judged, lines, &way),
-        Search::Nowhere => {
-            let way = joined_note(alloc, judged, lines, place, rule)?;
-            let origin = widened_text(alloc, judged, lines, place)?;
-            Ok(Reach { way, origin })
-        }
-        Search::Unknown => {
-            let way = format!(in alloc;
-                "no way on which it may fail was found within {MOST_STEPS} steps"
-            )?;
-            let origin = widened_text(alloc, judged, lines, place)?;
-            Ok(Reach {
-                way: Some(way),
+    cause: Cause,
+) -> Result<Cause> {
+    let way = match bad_way(alloc, judged.board, judged.program, place, rule)? {
+        Search::Found(way) => {
+            let way = way.as_slice();
+            let origin = BadWay { judged, way }.origin(alloc)?;
+            let way = found_note(alloc, judged, way)?;
+            return Ok(Cause {
+                way,
                 origin,
-            })
+                ..cause
+            });
         }
-    }
+        Search::Nowhere => joined_note(alloc, judged, place, rule)?,
+        Search::Unknown => unknown_note(alloc)?,
+    };
+    let origin = widened_text(alloc, judged, place)?;
+    Ok(Cause {
+        way,
+        origin,
+        ..cause
+    })
 }
 
-/// How the place of a refusal is reached.
-fn reaching(
-    alloc: Global,
-    judged: Judged<'_>,
-    lines: &[usize],
-    place: usize,
-    rule: Rule,
-) -> Result<Reach, AllocError> {
+/// What is to blame for a refusal, and how its place is reached.
+fn blame_of(alloc: Global, judged: Judged<'_>, refusal: Refusal) -> Result<Cause> {
+    let cause = refusal_cause(alloc, judged, refusal)?;
+    let (place, rule) = (refusal.place, refusal.breach.rule());
     match rule {
         Rule::K1 | Rule::K2 | Rule::K3 | Rule::K4 | Rule::K5 => {
-            single_way_note(alloc, judged, lines, place, rule)
+            with_way(alloc, judged, place, rule, cause)
         }
-        Rule::K6 | Rule::K7 => Ok(Reach::by(way_note(alloc, judged, lines, place)?)),
-        Rule::K8 | Rule::K9 => Ok(Reach::by(None)),
+        Rule::K6 | Rule::K7 => {
+            let way = way_note(alloc, judged, place)?;
+            Ok(Cause { way, ..cause })
+        }
+        Rule::K8 | Rule::K9 => Ok(cause),
     }
-}
-
-/// What is to blame for a refusal of a program with this text, and how its place is reached.
-fn blame_of(
-    alloc: Global,
-    judged: Judged<'_>,
-    lines: &[usize],
-    refusal: Refusal,
-) -> Result<Cause, AllocError> {
-    let cause = refusal_cause(alloc, judged, lines, refusal)?;
-    let (place, rule) = (refusal.place, refusal.breach.rule());
-    let Reach { way, origin } = reaching(alloc, judged, lines, place, rule)?;
-    Ok(cause.reached_by(way).coming_from(origin))
 }
 
 /// Whether what is left at some place is the most that a row may have.
@@ -204,56 +156,57 @@ fn unbounded_cause(judged: Judged<'_>, uncounted: Option<String>) -> (RefusalKin
 }
 
 /// What is told of a loop that no counter bounds, beside another refusal.
-fn beside(alloc: Global, uncounted: Option<String>) -> Result<Option<String>, AllocError> {
+fn beside(alloc: Global, uncounted: Option<String>) -> Result<Option<String>> {
     match uncounted {
         Some(uncounted) => Ok(Some(format!(in alloc; "beside this, {uncounted}")?)),
         None => Ok(None),
     }
 }
 
-/// Why a program with this text is refused with a table that somebody wrote.
+/// Why a program is refused with a table that somebody wrote.
 pub(crate) fn cause_of(
     alloc: Global,
     judged: Judged<'_>,
-    text: &str,
     refusal: Refusal,
-) -> Result<(RefusalKind, Cause), AllocError> {
-    let lines = place_lines(alloc, text)?;
-    let cause = blame_of(alloc, judged, &lines, refusal)?;
+) -> Result<(RefusalKind, Cause)> {
+    let cause = blame_of(alloc, judged, refusal)?;
     Ok((RefusalKind::Breaks(refusal.breach.rule()), cause))
 }
 
-/// Why a program with lines at these places isn't verified, beside what a search for a run came to.
+/// Why a program isn't verified, beside what a search for a run came to.
 fn unverified(
     alloc: Global,
     judged: Judged<'_>,
-    lines: &[usize],
     refusal: Refusal,
     evidence: Option<Evidence>,
-) -> Result<(RefusalKind, Cause), AllocError> {
-    let uncounted = uncounted_text(alloc, judged.program, Roads::Kept(judged), lines)?;
+) -> Result<(RefusalKind, Cause)> {
+    let uncounted = uncounted_text(alloc, judged.program, Roads::Kept(judged), judged.lines)?;
     let rule = refusal.breach.rule();
     if rule == Rule::K7 {
         return Ok(unbounded_cause(judged, uncounted));
     }
-    let cause = blame_of(alloc, judged, lines, refusal)?;
-    let cause = cause.beside(beside(alloc, uncounted)?);
-    Ok((RefusalKind::Breaks(rule), cause.with(evidence)))
+    let cause = blame_of(alloc, judged, refusal)?;
+    let beside = beside(alloc, uncounted)?;
+    Ok((
+        RefusalKind::Breaks(rule),
+        Cause {
+            beside,
+            evidence,
+            ..cause
+        },
+    ))
 }
 
-/// Why a program with this text isn't verified. Nobody wrote the table, so nothing is said of its
-/// ticks.
+/// Why a program isn't verified. Nobody wrote the table, so nothing is said of its ticks. The run
+/// is the one that shows it, if one was found.
 pub(crate) fn unverified_cause(
     alloc: Global,
-    verified: &Verified,
     judged: Judged<'_>,
-    text: &str,
     refusal: Refusal,
-) -> Result<(RefusalKind, Cause), AllocError> {
-    let lines = place_lines(alloc, text)?;
-    let shown = verified.shown.as_ref();
-    let evidence = evidence_of(alloc, &verified.sequence, &lines, refusal, shown)?;
-    unverified(alloc, judged, &lines, refusal, evidence)
+    shown: Option<&Shown>,
+) -> Result<(RefusalKind, Cause)> {
+    let evidence = evidence_of(alloc, judged, refusal, shown)?;
+    unverified(alloc, judged, refusal, evidence)
 }
 
 /// The loop that no counter bounds, or else the shortest one through a place.
@@ -262,7 +215,7 @@ fn loop_text(
     program: &Program,
     lines: &[usize],
     place: usize,
-) -> Result<Option<String>, AllocError> {
+) -> Result<Option<String>> {
     let roads = Roads::Written(program);
     let uncounted = uncounted_text(alloc, program, roads, lines)?;
     if uncounted.is_some() {
@@ -283,8 +236,11 @@ pub(crate) fn loop_cause(
     program: &Program,
     text: &str,
     place: usize,
-) -> Result<Cause, AllocError> {
+) -> Result<Cause> {
     let lines = place_lines(alloc, text)?;
     let way = loop_text(alloc, program, &lines, place)?;
-    Ok(Cause::none().reached_by(way))
+    Ok(Cause {
+        way,
+        ..Cause::none()
+    })
 }

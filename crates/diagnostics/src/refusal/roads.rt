@@ -5,20 +5,23 @@ ghost use Rattle.facts.specs.duties.Duties.{Meets};
 ghost use Rattle.facts.specs.domain.Rows.{row_view};
 ghost use Rattle.facts.specs.declared.duties.rule.Rule.TheVariants.{K1};
 
+use crate::Result;
 use board::Board;
 use facts::{Row, Rule, duty, edges};
 use seq_program::{Instr, Program};
-use std::alloc::{AllocError, Global};
+use std::alloc::Global;
 use table_check::{Table, row_at};
 
 /// An edge of a place: where it leads, the row there, and the most ticks on the way.
 pub(crate) type Edge = (usize, Row, u64);
 
-/// A board, a program on it, and a table of what is known at its places.
+/// A board, a program on it with the lines of its places, and a table of what is known there.
 #[derive(Clone, Copy)]
 pub(crate) struct Judged<'a> {
     pub board: &'a Board,
     pub program: &'a Program,
+    /// Of each place, the number of its line.
+    pub lines: &'a [usize],
     pub table: &'a Table,
 }
 
@@ -30,6 +33,11 @@ fn may_be_sent(board: &Board, instr: &Instr, row: &Row) -> bool
 }
 
 impl<'a> Judged<'a> {
+    /// The number of a place's line.
+    pub(crate) fn line(self, place: usize) -> usize {
+        self.lines.get(place).copied().unwrap_or(0)
+    }
+
     /// What is known at a place.
     pub(crate) fn row(self, place: usize) -> Option<&'a Row> {
         row_at(&self.table.rows, place)
@@ -37,7 +45,7 @@ impl<'a> Judged<'a> {
 
     /// The edges of a place, by what is known there. None where the table has no row of the board
     /// for it, or its message may not be sent.
-    pub(crate) fn edges(self, alloc: Global, place: usize) -> Result<Vec<Edge>, AllocError> {
+    pub(crate) fn edges(self, alloc: Global, place: usize) -> Result<Vec<Edge>> {
         match self.row(place) {
             Some(row) => self.edges_at(alloc, place, row),
             None => Ok(Vec::new(alloc)),
@@ -45,12 +53,7 @@ impl<'a> Judged<'a> {
     }
 
     /// The same, by another row of the board.
-    pub(crate) fn edges_at(
-        self,
-        alloc: Global,
-        place: usize,
-        row: &Row,
-    ) -> Result<Vec<Edge>, AllocError> {
+    pub(crate) fn edges_at(self, alloc: Global, place: usize, row: &Row) -> Result<Vec<Edge>> {
         let Some(instr) = self.program.at(place) else {
             return Ok(Vec::new(alloc));
         };
@@ -77,7 +80,7 @@ impl<'a> Judged<'a> {
     }
 
     /// Where those edges lead.
-    fn next_places(self, alloc: Global, place: usize) -> Result<Vec<usize>, AllocError> {
+    fn next_places(self, alloc: Global, place: usize) -> Result<Vec<usize>> {
         let mut places = Vec::new(alloc);
         for (to, _, _) in &self.edges(alloc, place)? {
             places.push(*to)?;
@@ -92,11 +95,7 @@ fn goes_on(instr: &Instr) -> bool {
 }
 
 /// Where a place's instruction may lead, whatever is known there.
-fn written_places(
-    alloc: Global,
-    program: &Program,
-    place: usize,
-) -> Result<Vec<usize>, AllocError> {
+fn written_places(alloc: Global, program: &Program, place: usize) -> Result<Vec<usize>> {
     let mut places = Vec::new(alloc);
     let Some(instr) = program.at(place) else {
         return Ok(places);
@@ -123,7 +122,7 @@ pub(crate) enum Roads<'a> {
 
 impl Roads<'_> {
     /// How many places there are.
-    pub(crate) fn places(self) -> usize {
+    fn places(self) -> usize {
         match self {
             Roads::Known(judged) | Roads::Kept(judged) => judged.program.places(),
             Roads::Written(program) => program.places(),
@@ -131,12 +130,21 @@ impl Roads<'_> {
     }
 
     /// Where a place leads.
-    pub(crate) fn from(self, alloc: Global, place: usize) -> Result<Vec<usize>, AllocError> {
+    fn from(self, alloc: Global, place: usize) -> Result<Vec<usize>> {
         match self {
             Roads::Known(judged) => judged.next_places(alloc, place),
             Roads::Kept(judged) if judged.is_broken(place) => Ok(Vec::new(alloc)),
             Roads::Kept(judged) => judged.next_places(alloc, place),
             Roads::Written(program) => written_places(alloc, program, place),
         }
+    }
+
+    /// Of each place, where it leads.
+    pub(crate) fn all(self, alloc: Global) -> Result<Vec<Vec<usize>>> {
+        let mut all = Vec::new(alloc);
+        for place in 0..self.places() {
+            all.push(self.from(alloc, place)?)?;
+        }
+        Ok(all)
     }
 }

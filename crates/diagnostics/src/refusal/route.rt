@@ -1,7 +1,8 @@
 //! Ways through a program in words, by the lines of its places.
 
+use crate::Result;
 use crate::refusal::turns::{Leg, legs_of};
-use std::alloc::{AllocError, Global};
+use std::alloc::Global;
 
 /// How many legs of a way are told at its beginning, and at its end.
 const MOST_TOLD: usize = 6;
@@ -28,7 +29,7 @@ fn mark(marks: &mut [bool], place: usize) {
 
 /// Of each place, whether a stretch begins there though the place before is gone first: it is where
 /// a way jumps back to, or the one after that from where it does.
-fn beginnings(alloc: Global, places: usize, way: &[usize]) -> Result<Vec<bool>, AllocError> {
+fn beginnings(alloc: Global, places: usize, way: &[usize]) -> Result<Vec<bool>> {
     let mut begins = vec![in alloc; false; places]?;
     for (here, next) in way.iter().zip(way.iter().skip(1)) {
         if next <= here {
@@ -40,7 +41,7 @@ fn beginnings(alloc: Global, places: usize, way: &[usize]) -> Result<Vec<bool>, 
 }
 
 /// The stretches of a way among so many places.
-fn stretches(alloc: Global, places: usize, way: &[usize]) -> Result<Vec<Stretch>, AllocError> {
+fn stretches(alloc: Global, places: usize, way: &[usize]) -> Result<Vec<Stretch>> {
     let begins = beginnings(alloc, places, way)?;
     let mut stretches: Vec<Stretch> = Vec::new(alloc);
     for place in way {
@@ -57,7 +58,7 @@ fn stretches(alloc: Global, places: usize, way: &[usize]) -> Result<Vec<Stretch>
 }
 
 /// Adds the lines of a stretch.
-fn push_stretch(text: &mut String, lines: &[usize], stretch: Stretch) -> Result<(), AllocError> {
+fn push_stretch(text: &mut String, lines: &[usize], stretch: Stretch) -> Result<()> {
     let first = lines.get(stretch.first).copied().unwrap_or(0);
     let last = lines.get(stretch.last).copied().unwrap_or(0);
     if first == last {
@@ -68,11 +69,7 @@ fn push_stretch(text: &mut String, lines: &[usize], stretch: Stretch) -> Result<
 }
 
 /// Adds the lines of stretches one after the other.
-fn push_stretches(
-    text: &mut String,
-    lines: &[usize],
-    stretches: &[Stretch],
-) -> Result<(), AllocError> {
+fn push_stretches(text: &mut String, lines: &[usize], stretches: &[Stretch]) -> Result<()> {
     let mut comma = "";
     for stretch in stretches {
         text.push_str(comma)?;
@@ -83,7 +80,7 @@ fn push_stretches(
 }
 
 /// Adds a leg, with how often it is gone.
-fn push_leg(text: &mut String, lines: &[usize], leg: &Leg<'_>) -> Result<(), AllocError> {
+fn push_leg(text: &mut String, lines: &[usize], leg: &Leg<'_>) -> Result<()> {
     let times = leg.times;
     if times == 1 {
         return push_stretches(text, lines, leg.stretches);
@@ -94,7 +91,7 @@ fn push_leg(text: &mut String, lines: &[usize], leg: &Leg<'_>) -> Result<(), All
 }
 
 /// Adds what stands before a leg.
-fn push_joint(text: &mut String, index: usize, is_gap: bool) -> Result<(), AllocError> {
+fn push_joint(text: &mut String, index: usize, is_gap: bool) -> Result<()> {
     if is_gap {
         text.push_str(", then .., then ")
     } else if index > 0 {
@@ -105,7 +102,7 @@ fn push_joint(text: &mut String, index: usize, is_gap: bool) -> Result<(), Alloc
 }
 
 /// Adds the legs of a way: of a long one those of its beginning and of its end.
-fn push_legs(text: &mut String, lines: &[usize], legs: &[Leg<'_>]) -> Result<(), AllocError> {
+fn push_legs(text: &mut String, lines: &[usize], legs: &[Leg<'_>]) -> Result<()> {
     let tail = legs.len().saturating_sub(MOST_TOLD).max(MOST_TOLD);
     for (index, leg) in legs.iter().enumerate() {
         if index < MOST_TOLD || index >= tail {
@@ -118,11 +115,7 @@ fn push_legs(text: &mut String, lines: &[usize], legs: &[Leg<'_>]) -> Result<(),
 }
 
 /// The lines of a way's places, `lines` being those of all places.
-pub(crate) fn route_of(
-    alloc: Global,
-    lines: &[usize],
-    way: &[usize],
-) -> Result<String, AllocError> {
+pub(crate) fn route_of(alloc: Global, lines: &[usize], way: &[usize]) -> Result<String> {
     let stretches = stretches(alloc, lines.len(), way)?;
     let legs = legs_of(alloc, &stretches)?;
     let word = if way.len() == 1 { "line " } else { "lines " };

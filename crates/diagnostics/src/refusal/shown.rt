@@ -1,16 +1,21 @@
 //! A run that shows the harm of a refused program, in words.
 
+use crate::Result;
+use crate::happened::{Happened, count, push_times};
+use crate::kept::Kept;
+use crate::note::push_some;
 use crate::refusal::cause::Evidence;
 use crate::refusal::facts_here::target_word;
+use crate::refusal::roads::Judged;
 use crate::sentence::Word::{Count, Hex, Text};
-use crate::sentence::{Sentence, say};
-use board::{Board, Target};
+use crate::sentence::{Sentence, say, told};
+use board::Board;
 use facts::Rule;
 use seq_program::Program;
-use session::{Sequence, Shown};
+use session::Shown;
 use simulator::Entry;
 use smbus::Answer;
-use std::alloc::{AllocError, Global};
+use std::alloc::Global;
 use table_check::Refusal;
 use targets::Outcome;
 
@@ -30,30 +35,6 @@ enum Happening {
     Lost,
     /// Targets began to alert, by their bits.
     Alerted(u16),
-}
-
-/// What happened at a place, so many times.
-#[derive(Clone, Copy)]
-struct Happened {
-    place: usize,
-    what: Happening,
-    times: usize,
-}
-
-/// Adds what happened at a place once more.
-fn add(all: &mut Vec<Happened>, place: usize, what: Happening) -> Result<(), AllocError> {
-    for known in all.iter_mut() {
-        if known.place == place && known.what == what {
-            known.times = known.times.saturating_add(1);
-            return Ok(());
-        }
-    }
-    all.push(Happened {
-        place,
-        what,
-        times: 1,
-    })?;
-    Ok(())
 }
 
 /// Whether the instruction at a place reads into a register.
@@ -80,26 +61,22 @@ fn ended(program: &Program, entry: &Entry, answer: &Answer) -> Option<Happening>
 
 /// Adds what happened in a step.
 fn add_step(
-    all: &mut Vec<Happened>,
+    all: &mut Vec<Happened<Happening>>,
     program: &Program,
     entry: &Entry,
     answer: &Answer,
-) -> Result<(), AllocError> {
+) -> Result<()> {
     if let Some(what) = ended(program, entry, answer) {
-        add(all, entry.place, what)?;
+        count(all, entry.place, what)?;
     }
     match answer.alerts {
         0 => Ok(()),
-        alerts => add(all, entry.place, Happening::Alerted(alerts)),
+        alerts => count(all, entry.place, Happening::Alerted(alerts)),
     }
 }
 
 /// What happened in a run before its last step, in the order in which it did first.
-fn happenings(
-    alloc: Global,
-    program: &Program,
-    shown: &Shown,
-) -> Result<Vec<Happened>, AllocError> {
+fn happenings(alloc: Global, program: &Program, shown: &Shown) -> Result<Vec<Happened<Happening>>> {
     let steps = shown.trace.entries.len().saturating_sub(1);
     let mut all = Vec::new(alloc);
     for (entry, answer) in shown
@@ -120,15 +97,14 @@ fn took_word(took: bool) -> &'static str {
 }
 
 /// What happened at a place, in words.
-fn sentence_of<'a>(
-    board: &'a Board,
-    program: &Program,
-    lines: &[usize],
-    happened: &Happened,
-) -> Sentence<'a> {
-    let line = Count(lines.get(happened.place).copied().unwrap_or(0));
-    let target = match program.at(happened.place).and_then(|instr| instr.request()) {
-        Some(request) => target_word(board, request.target),
+fn sentence_of<'a>(judged: Judged<'a>, happened: &Happened<Happening>) -> Sentence<'a> {
+    let line = Count(judged.line(happened.place));
+    let target = match judged
+        .program
+        .at(happened.place)
+        .and_then(|instr| instr.request())
+    {
+        Some(request) => target_word(judged.board, request.target),
         None => Text("the bus"),
     };
     match happened.what {
@@ -149,84 +125,43 @@ fn sentence_of<'a>(
 }
 
 /// A line with what happened at a place, and how often.
-fn line_of(
-    alloc: Global,
-    sequence: &Sequence,
-    lines: &[usize],
-    happened: &Happened,
-) -> Result<String, AllocError> {
-    let Sequence { board, program } = sequence;
-    let mut text = sentence_of(board, program, lines, happened).told(alloc)?;
-    let times = happened.times;
-    if times > 1 {
-        write!(text, " ({times} times)")?;
-    }
+fn line_of(alloc: Global, judged: Judged<'_>, happened: &Happened<Happening>) -> Result<String> {
+    let mut text = sentence_of(judged, happened).told(alloc)?;
+    push_times(&mut text, happened.times)?;
     Ok(text)
 }
 
-/// Adds how a target starts, where it may start in several ways.
-fn push_start(
-    alloc: Global,
-    facts: &mut Vec<String>,
-    name: &str,
-    command: &str,
-    named: &[u8],
-    value: Option<&u8>,
-) -> Result<(), AllocError> {
-    match value {
-        Some(value) if named.len() > 1 => {
-            let value = *value;
-            let fact = format!(in alloc; "  {command} of \"{name}\" starts as {value:02X}")?;
-            facts.push(fact)?;
-            Ok(())
-        }
-        _ => Ok(()),
+/// With what a target's register starts in a run, if it may start with several values.
+fn start_of<'a>(board: &'a Board, shown: &Shown, kept: Kept, index: usize) -> Option<Sentence<'a>> {
+    let value = match kept {
+        Kept::Page => shown.harm.pages.get(index)?,
+        Kept::Protect => shown.harm.protects.get(index)?,
+    };
+    if kept.starts(board.target(index)?).len() < 2 {
+        return None;
     }
-}
-
-/// Adds how a target starts.
-fn push_starts(
-    alloc: Global,
-    facts: &mut Vec<String>,
-    target: &Target,
-    name: &str,
-    page: Option<&u8>,
-    protect: Option<&u8>,
-) -> Result<(), AllocError> {
-    push_start(alloc, facts, name, "PAGE", target.start_pages(), page)?;
-    push_start(
-        alloc,
-        facts,
-        name,
-        "WRITE_PROTECT",
-        target.start_protects(),
-        protect,
-    )
+    let (command, name) = (Text(kept.command()), target_word(board, index));
+    Some(say!["  " {command} " of " {name} " starts as " {Hex(u16::from(*value), 2)}])
 }
 
 /// How the targets of a run start, a line each, where they may start in several ways.
-fn starts_of(alloc: Global, board: &Board, shown: &Shown) -> Result<Vec<String>, AllocError> {
+fn starts_of(alloc: Global, board: &Board, shown: &Shown) -> Result<Vec<String>> {
     let mut facts = Vec::new(alloc);
-    let (pages, protects) = (&shown.harm.pages, &shown.harm.protects);
-    for (index, target) in board.targets().iter().enumerate() {
-        let name = board.target_name(index).unwrap_or("");
-        let (page, protect) = (pages.get(index), protects.get(index));
-        push_starts(alloc, &mut facts, target, name, page, protect)?;
+    for index in 0..board.targets().len() {
+        let page = start_of(board, shown, Kept::Page, index);
+        let protect = start_of(board, shown, Kept::Protect, index);
+        push_some(&mut facts, told(alloc, page)?)?;
+        push_some(&mut facts, told(alloc, protect)?)?;
     }
     Ok(facts)
 }
 
 /// The steps of a run that matter, a line each.
-fn steps_of(
-    alloc: Global,
-    sequence: &Sequence,
-    lines: &[usize],
-    shown: &Shown,
-) -> Result<Vec<String>, AllocError> {
-    let mut facts = starts_of(alloc, &sequence.board, shown)?;
-    let all = happenings(alloc, &sequence.program, shown)?;
+fn steps_of(alloc: Global, judged: Judged<'_>, shown: &Shown) -> Result<Vec<String>> {
+    let mut facts = starts_of(alloc, judged.board, shown)?;
+    let all = happenings(alloc, judged.program, shown)?;
     for happened in all.iter().take(MOST_TOLD) {
-        facts.push(line_of(alloc, sequence, lines, happened)?)?;
+        facts.push(line_of(alloc, judged, happened)?)?;
     }
     let left = all.len().saturating_sub(MOST_TOLD);
     if left > 0 {
@@ -236,31 +171,24 @@ fn steps_of(
 }
 
 /// What a run shows of a refusal: that rule, or another one, or the same at another place.
-fn head_of(
-    alloc: Global,
-    lines: &[usize],
-    refusal: Refusal,
-    shown: &Shown,
-) -> Result<String, AllocError> {
+fn head_of(alloc: Global, judged: Judged<'_>, refusal: Refusal, shown: &Shown) -> Result<String> {
     let breach = shown.harm.breach;
     if breach.place == refusal.place && breach.rule == refusal.breach.rule() {
         return String::from_str(alloc, "a run does this");
     }
-    let line = lines.get(breach.place).copied().unwrap_or(0);
-    let rule = breach.rule.name();
+    let (line, rule) = (judged.line(breach.place), breach.rule.name());
     format!(in alloc; "a run breaks {rule} at line {line}")
 }
 
 /// What is told of a run that shows the harm, a line each.
 fn shown_lines(
     alloc: Global,
-    sequence: &Sequence,
-    lines: &[usize],
+    judged: Judged<'_>,
     refusal: Refusal,
     shown: &Shown,
-) -> Result<Vec<String>, AllocError> {
-    let mut head = head_of(alloc, lines, refusal, shown)?;
-    let steps = steps_of(alloc, sequence, lines, shown)?;
+) -> Result<Vec<String>> {
+    let mut head = head_of(alloc, judged, refusal, shown)?;
+    let steps = steps_of(alloc, judged, shown)?;
     head.push_str(if steps.is_empty() {
         "; on the way every message is done"
     } else {
@@ -273,18 +201,16 @@ fn shown_lines(
     Ok(facts)
 }
 
-/// Whether a run shows that a program with lines at these places is refused with reason, if its
-/// rule is one that runs break.
+/// Whether a run shows that a program is refused with reason, if its rule is one that runs break.
 pub(crate) fn evidence_of(
     alloc: Global,
-    sequence: &Sequence,
-    lines: &[usize],
+    judged: Judged<'_>,
     refusal: Refusal,
     shown: Option<&Shown>,
-) -> Result<Option<Evidence>, AllocError> {
+) -> Result<Option<Evidence>> {
     match (shown, refusal.breach.rule()) {
         (Some(shown), _) => {
-            let facts = shown_lines(alloc, sequence, lines, refusal, shown)?;
+            let facts = shown_lines(alloc, judged, refusal, shown)?;
             Ok(Some(Evidence::Shown(facts)))
         }
         (None, Rule::K1 | Rule::K2 | Rule::K3 | Rule::K4 | Rule::K5) => {

@@ -1,14 +1,16 @@
 //! K8 and K9: what of a table's rows isn't of the board and the program, or of their start.
 
+use crate::Result;
+use crate::kept::Kept;
 use crate::refusal::facts_here::{rail_word, target_word};
 use crate::refusal::roads::Judged;
-use crate::sentence::Word::{Count, Hex, Number, Pages, Protects, Text};
+use crate::sentence::Word::{Count, Hex, Number, Text};
 use crate::sentence::{Sentence, Word, say, told};
-use board::{Board, Target};
+use board::Board;
 use facts::{Misfit, Row, Span, Unheld};
 use seq_program::MOST_TURNS;
 use simulator::MOST_TICKS;
-use std::alloc::{AllocError, Global};
+use std::alloc::Global;
 
 /// The span of a register, or a counter, that has no numbers.
 fn empty_span(letter: &'static str, spans: &[Span], index: usize) -> Option<Sentence<'static>> {
@@ -76,7 +78,7 @@ pub(crate) fn shape_detail(
     judged: Judged<'_>,
     place: usize,
     misfit: Misfit,
-) -> Result<Option<String>, AllocError> {
+) -> Result<Option<String>> {
     match judged.row(place) {
         Some(row) => placed(alloc, place, row_detail(judged.board, row, misfit)),
         None => Ok(None),
@@ -84,58 +86,34 @@ pub(crate) fn shape_detail(
 }
 
 /// What is said of a row with its place before it.
-fn placed(
-    alloc: Global,
-    place: usize,
-    detail: Option<Sentence>,
-) -> Result<Option<String>, AllocError> {
+fn placed(alloc: Global, place: usize, detail: Option<Sentence>) -> Result<Option<String>> {
     match told(alloc, detail)? {
         Some(detail) => Ok(Some(format!(in alloc; "in row {place} {detail}")?)),
         None => Ok(None),
     }
 }
 
-/// The first start page of a target that its set hasn't.
-fn start_page<'a>(
-    name: Word<'a>,
-    device: &Target,
+/// The first start value of what a target keeps that its set hasn't.
+fn kept_start<'a>(
+    board: &'a Board,
     row: &'a Row,
+    kept: Kept,
     target: usize,
 ) -> Option<Sentence<'a>> {
-    let pages = row.pages.get(target)?;
-    let page = device
-        .start_pages()
+    let starts = kept.starts(board.target(target)?);
+    let value = starts
         .iter()
-        .find(|page| !pages.contains(**page))?;
+        .find(|value| !kept.may_be(row, target, **value))?;
     Some(say![
-        "PAGE of " {name} " may be " {Hex(u16::from(*page), 2)} " at the start, and row 0 has "
-        {Pages(pages)}
-    ])
-}
-
-/// The first start value of WRITE_PROTECT of a target that its set hasn't.
-fn start_protect<'a>(
-    name: Word<'a>,
-    device: &Target,
-    row: &'a Row,
-    target: usize,
-) -> Option<Sentence<'a>> {
-    let protects = row.protects.get(target)?;
-    let protect = device
-        .start_protects()
-        .iter()
-        .find(|protect| !protects.contains(**protect))?;
-    Some(say![
-        "WRITE_PROTECT of " {name} " may be " {Hex(u16::from(*protect), 2)}
-        " at the start, and row 0 has " {Protects(protects)}
+        {Text(kept.command())} " of " {target_word(board, target)} " may be "
+        {Hex(u16::from(*value), 2)} " at the start, and row 0 has " {kept.values(row, target)?}
     ])
 }
 
 /// The first start value of a target that row 0 hasn't.
 fn target_start<'a>(board: &'a Board, row: &'a Row, target: usize) -> Option<Sentence<'a>> {
-    let device = board.target(target)?;
-    let name = target_word(board, target);
-    start_page(name, device, row, target).or(start_protect(name, device, row, target))
+    let page = kept_start(board, row, Kept::Page, target);
+    page.or(kept_start(board, row, Kept::Protect, target))
 }
 
 /// That a register, or a counter, isn't 0 in row 0.

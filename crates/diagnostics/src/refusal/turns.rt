@@ -2,8 +2,9 @@
 
 ghost use Rattle.std.specs.Prelude.{◌≤◌};
 
+use crate::Result;
 use crate::refusal::route::Stretch;
-use std::alloc::{AllocError, Global};
+use std::alloc::Global;
 
 /// A turn has so many stretches at most, to be told once for all times.
 const MOST_STRETCHES: usize = 6;
@@ -48,10 +49,7 @@ fn first_leg(rest: &[Stretch]) -> Option<Leg<'_>> {
 }
 
 /// The legs of a way.
-pub(crate) fn legs_of<'a>(
-    alloc: Global,
-    stretches: &'a [Stretch],
-) -> Result<Vec<Leg<'a>>, AllocError> {
+pub(crate) fn legs_of<'a>(alloc: Global, stretches: &'a [Stretch]) -> Result<Vec<Leg<'a>>> {
     let mut legs = Vec::new(alloc);
     let mut rest = stretches;
     for _ in 0..stretches.len() {

@@ -1,19 +1,11 @@
 //! Loops that no counter bounds.
 
+use crate::Result;
 use crate::refusal::roads::Roads;
 use crate::refusal::route::route_of;
 use crate::refusal::way::way_between;
 use seq_program::{Instr, Program};
-use std::alloc::{AllocError, Global};
-
-/// Of each place, where it leads.
-pub(crate) fn all_roads(alloc: Global, roads: Roads<'_>) -> Result<Vec<Vec<usize>>, AllocError> {
-    let mut all = Vec::new(alloc);
-    for place in 0..roads.places() {
-        all.push(roads.from(alloc, place)?)?;
-    }
-    Ok(all)
-}
+use std::alloc::Global;
 
 /// The counter that an instruction counts down, where it leads to a place.
 fn counted_down(instr: &Instr, to: usize) -> Option<usize> {
@@ -44,11 +36,7 @@ fn sets(program: &Program, turn: &[usize], counter: usize) -> bool {
 }
 
 /// The counters that a turn of a loop counts down, from a place on through these.
-fn counters_down(
-    alloc: Global,
-    program: &Program,
-    turn: &[usize],
-) -> Result<Vec<usize>, AllocError> {
+fn counters_down(alloc: Global, program: &Program, turn: &[usize]) -> Result<Vec<usize>> {
     let mut counters = Vec::new(alloc);
     let behind = turn.iter().skip(1).chain(turn.first());
     for (place, next) in turn.iter().zip(behind) {
@@ -63,7 +51,7 @@ fn counters_down(
 }
 
 /// Whether a counter bounds how often a turn of a loop is made: it falls there, and isn't set.
-fn is_counted(alloc: Global, program: &Program, turn: &[usize]) -> Result<bool, AllocError> {
+fn is_counted(alloc: Global, program: &Program, turn: &[usize]) -> Result<bool> {
     for counter in counters_down(alloc, program, turn)? {
         if !sets(program, turn, counter) {
             return Ok(true);
@@ -78,7 +66,7 @@ fn uncounted_from(
     program: &Program,
     all: &[Vec<usize>],
     place: usize,
-) -> Result<Option<Vec<usize>>, AllocError> {
+) -> Result<Option<Vec<usize>>> {
     let Some(nexts) = all.get(place) else {
         return Ok(None);
     };
@@ -96,12 +84,8 @@ fn uncounted_from(
 
 /// The first loop that no counter bounds, by where it jumps back: its places, from the one to which
 /// it jumps back to the one that jumps.
-fn uncounted_on(
-    alloc: Global,
-    program: &Program,
-    roads: Roads<'_>,
-) -> Result<Option<Vec<usize>>, AllocError> {
-    let all = all_roads(alloc, roads)?;
+fn uncounted_on(alloc: Global, program: &Program, roads: Roads<'_>) -> Result<Option<Vec<usize>>> {
+    let all = roads.all(alloc)?;
     for place in 0..all.len() {
         let turn = uncounted_from(alloc, program, &all, place)?;
         if turn.is_some() {
@@ -118,7 +102,7 @@ pub(crate) fn uncounted_text(
     program: &Program,
     roads: Roads<'_>,
     lines: &[usize],
-) -> Result<Option<String>, AllocError> {
+) -> Result<Option<String>> {
     if uncounted_on(alloc, program, Roads::Written(program))?.is_none() {
         return Ok(None);
     }

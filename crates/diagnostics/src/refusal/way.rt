@@ -1,7 +1,8 @@
 //! The shortest way to a place, and the shortest loop through one.
 
+use crate::Result;
 use crate::refusal::roads::Roads;
-use std::alloc::{AllocError, Global};
+use std::alloc::Global;
 
 /// The places that were reached from one, the nearest first.
 #[derive(Drop)]
@@ -13,7 +14,7 @@ struct Search {
 
 impl Search {
     /// Only the first place is reached.
-    fn new(alloc: Global, places: usize, first: usize) -> Result<Search, AllocError> {
+    fn new(alloc: Global, places: usize, first: usize) -> Result<Search> {
         let mut from = Vec::new(alloc);
         for place in 0..places {
             from.push(if place == first { Some(first) } else { None })?;
@@ -24,7 +25,7 @@ impl Search {
     }
 
     /// Reaches a place, if it wasn't before.
-    fn reach(&mut self, place: usize, from: usize) -> Result<(), AllocError> {
+    fn reach(&mut self, place: usize, from: usize) -> Result<()> {
         if let Some(reached) = self.from.get_mut(place) {
             if reached.is_none() {
                 *reached = Some(from);
@@ -34,7 +35,7 @@ impl Search {
         Ok(())
     }
 
-    fn reach_all(&mut self, places: &[usize], from: usize) -> Result<(), AllocError> {
+    fn reach_all(&mut self, places: &[usize], from: usize) -> Result<()> {
         for place in places {
             self.reach(*place, from)?;
         }
@@ -48,7 +49,7 @@ impl Search {
     }
 
     /// The places from the first to one that was reached, both included.
-    fn way_to(&self, alloc: Global, place: usize) -> Result<Vec<usize>, AllocError> {
+    fn way_to(&self, alloc: Global, place: usize) -> Result<Vec<usize>> {
         let mut way = Vec::new(alloc);
         way.push(place)?;
         let mut here = place;
@@ -64,23 +65,50 @@ impl Search {
     }
 }
 
-/// The places of a shortest way from place 0, where one leads to a place.
-pub(crate) fn way_to(
+/// Where a search ends.
+#[derive(Clone, Copy)]
+enum Goal {
+    /// At this place.
+    At(usize),
+    /// At a place that leads there.
+    LeadingTo(usize),
+}
+
+impl Goal {
+    fn is_met(self, place: usize, nexts: &[usize]) -> bool {
+        match self {
+            Goal::At(goal) => place == goal,
+            Goal::LeadingTo(goal) => nexts.contains(&goal),
+        }
+    }
+}
+
+/// The places of a shortest way from a place to a goal, both included, where each leads to these.
+fn shortest(
     alloc: Global,
-    roads: Roads<'_>,
-    place: usize,
-) -> Result<Option<Vec<usize>>, AllocError> {
-    let mut search = Search::new(alloc, roads.places(), 0)?;
-    for turn in 0..roads.places() {
+    all: &[Vec<usize>],
+    first: usize,
+    goal: Goal,
+) -> Result<Option<Vec<usize>>> {
+    let mut search = Search::new(alloc, all.len(), first)?;
+    for turn in 0..all.len() {
         let Some(here) = search.order.get(turn).copied() else {
             break;
         };
-        if here == place {
-            return Ok(Some(search.way_to(alloc, place)?));
+        let Some(nexts) = all.get(here) else {
+            break;
+        };
+        if goal.is_met(here, nexts) {
+            return Ok(Some(search.way_to(alloc, here)?));
         }
-        search.reach_all(&roads.from(alloc, here)?, here)?;
+        search.reach_all(nexts, here)?;
     }
     Ok(None)
+}
+
+/// The places of a shortest way from place 0, where one leads to a place.
+pub(crate) fn way_to(alloc: Global, roads: Roads<'_>, place: usize) -> Result<Option<Vec<usize>>> {
+    shortest(alloc, &roads.all(alloc)?, 0, Goal::At(place))
 }
 
 /// The places of a shortest way between two places, both included, where each leads to these.
@@ -89,20 +117,8 @@ pub(crate) fn way_between(
     all: &[Vec<usize>],
     first: usize,
     last: usize,
-) -> Result<Option<Vec<usize>>, AllocError> {
-    let mut search = Search::new(alloc, all.len(), first)?;
-    for turn in 0..all.len() {
-        let Some(here) = search.order.get(turn).copied() else {
-            break;
-        };
-        if here == last {
-            return Ok(Some(search.way_to(alloc, last)?));
-        }
-        if let Some(nexts) = all.get(here) {
-            search.reach_all(nexts, here)?;
-        }
-    }
-    Ok(None)
+) -> Result<Option<Vec<usize>>> {
+    shortest(alloc, all, first, Goal::At(last))
 }
 
 /// The places of a shortest loop that begins at a place, where there is one.
@@ -110,17 +126,6 @@ pub(crate) fn loop_through(
     alloc: Global,
     roads: Roads<'_>,
     place: usize,
-) -> Result<Option<Vec<usize>>, AllocError> {
-    let mut search = Search::new(alloc, roads.places(), place)?;
-    for turn in 0..roads.places() {
-        let Some(here) = search.order.get(turn).copied() else {
-            break;
-        };
-        let next = roads.from(alloc, here)?;
-        if next.contains(&place) {
-            return Ok(Some(search.way_to(alloc, here)?));
-        }
-        search.reach_all(&next, here)?;
-    }
-    Ok(None)
+) -> Result<Option<Vec<usize>>> {
+    shortest(alloc, &roads.all(alloc)?, place, Goal::LeadingTo(place))
 }

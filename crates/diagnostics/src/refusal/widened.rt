@@ -1,11 +1,11 @@
 //! Values of a register that stand for all turns of a loop.
 
+use crate::Result;
 use crate::refusal::roads::{Judged, Roads};
-use crate::refusal::uncounted::all_roads;
 use crate::refusal::way::way_between;
 use facts::{Row, Span, Violation, violation};
 use seq_program::{Instr, Written};
-use std::alloc::{AllocError, Global};
+use std::alloc::Global;
 
 /// The register whose word an instruction writes.
 pub(crate) fn written_register(instr: &Instr) -> Option<usize> {
@@ -53,7 +53,7 @@ fn climb_at(
     all: &[Vec<usize>],
     adds: usize,
     register: usize,
-) -> Result<Option<Climb>, AllocError> {
+) -> Result<Option<Climb>> {
     let Some(step) = judged
         .program
         .at(adds)
@@ -75,12 +75,8 @@ fn climb_at(
 }
 
 /// The first place in a loop that adds to a register.
-fn climb_of(
-    alloc: Global,
-    judged: Judged<'_>,
-    register: usize,
-) -> Result<Option<Climb>, AllocError> {
-    let all = all_roads(alloc, Roads::Written(judged.program))?;
+fn climb_of(alloc: Global, judged: Judged<'_>, register: usize) -> Result<Option<Climb>> {
+    let all = Roads::Written(judged.program).all(alloc)?;
     for place in 0..all.len() {
         let climb = climb_at(alloc, judged, &all, place, register)?;
         if climb.is_some() {
@@ -94,9 +90,8 @@ fn climb_of(
 pub(crate) fn widened_text(
     alloc: Global,
     judged: Judged<'_>,
-    lines: &[usize],
     place: usize,
-) -> Result<Option<String>, AllocError> {
+) -> Result<Option<String>> {
     let (Some(instr), Some(row)) = (judged.program.at(place), judged.row(place)) else {
         return Ok(None);
     };
@@ -106,8 +101,7 @@ pub(crate) fn widened_text(
     let Some(Climb { adds, head, step }) = climb_of(alloc, judged, register)? else {
         return Ok(None);
     };
-    let head = lines.get(head).copied().unwrap_or(0);
-    let adds = lines.get(adds).copied().unwrap_or(0);
+    let (head, adds) = (judged.line(head), judged.line(adds));
     Ok(Some(format!(in alloc;
         "r{register} may be {lo} to {hi} for the search: widened at line {head}, where the loop \
          adds {step} in line {adds}, to hold for any number of turns"

@@ -1,46 +1,17 @@
 //! A start that the board doesn't name.
 
+use crate::Result;
+use crate::kept::Kept;
 use crate::refusal::facts_here::target_word;
 use crate::remark::Remark;
 use crate::sentence::Word::{Count, Hex, Name, Text};
 use crate::sentence::{Advice, say};
-use board::{Board, Target};
+use board::Board;
 use session::Scenario;
-use std::alloc::{AllocError, Global};
-
-/// What each target starts with.
-#[derive(Clone, Copy)]
-enum Kept {
-    Page,
-    Protect,
-}
-
-impl Kept {
-    fn command(self) -> &'static str {
-        match self {
-            Kept::Page => "PAGE",
-            Kept::Protect => "WRITE_PROTECT",
-        }
-    }
-
-    /// The key of a board file under which the start values are.
-    fn key(self) -> &'static str {
-        match self {
-            Kept::Page => "start_pages",
-            Kept::Protect => "start_protects",
-        }
-    }
-
-    fn named_by(self, target: &Target) -> &[u8] {
-        match self {
-            Kept::Page => target.start_pages(),
-            Kept::Protect => target.start_protects(),
-        }
-    }
-}
+use std::alloc::Global;
 
 /// Bytes with commas between them.
-fn listed(alloc: Global, bytes: &[u8]) -> Result<String, AllocError> {
+fn listed(alloc: Global, bytes: &[u8]) -> Result<String> {
     let mut text = String::new(alloc);
     for byte in bytes {
         let comma = if text.is_empty() { "" } else { ", " };
@@ -55,20 +26,18 @@ fn bad_count(board: &Board, kept: Kept, values: &[u8]) -> Option<Advice<'static>
     if found == wanted {
         return None;
     }
-    Some(Advice {
-        message: say![
-            "values of " {Text(kept.command())} ": expected " {Count(wanted)} ", found "
-            {Count(found)}
-        ],
-        help: Some(say!["one for each target, in the board's order"]),
-    })
+    Some(say![
+        "values of " {Text(kept.command())} ": expected " {Count(wanted)} ", found "
+        {Count(found)}
+    ]
+    .with_help(say!["one for each target, in the board's order"]))
 }
 
 /// The first target that doesn't start with its value, by its index, and that value.
 fn first_other(board: &Board, kept: Kept, values: &[u8]) -> Option<(usize, u8)> {
     for (index, target) in board.targets().iter().enumerate() {
         let value = values.get(index).copied().unwrap_or(0);
-        if !kept.named_by(target).contains(&value) {
+        if !kept.starts(target).contains(&value) {
             return Some((index, value));
         }
     }
@@ -76,15 +45,9 @@ fn first_other(board: &Board, kept: Kept, values: &[u8]) -> Option<(usize, u8)> 
 }
 
 /// What is wrong with a value that its target doesn't start with.
-fn bad_value(
-    alloc: Global,
-    board: &Board,
-    kept: Kept,
-    index: usize,
-    value: u8,
-) -> Result<Remark, AllocError> {
+fn bad_value(alloc: Global, board: &Board, kept: Kept, index: usize, value: u8) -> Result<Remark> {
     let named = match board.target(index) {
-        Some(target) => listed(alloc, kept.named_by(target))?,
+        Some(target) => listed(alloc, kept.starts(target))?,
         None => String::new(alloc),
     };
     Remark::told(
@@ -98,7 +61,7 @@ fn bad_value(
 }
 
 /// What is said of the start of a scenario.
-pub(crate) fn bad_start(alloc: Global, scenario: &Scenario<'_>) -> Result<Remark, AllocError> {
+pub(crate) fn bad_start(alloc: Global, scenario: &Scenario<'_>) -> Result<Remark> {
     let board = &scenario.board;
     let starts = [
         (Kept::Page, scenario.answers.pages.as_slice()),

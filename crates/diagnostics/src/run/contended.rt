@@ -1,11 +1,12 @@
 //! Answers with another controller that doesn't fit.
 
+use crate::Result;
 use crate::run::step::Step;
 use crate::sentence::Word::{Count, Hex, Number};
 use crate::sentence::{Sentence, say};
 use board::Board;
 use smbus::{Answer, Contender, Message, contender_slot_count};
-use std::alloc::{AllocError, Global};
+use std::alloc::Global;
 use targets::BusState;
 
 /// What of another controller doesn't fit.
@@ -22,7 +23,7 @@ pub(crate) enum Clash {
     Address,
 }
 
-fn copy_of(contender: &Contender) -> Result<Contender, AllocError> {
+fn copy_of(contender: &Contender) -> Result<Contender> {
     Ok(Contender {
         address: contender.address,
         read: contender.read,
@@ -31,14 +32,14 @@ fn copy_of(contender: &Contender) -> Result<Contender, AllocError> {
     })
 }
 
-fn contender_of(answer: &Answer) -> Result<Option<Contender>, AllocError> {
+fn contender_of(answer: &Answer) -> Result<Option<Contender>> {
     match &answer.contender {
         Some(contender) => Ok(Some(copy_of(contender)?)),
         None => Ok(None),
     }
 }
 
-pub(crate) fn copied(answer: &Answer) -> Result<Answer, AllocError> {
+pub(crate) fn copied(answer: &Answer) -> Result<Answer> {
     Ok(Answer {
         holds: answer.holds.clone()?,
         refuse: answer.refuse,
@@ -51,7 +52,7 @@ pub(crate) fn copied(answer: &Answer) -> Result<Answer, AllocError> {
 }
 
 /// Whether an answer fits where no arbitration was lost before.
-fn fits_at_first(step: &Step, answer: &Answer) -> Result<bool, AllocError> {
+fn fits_at_first(step: &Step, answer: &Answer) -> Result<bool> {
     let bus = step.bus;
     let first = BusState {
         page: bus.page.clone()?,
@@ -67,7 +68,7 @@ fn fits_at_first(step: &Step, answer: &Answer) -> Result<bool, AllocError> {
 }
 
 /// An answer with nothing but another controller.
-fn alone(alloc: Global, contender: &Contender) -> Result<Answer, AllocError> {
+fn alone(alloc: Global, contender: &Contender) -> Result<Answer> {
     Ok(Answer {
         holds: Vec::new(alloc),
         refuse: None,
@@ -86,7 +87,7 @@ pub(crate) fn clash_of(
     step: &Step,
     contender: &Contender,
     answer: Answer,
-) -> Result<Clash, AllocError> {
+) -> Result<Clash> {
     let mut left = answer;
     if fits_at_first(step, &left)? {
         return Ok(Clash::Contentions);

@@ -1,5 +1,6 @@
 //! Which part of an answer doesn't fit.
 
+use crate::Result;
 use crate::run::alert::alert_misfit;
 use crate::run::contended::{Clash, clash_of, contended_misfit, copied};
 use crate::run::returned::returned_misfit;
@@ -8,7 +9,7 @@ use crate::sentence::Word::{Count, Hex, Name, Number};
 use crate::sentence::{Sentence, say};
 use board::Board;
 use smbus::{Answer, Form, Message, sent_count, slot_count};
-use std::alloc::{AllocError, Global};
+use std::alloc::Global;
 use targets::BusState;
 
 /// The part of an answer that doesn't fit.
@@ -25,7 +26,7 @@ enum Part {
 }
 
 /// What of another controller doesn't fit, where its answer fits without it.
-fn clash(alloc: Global, step: &Step) -> Result<Option<Part>, AllocError> {
+fn clash(alloc: Global, step: &Step) -> Result<Option<Part>> {
     let answer = step.answer;
     let Some(contender) = &answer.contender else {
         return Ok(None);
@@ -40,7 +41,7 @@ fn clash(alloc: Global, step: &Step) -> Result<Option<Part>, AllocError> {
 }
 
 /// What doesn't fit of an answer that has nothing left beside another controller, if it has one.
-fn last_part(alloc: Global, step: &Step, left: Answer) -> Result<Part, AllocError> {
+fn last_part(alloc: Global, step: &Step, left: Answer) -> Result<Part> {
     let answer = step.answer;
     match &answer.contender {
         Some(contender) => {
@@ -53,7 +54,7 @@ fn last_part(alloc: Global, step: &Step, left: Answer) -> Result<Part, AllocErro
 
 /// The first part that doesn't fit. The others are left out one after another, the last first,
 /// until what is left fits: so no rule is written here a second time.
-fn part_of(alloc: Global, step: &Step) -> Result<Part, AllocError> {
+fn part_of(alloc: Global, step: &Step) -> Result<Part> {
     let mut left = copied(step.answer)?;
     left.took = false;
     if step.takes(&left) {
@@ -185,7 +186,7 @@ pub(crate) fn misfit<'a>(
     bus: &'a BusState,
     message: Option<&'a Message>,
     answer: &'a Answer,
-) -> Result<Sentence<'a>, AllocError> {
+) -> Result<Sentence<'a>> {
     let step = Step {
         board,
         bus,

@@ -6,6 +6,7 @@ ghost use Rattle.texts.specs.Words.{lines_by_feed};
 ghost use Rattle.diagnostics.specs.AnswerPlaces.{run_line};
 ghost use Rattle.notes.specs.Notes.{IsOn};
 
+use crate::Result;
 use crate::counted::run_line;
 use crate::note::note_in;
 use crate::remark::Remark;
@@ -15,11 +16,11 @@ use notes::{Level, Note, line_at};
 use seq_program::message_of;
 use session::{Ran, Scenario, Stop, place_line};
 use simulator::RunFault;
-use std::alloc::{AllocError, Global};
+use std::alloc::Global;
 use texts::without_comment;
 
 /// A place of a program in words: `place 4, line 9 of the program: end`.
-fn place_text(alloc: Global, program: &str, place: usize) -> Result<String, AllocError> {
+fn place_text(alloc: Global, program: &str, place: usize) -> Result<String> {
     match place_line(alloc, program, place)? {
         Some(number) => {
             let line = without_comment(line_at(program, number).unwrap_or("")).trim();
@@ -30,7 +31,7 @@ fn place_text(alloc: Global, program: &str, place: usize) -> Result<String, Allo
 }
 
 /// What is wrong with an answer that doesn't fit to the step for which it stands.
-fn step_misfit(alloc: Global, scenario: &Scenario<'_>, stop: &Stop) -> Result<String, AllocError> {
+fn step_misfit(alloc: Global, scenario: &Scenario<'_>, stop: &Stop) -> Result<String> {
     let (board, machine) = (&scenario.board, &stop.machine);
     let Some(instr) = scenario.program.at(machine.place) else {
         return String::from_str(alloc, "no step is left");
@@ -47,7 +48,7 @@ fn stop_remark(
     program: &str,
     index: usize,
     stop: &Stop,
-) -> Result<Remark, AllocError> {
+) -> Result<Remark> {
     let misfit = step_misfit(alloc, scenario, stop)?;
     let place = place_text(alloc, program, stop.machine.place)?;
     let message = format!(in alloc; "answer {index} doesn't fit: {misfit}")?;
@@ -56,12 +57,7 @@ fn stop_remark(
 }
 
 /// What is said of an answer behind the last step.
-fn late_remark(
-    alloc: Global,
-    program: &str,
-    index: usize,
-    stop: &Stop,
-) -> Result<Remark, AllocError> {
+fn late_remark(alloc: Global, program: &str, index: usize, stop: &Stop) -> Result<Remark> {
     let place = place_text(alloc, program, stop.machine.place)?;
     let message = format!(in alloc; "answer {index} comes after the end of the program")?;
     let help = format!(in alloc; "it ended with the answer above, at {place}")?;
@@ -69,12 +65,7 @@ fn late_remark(
 }
 
 /// What is said of a fault.
-fn remark_on(
-    alloc: Global,
-    ran: &Ran<'_>,
-    program: &str,
-    fault: RunFault,
-) -> Result<Remark, AllocError> {
+fn remark_on(alloc: Global, ran: &Ran<'_>, program: &str, fault: RunFault) -> Result<Remark> {
     let scenario = &ran.scenario;
     match (fault, &ran.stop) {
         (RunFault::AnswerDoesNotFit(index), Some(stop)) => stop_remark(
@@ -100,7 +91,7 @@ pub(crate) fn answer_note(
     program: &str,
     answers: &str,
     fault: RunFault,
-) -> Result<Option<Note>, AllocError>
+) -> Result<Option<Note>>
     ensures { IfOk result (λ note. MatchOption (run_line fault (lines_by_feed answers.now))
         (note ≡ None)
         (λ number. IsSomeAnd note

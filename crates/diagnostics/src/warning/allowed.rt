@@ -5,7 +5,10 @@ ghost use Rattle.std.specs.List.{list_any};
 ghost use Rattle.std.specs.Str.{bytes_eq};
 ghost use Rattle.diagnostics.specs.ProgramWarnings.{allows, is_allowed};
 
-use std::alloc::{AllocError, Global};
+use crate::Result;
+use crate::sentence::Word::Text;
+use crate::sentence::{Sentence, say};
+use std::alloc::Global;
 use texts::{comment_in, words_of};
 
 /// Whether a name is among words.
@@ -26,8 +29,16 @@ fn allows(words: &[&str], name: &str) -> bool
     }
 }
 
+/// What may help: to mend what has a name, or to allow it.
+pub(crate) fn allowing<'a>(mending: &'a str, name: &'a str, meaning: &'a str) -> Sentence<'a> {
+    say![
+        {Text(mending)} ", or say with a comment `# allow " {Text(name)} "` on this line that "
+        {Text(meaning)}
+    ]
+}
+
 /// Whether the comment of a line allows what has the name: `# allow NAME ..`.
-pub(crate) fn is_allowed(alloc: Global, line: &str, name: &str) -> Result<bool, AllocError>
+pub(crate) fn is_allowed(alloc: Global, line: &str, name: &str) -> Result<bool>
     ensures { IfOk result (λ allowed. allowed ≡ is_allowed line.now name.now) }
 {
     let words = words_of(alloc, comment_in(line))?;

@@ -6,6 +6,7 @@ ghost use Rattle.diagnostics.specs.Warnings.{WarnsOfBoard};
 ghost use Rattle.session.specs.Parts.{sections_view};
 ghost use Rattle.texts.specs.Words.{lines_by_feed};
 
+use crate::Result;
 use crate::boards::{
     NamedLine, SayingLine, line_or_first, place_of, remark_of, saying_lines, site_of,
 };
@@ -16,7 +17,7 @@ use bundles::Section;
 use notes::{Level, Note};
 use seq_program::Program;
 use session::section_of;
-use std::alloc::{AllocError, Global};
+use std::alloc::Global;
 
 /// The warning of a lint of a board file with these lines, on one of them.
 fn warning_on(
@@ -25,7 +26,7 @@ fn warning_on(
     lines: &[SayingLine<'_>],
     board: &Board,
     lint: &Lint,
-) -> Result<Note, AllocError>
+) -> Result<Note>
     requires { All (IsNumbered (lines_by_feed text.now)) lines.now }
     ensures { IfOk result (IsBoardWarning (lines_by_feed text.now)) }
 {
@@ -37,12 +38,7 @@ fn warning_on(
 }
 
 /// The warnings of lints of a board file, each on a line of it.
-fn notes_of(
-    alloc: Global,
-    text: &str,
-    board: &Board,
-    lints: &[Lint],
-) -> Result<Vec<Note>, AllocError>
+fn notes_of(alloc: Global, text: &str, board: &Board, lints: &[Lint]) -> Result<Vec<Note>>
     ensures lines { IfOk result
         (λ notes. All (IsBoardWarning (lines_by_feed text.now)) notes.items) }
     ensures each { IfOk result (λ notes. length notes.items ≡ length lints.now) }
@@ -56,7 +52,7 @@ fn notes_of(
 }
 
 /// The text of a bundle's board, or nothing.
-fn board_text(alloc: Global, sections: &[Section<'_>]) -> Result<String, AllocError>
+fn board_text(alloc: Global, sections: &[Section<'_>]) -> Result<String>
     ensures { IfOk result (λ text. lines_by_feed (string_bytes text)
         ≡ board_lines (sections_view sections.now)) }
 {
@@ -74,7 +70,7 @@ pub(crate) fn board_warnings(
     sections: &[Section<'_>],
     board: &Board,
     program: &Program,
-) -> Result<Vec<Note>, AllocError>
+) -> Result<Vec<Note>>
     ensures { IfOk result (λ notes.
         WarnsOfBoard (sections_view sections.now) board.now program.now notes.items) }
 {

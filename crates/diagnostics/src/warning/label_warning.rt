@@ -7,33 +7,33 @@ ghost use Rattle.diagnostics.specs.LabelWarnings.{more_labels, unused_line};
 ghost use Rattle.notes.specs.Notes.{IsQuoting};
 ghost use Rattle.texts.specs.Words.{lines_by_feed};
 
+use crate::Result;
 use crate::note::note_on;
 use crate::remark::Remark;
-use crate::sentence::Word::Text;
 use crate::sentence::say;
-use crate::warning::allowed::is_allowed;
+use crate::warning::allowed::{allowing, is_allowed};
 use notes::{Level, LineFinder, Note};
 use program_lints::unused_labels;
-use std::alloc::{AllocError, Global};
+use std::alloc::Global;
 
 /// How many labels are warned of by themselves at most.
 const MOST_LABELS: usize = 20;
 
-const UNUSED: &str =
-    "take it out, or say with a comment `# allow unused-label` on this line that it is meant";
+/// The name by which a comment allows such a label.
+const UNUSED: &str = "unused-label";
 
 /// The warning of the label on this line.
-fn label_warning(alloc: Global, number: usize, line: Option<&str>) -> Result<Note, AllocError>
+fn label_warning(alloc: Global, number: usize, line: Option<&str>) -> Result<Note>
     ensures { IfOk result
         (IsQuoting Level.Warning (codes "%program") number (option_copied line.entry)) }
 {
-    let help = Some(say![{ Text(UNUSED) }]);
+    let help = Some(allowing("take it out", UNUSED, "it is meant"));
     let remark = Remark::told(alloc, say!["no line jumps to this label"], help)?;
     note_on(alloc, Level::Warning, "%program", number, line, remark)
 }
 
 /// A warning of the label on each of these lines.
-fn warnings_on(alloc: Global, text: &str, numbers: &[usize]) -> Result<Vec<Note>, AllocError>
+fn warnings_on(alloc: Global, text: &str, numbers: &[usize]) -> Result<Vec<Note>>
     ensures { IfOk result
         (λ warnings. AreOnLines (lines_by_feed text.now) numbers.now warnings.items) }
 {
@@ -47,7 +47,7 @@ fn warnings_on(alloc: Global, text: &str, numbers: &[usize]) -> Result<Vec<Note>
 }
 
 /// Those of some lines on which no comment allows a label that no line jumps to.
-fn not_allowed(alloc: Global, text: &str, numbers: &[usize]) -> Result<Vec<usize>, AllocError>
+fn not_allowed(alloc: Global, text: &str, numbers: &[usize]) -> Result<Vec<usize>>
     ensures { IfOk result (λ told.
         told.items ≡ filter_map (unused_line (lines_by_feed text.now)) numbers.now) }
 {
@@ -55,7 +55,7 @@ fn not_allowed(alloc: Global, text: &str, numbers: &[usize]) -> Result<Vec<usize
     let mut told = Vec::new(alloc);
     for number in numbers {
         let line = lines.line_at(*number).unwrap_or("");
-        if !is_allowed(alloc, line, "unused-label")? {
+        if !is_allowed(alloc, line, UNUSED)? {
             told.push(*number)?;
         }
     }
@@ -63,7 +63,7 @@ fn not_allowed(alloc: Global, text: &str, numbers: &[usize]) -> Result<Vec<usize
 }
 
 /// How many labels there are more.
-fn more_text(alloc: Global, more: usize) -> Result<String, AllocError>
+fn more_text(alloc: Global, more: usize) -> Result<String>
     ensures { IfOk result (λ text. string_bytes text ≡ more_labels more) }
 {
     if more == 1 {
@@ -74,11 +74,7 @@ fn more_text(alloc: Global, more: usize) -> Result<String, AllocError>
 }
 
 /// The same warnings, where the last tells how many labels there are more.
-fn telling_more(
-    alloc: Global,
-    mut warnings: Vec<Note>,
-    more: usize,
-) -> Result<Vec<Note>, AllocError>
+fn telling_more(alloc: Global, mut warnings: Vec<Note>, more: usize) -> Result<Vec<Note>>
     ensures lines { IfOk result (λ told. StayOnLines warnings.items told.items) }
     ensures more { IfOk result (λ told. 1 ≤ length warnings.items → TellMore more told.items) }
 {
@@ -94,7 +90,7 @@ fn telling_more(
 
 /// The warnings of labels that no line jumps to and no comment allows: of the first 20 each on its
 /// line, and how many there are more.
-pub(crate) fn label_warnings(alloc: Global, text: &str) -> Result<Vec<Note>, AllocError>
+pub(crate) fn label_warnings(alloc: Global, text: &str) -> Result<Vec<Note>>
     ensures { IfOk result (λ warnings. AreLabelsTold (lines_by_feed text.now) warnings.items) }
 {
     let unused = unused_labels(alloc, text)?;

@@ -8,6 +8,7 @@ ghost use Rattle.session.specs.Parts.{sections_view};
 ghost use Rattle.table_check.specs.Tables.{table_view};
 ghost use Rattle.texts.specs.Words.{lines_by_feed};
 
+use crate::Result;
 use crate::input::program_text;
 use crate::note::note_on;
 use crate::warning::allowed::is_allowed;
@@ -18,7 +19,7 @@ use notes::{Level, LineFinder, Note};
 use program_lints::{ProgramLint, program_lints};
 use seq_program::Program;
 use session::{Judged, place_lines};
-use std::alloc::{AllocError, Global};
+use std::alloc::Global;
 use table_check::Judgement;
 
 /// The warning of a lint on this line, if no comment there allows it.
@@ -29,7 +30,7 @@ fn lint_warning(
     number: usize,
     line: Option<&str>,
     lint: &ProgramLint,
-) -> Result<Option<Note>, AllocError>
+) -> Result<Option<Note>>
     ensures { IfOk result (λ note. MatchOption
         (warned_number number (option_copied line.entry) lint.now) (note ≡ None)
         (λ n. IsSomeAnd note
@@ -56,7 +57,7 @@ fn lint_warnings(
     program: &Program,
     text: &str,
     lints: &[ProgramLint],
-) -> Result<Vec<Note>, AllocError>
+) -> Result<Vec<Note>>
     ensures { IfOk result (λ warnings.
         AreToldOf (lines_by_feed text.now) lints.now warnings.items) }
 {
@@ -80,7 +81,7 @@ pub(crate) fn program_warnings(
     board: &Board,
     program: &Program,
     judged: &Judged,
-) -> Result<Vec<Note>, AllocError>
+) -> Result<Vec<Note>>
     ensures { IfOk result (λ warnings. WarnsOfJudgement (sections_view sections.now) board.now
         program.now (table_view judged.now.table) judged.now.judgement warnings.items) }
 {

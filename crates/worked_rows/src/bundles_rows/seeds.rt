@@ -1,22 +1,25 @@
 //! The section of a seed.
 
 use crate::expected::same;
-use bundles::{BundleFault, read_bundle, seed_in};
+use bundles::{BundleFault, Flaw, read_bundle, seed_in};
 use std::alloc::{AllocError, Global};
 use std::process::Abort;
 use std::test::*;
 
-/// What stands below `%seed`, in line 4, and its seed or the line of its fault.
-static ROWS: [(&str, Result<u64, usize>); 9] = [
+/// What stands below `%seed`, in line 4, and its seed or the line of its fault with its flaw.
+static ROWS: [(&str, Result<u64, BundleFault>); 9] = [
     ("\n0\n", Ok(0)),
     ("\n# the third\n\n7\n  \n", Ok(7)),
     ("\n18446744073709551615", Ok(u64::MAX)),
-    ("\n18446744073709551616", Err(5)),
-    ("\n07", Err(5)),
-    ("\n-1", Err(5)),
-    ("\n7 ", Err(5)),
-    ("\n", Err(5)),
-    ("\n7\n\n7\n", Err(7)),
+    (
+        "\n18446744073709551616",
+        Err(BundleFault::BadSeed(5, Flaw::Whole)),
+    ),
+    ("\n07", Err(BundleFault::BadSeed(5, Flaw::Whole))),
+    ("\n-1", Err(BundleFault::BadSeed(5, Flaw::Whole))),
+    ("\n7 ", Err(BundleFault::BadSeed(5, Flaw::Whole))),
+    ("\n", Err(BundleFault::BadSeed(5, Flaw::NoLine))),
+    ("\n7\n\n7\n", Err(BundleFault::BadSeed(7, Flaw::Second))),
 ];
 
 fn seed_below(alloc: Global, below: &str) -> Result<Option<Result<u64, BundleFault>>, AllocError> {
@@ -32,8 +35,7 @@ fn seed_below(alloc: Global, below: &str) -> Result<Option<Result<u64, BundleFau
 
 fn all_read(rt: &impl Abort, alloc: Global) -> Result<(), AllocError> {
     for (below, want) in &ROWS {
-        let want = Some(want.map_err(BundleFault::BadSeed));
-        same(rt, (below, seed_below(alloc, below)?), (below, want));
+        same(rt, (below, seed_below(alloc, below)?), (below, Some(*want)));
     }
     Ok(())
 }
