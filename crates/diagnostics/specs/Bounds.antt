@@ -9,7 +9,8 @@ use Rattle.table_check.specs.declared.checker.breach.Judgement.{Judgement}
 use Rattle.table_check.specs.declared.checker.breach.Judgement.TheVariants as judgements
 use Rattle.diagnostics.specs.declared.bound.Beside.{Beside}
 use Rattle.diagnostics.specs.declared.bound.Beside.TheVariants as beside
-use Rattle.diagnostics.specs.ProgramPlaces.{program_lines, IsOnPlace}
+use Rattle.diagnostics.specs.ProgramPlaces.{program_lines}
+use Rattle.refusal_notes.specs.Places.{IsOnPlace}
 
 -- on the line of the first instruction, where it accepts
 abbrev pub IsBoundOfJudgement : List Section → Judgement → Option Note → Type 0

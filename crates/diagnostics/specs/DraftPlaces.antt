@@ -8,7 +8,7 @@ use Rattle.notes.specs.declared.note.Note.{Note}
 use Rattle.session.specs.SectionTexts.{section_text}
 use Rattle.session.specs.declared.draft_fault.DraftFault.{DraftFault}
 use Rattle.session.specs.declared.draft_fault.DraftFault.TheVariants as faults
-use Rattle.diagnostics.specs.Boards.{IsOnSomeLine}
+use Rattle.text_notes.specs.Boards.{IsOnSomeLine}
 
 -- on a line of the board
 abbrev pub IsOnBoard : List Section → Option Note → Type 0

@@ -1,6 +1,6 @@
 -- The note on what became of an input: where it stands.
 use Rattle.std.specs.Prelude.{◌≡◌, ◌≢◌, ℕ, List, Option, None, MatchOption, MatchResult, IsSomeAnd}
-use Rattle.std.specs.Prelude.{codes, slice_get, string_bytes, unwrap_or}
+use Rattle.std.specs.Prelude.{codes, slice_get, string_bytes}
 use Rattle.texts.specs.Words.{lines_by_feed}
 use Rattle.board.specs.declared.fault.FaultKind.TheVariants.{Memory}
 use Rattle.seq_program.specs.Faults.{line_of}
@@ -16,8 +16,9 @@ use Rattle.table_check.specs.declared.checker.breach.Judgement.TheVariants as ju
 use Rattle.notes.specs.declared.level.Level.TheVariants.{Error}
 use Rattle.notes.specs.declared.note.Note.{Note}
 use Rattle.notes.specs.Notes.{IsOn}
-use Rattle.diagnostics.specs.AnswerPlaces.{counted_line, run_line}
-use Rattle.diagnostics.specs.Boards.{IsOnSomeLine}
+use Rattle.run_notes.specs.AnswerPlaces.{run_line}
+use Rattle.run_notes.specs.Messages.{message_line}
+use Rattle.text_notes.specs.Boards.{IsOnSomeLine}
 use Rattle.diagnostics.specs.DraftPlaces.{IsOnDraftFault}
 use Rattle.diagnostics.specs.BundlePlaces.{IsOnFault}
 use Rattle.diagnostics.specs.ProgramPlaces.{program_lines, IsOnRefusal}
@@ -42,8 +43,7 @@ abbrev pub IsOnMessage : List Section → Option Note → Type 0
 IsOnMessage sections note =
     MatchOption (slice_get sections 0) (note ≡ None)
     (λ section. IsSomeAnd note
-    (IsOn Error (codes "%message")
-    (unwrap_or (counted_line 0 (lines_by_feed (section_text section))) 1)
+    (IsOn Error (codes "%message") (message_line (lines_by_feed (section_text section)))
     (lines_by_feed (section_text section))))
 
 -- on the line of the answers that has the fault, if it is one's

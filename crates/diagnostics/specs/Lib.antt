@@ -1,8 +1,5 @@
 pub mod ProgramPlaces
-pub mod AnswerPlaces
-pub mod AnswerLaws
 pub mod BundlePlaces
-pub mod Boards
 pub mod DraftPlaces
 pub mod Inputs
 pub mod ProgramWarnings

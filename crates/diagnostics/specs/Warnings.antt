@@ -1,7 +1,7 @@
 -- What is warned of: the lints of a board and of an accepted program, and the first instruction of
 -- a run that breaks a rule.
 use Rattle.std.specs.Prelude.{◌≡◌, ℕ, List, [], Option, Some, None, MatchOption, IsSomeAnd, All}
-use Rattle.std.specs.Prelude.{Result, Ok, Err, length, option_map}
+use Rattle.std.specs.Prelude.{Result, Ok, Err, length, option_map, slice_get, unwrap_or}
 use Rattle.board.specs.Boards.{Board}
 use Rattle.seq_program.specs.declared.instr.Instr.{Instr}
 use Rattle.board_lints.specs.Lints.{Lints, AreLints}
@@ -11,17 +11,26 @@ use Rattle.bundles.specs.Bundles.{Section}
 use Rattle.session.specs.declared.outcome.Judged.{Judged}
 use Rattle.session.specs.declared.outcome.Outcome.{Outcome}
 use Rattle.session.specs.declared.outcome.Outcome.TheVariants as outcomes
+use Rattle.notes.specs.declared.level.Level.TheVariants.{Warning}
 use Rattle.notes.specs.declared.note.Note.{Note}
-use Rattle.diagnostics.specs.Boards.{board_lines, IsBoardWarning}
+use Rattle.session.specs.SectionTexts.{section_text}
+use Rattle.texts.specs.Words.{lines_by_feed}
 use Rattle.diagnostics.specs.LabelWarnings.{WarnsOfLabels}
-use Rattle.diagnostics.specs.ProgramPlaces.{IsWarningAt}
+use Rattle.diagnostics.specs.ProgramPlaces.{program_lines}
+use Rattle.refusal_notes.specs.Places.{IsWarningAt}
+use Rattle.text_notes.specs.Boards.{IsOnBoardLine}
 use Rattle.diagnostics.specs.ProgramWarnings.{WarnsOfJudged}
 use Rattle.diagnostics.specs.declared.warning.Warnings.{Warnings}
+
+-- the lines of a bundle's board
+abbrev pub board_lines : List Section → List (List ℕ)
+board_lines sections =
+    lines_by_feed (unwrap_or (option_map section_text (slice_get sections 0)) [])
 
 -- each lint of a board and a program on it has a warning, on a line of the board
 pub record WarnsOfBoard (sections : List Section) (b : Board) (p : List Instr)
     (warnings : List Note) : Type 0 where
-  pub lines : All (IsBoardWarning (board_lines sections)) warnings
+  pub lines : All (IsOnBoardLine Warning (board_lines sections)) warnings
   pub lints : Lints
   pub are_lints : AreLints b p lints
   pub each : length warnings ≡ length lints
@@ -30,7 +39,7 @@ pub record WarnsOfBoard (sections : List Section) (b : Board) (p : List Instr)
 abbrev pub WarnsOfBreach : List Section → Option Breach → Option Note → Type 0
 WarnsOfBreach sections found note =
     MatchOption found (note ≡ None)
-    (λ x. IsSomeAnd note (IsWarningAt sections x.place))
+    (λ x. IsSomeAnd note (IsWarningAt (program_lines sections) x.place))
 
 -- what is warned of a board, a program on it, the judgement on that, and a run that breaks a rule
 pub record WarnsOf (sections : List Section) (b : Board) (p : List Instr) (judged : Option Judged)

@@ -1,30 +1,20 @@
 //! Notes on what can't be drafted.
 
-ghost use Rattle.std.specs.Prelude.{◌≡◌, IfOk, codes, string_bytes};
-ghost use Rattle.texts.specs.Words.{lines_by_feed};
-ghost use Rattle.diagnostics.specs.Boards.{IsOnSomeLine};
+ghost use Rattle.std.specs.Prelude.{IfOk, string_bytes};
 ghost use Rattle.diagnostics.specs.DraftPlaces.{IsOnBoard, IsOnDraftFault};
-ghost use Rattle.notes.specs.Notes.{IsOn};
 ghost use Rattle.session.specs.Parts.{sections_view};
 
 use crate::Result;
-use crate::boards::{NamedLine, limit_of, line_or_first, place_of, saying_lines};
-use crate::note::{marked, note_in, note_on};
-use crate::plan_line::{blamed_at, line_remark};
-use crate::program::column::word_at;
-use crate::refusal::detail::greatest_within;
-use crate::refusal::facts_here::{rail_word, target_word};
-use crate::sentence::Word::{Command, Count, Entry, Text, Voltage};
-use crate::sentence::{Advice, Sentence, say};
 use board::{Board, Place};
 use bundles::{Section, form_word};
 use facts::Rule;
-use notes::{Level, Note, line_at};
-use plans::PlanFault;
+use notes::Note;
+use sentences::Word::{Command, Count, Entry, Limit, Rail, Target, Text};
+use sentences::{Advice, Sentence, say};
 use session::{DraftFault, Planned, section_of};
 use smbus::Form;
 use std::alloc::Global;
-use texts::without_comment;
+use text_notes::{plan_note, site_note};
 
 const ALL_TOGETHER: &str =
     "take out one of the `needs`, or of the plan's `order`, through which they wait";
@@ -36,24 +26,9 @@ const FEWER: &str =
     "pages, voltages and reading PAGE back take instructions: leave wishes out, or bring up a part \
      of the rails by hand";
 
-/// The note on a plan's bad line.
-fn plan_note(alloc: Global, board: &Board, plan: &str, fault: PlanFault) -> Result<Note>
-    ensures { IfOk result
-        (IsOn Level.Error (codes "%plan") fault.line (lines_by_feed plan.now)) }
-{
-    let line = line_at(plan, fault.line).unwrap_or("");
-    let remark = line_remark(alloc, board, line, fault.why)?;
-    let note = note_in(alloc, Level::Error, "%plan", plan, fault.line, remark)?;
-    marked(
-        alloc,
-        note,
-        word_at(without_comment(line), blamed_at(fault.why)),
-    )
-}
-
 /// What is said of an entry that is missing.
 fn no_entry(board: &Board, target: usize, form: Form, code: u8) -> Advice<'_> {
-    let target = target_word(board, target);
+    let target = Target(board, target);
     let entry = Entry(form_word(form), Some(code));
     say![
         "the program would send " {Command(code)} " to " {target}
@@ -63,12 +38,13 @@ fn no_entry(board: &Board, target: usize, form: Form, code: u8) -> Advice<'_> {
 }
 
 /// What a rail's voltages are up to, where the plan wishes one over that.
-fn over_limit(board: &Board, rail: usize) -> Option<Sentence<'_>> {
-    let (limit, exponent) = limit_of(board, rail)?;
-    let greatest = Voltage(greatest_within(exponent, limit)?, u64::from(limit));
+fn over_limit(board: &Board, index: usize) -> Option<Sentence<'_>> {
+    let rail = board.rail(index)?;
+    let device = board.target(rail.target())?;
+    let limit = Limit(rail.limit_uv(), device.exponent());
     Some(say![
-        "the voltage that the plan wishes for " {rail_word(board, rail)}
-        " is over its limit: it takes up to " {greatest}
+        "the voltage that the plan wishes for " {Rail(board, index)}
+        " is over its limit: it takes up to " {limit}
     ])
 }
 
@@ -96,7 +72,7 @@ fn advice_on(board: &Board, fault: DraftFault) -> Advice<'_> {
         DraftFault::BadPlan(fault) =>
             say!["line " {Count(fault.line)} " of the plan is no wish"].alone(),
         DraftFault::Circle(rail) => say![
-            "no order can place " {rail_word(board, rail)}
+            "no order can place " {Rail(board, rail)}
             ": it waits for rails that wait for one another"
         ]
         .with_text(ALL_TOGETHER),
@@ -120,23 +96,6 @@ fn site_of(fault: DraftFault) -> (Place, &'static str) {
     }
 }
 
-/// The note on a line of a board file with this text.
-fn on_board_note(
-    alloc: Global,
-    text: &str,
-    board: &Board,
-    fault: DraftFault,
-) -> Result<Option<Note>>
-    ensures { IfOk result (IsOnSomeLine text.now) }
-{
-    let lines = saying_lines(alloc, text)?;
-    let (site, key) = site_of(fault);
-    let place = place_of(&lines, site, Some(key));
-    let NamedLine { number, line } = line_or_first(text, &lines, place);
-    let remark = advice_on(board, fault).told(alloc)?;
-    Ok(Some(note_on(alloc, Level::Error, "%board", number, line, remark)?))
-}
-
 /// The note on a bundle's board.
 fn board_note(
     alloc: Global,
@@ -146,10 +105,12 @@ fn board_note(
 ) -> Result<Option<Note>>
     ensures { IfOk result (IsOnBoard (sections_view sections.now)) }
 {
-    match section_of(alloc, sections, 0)? {
-        Some(text) => on_board_note(alloc, &text, board, fault),
-        None => Ok(None),
-    }
+    let Some(text) = section_of(alloc, sections, 0)? else {
+        return Ok(None);
+    };
+    let (table, key) = site_of(fault);
+    let remark = advice_on(board, fault).told(alloc)?;
+    Ok(Some(site_note(alloc, &text, table, key, remark)?))
 }
 
 /// The note on why there is no draft.

@@ -7,35 +7,32 @@ ghost use Rattle.notes.specs.Notes.{IsOn};
 ghost use Rattle.board.specs.declared.fault.FaultKind.TheVariants.{Memory};
 ghost use Rattle.session.specs.SectionTexts.{section_text};
 ghost use Rattle.session.specs.Parts.{sections_view};
+ghost use Rattle.text_notes.specs.Boards.{IsOnSomeLine};
 ghost use Rattle.texts.specs.Words.{lines_by_feed};
-ghost use Rattle.diagnostics.specs.Boards.{IsOnSomeLine};
 ghost use Rattle.diagnostics.specs.DraftPlaces.{IsOnDraftFault};
 ghost use Rattle.diagnostics.specs.Inputs.{IsOnLine, IsOnUnread, IsOnJudgement, IsErrorOf};
 ghost use Rattle.diagnostics.specs.Inputs.{IsOnMessage, IsOnRunFault};
 ghost use Rattle.diagnostics.specs.ProgramPlaces.{program_lines, IsOnRefusal};
 
 use crate::Result;
-use crate::boards::board_note;
 use crate::bundle::bundle_note;
 use crate::drafted::draft_fault_note;
-use crate::frame::frame_note;
-use crate::note::note_in;
-use crate::program::program_note;
-use crate::refusal::reason::{cause_of, loop_cause, unverified_cause};
-use crate::refusal::roads::Judged as Judging;
-use crate::refusal::{RefusalKind, detailed_note};
-use crate::remark::Remark;
-use crate::run::run_note;
 use board::{Board, BoardFault};
-use bundles::Section;
+use bundles::{Exchange, Section};
 use notes::{Level, Note};
-use seq_program::{Program, ProgramFault};
+use refusal_notes::{check_note, gave_up_note, verify_note};
+use run_notes::{answer_note, frame_note};
+use sentences::{note_in, say};
+use seq_program::ProgramFault;
 use session::{
     Case, Checked, Drafted, Framed, Judged, Outcome, Ran, Searched, Sequence, Trial, Unread,
-    Verified, place_lines, section_of,
+    Verified, section_of,
 };
+use simulator::RunFault;
+use smbus::SmbusFault;
 use std::alloc::Global;
-use table_check::{Judgement, Refusal};
+use table_check::Judgement;
+use text_notes::{board_note, program_note};
 
 /// The text of a bundle's program, or nothing.
 pub(crate) fn program_text(alloc: Global, sections: &[Section<'_>]) -> Result<String>
@@ -93,42 +90,6 @@ fn unread_note(
     }
 }
 
-/// The note on a program that is refused with a table that was read.
-fn broken_note(
-    alloc: Global,
-    sections: &[Section<'_>],
-    trial: &Trial,
-    judged: &Judged,
-    refusal: Refusal,
-) -> Result<Option<Note>>
-    ensures { IfOk result (IsOnRefusal (sections_view sections.now) refusal.place) }
-{
-    let program = program_text(alloc, sections)?;
-    let lines = place_lines(alloc, &program)?;
-    let judging = Judging {
-        board: &trial.board,
-        program: &trial.program,
-        lines: &lines,
-        table: &judged.table,
-    };
-    let (kind, cause) = cause_of(alloc, judging, refusal)?;
-    detailed_note(alloc, &program, refusal.place, kind, cause)
-}
-
-/// The note on a place at which the search gave up.
-fn gave_up_note(
-    alloc: Global,
-    sections: &[Section<'_>],
-    program: &Program,
-    place: usize,
-) -> Result<Option<Note>>
-    ensures { IfOk result (IsOnRefusal (sections_view sections.now) place) }
-{
-    let written = program_text(alloc, sections)?;
-    let cause = loop_cause(alloc, program, &written, place)?;
-    detailed_note(alloc, &written, place, RefusalKind::GaveUp, cause)
-}
-
 /// The note on a table that was judged.
 fn verdict_note(
     alloc: Global,
@@ -140,31 +101,11 @@ fn verdict_note(
 {
     match judged.judgement {
         Judgement::Accepted { .. } => Ok(None),
-        Judgement::Refused(refusal) => broken_note(alloc, sections, trial, judged, refusal),
+        Judgement::Refused(refusal) => {
+            let text = program_text(alloc, sections)?;
+            check_note(alloc, &text, trial, judged, refusal)
+        }
     }
-}
-
-/// A table that was found, with its board and its program, whose places have these lines.
-pub(crate) fn as_found<'a>(
-    sequence: &'a Sequence,
-    lines: &'a [usize],
-    judged: &'a Judged,
-) -> Judging<'a> {
-    Judging {
-        board: &sequence.board,
-        program: &sequence.program,
-        lines,
-        table: &judged.table,
-    }
-}
-
-/// What may help where the first line is none of a table.
-fn version_help(alloc: Global, number: usize) -> Result<Option<String>> {
-    if number != 1 {
-        return Ok(None);
-    }
-    let help = "a table that counts lost arbitrations begins with the line `version 2`";
-    Ok(Some(String::from_str(alloc, help)?))
 }
 
 /// The note on a line that is none of a table.
@@ -172,9 +113,35 @@ fn table_note(alloc: Global, table: &str, number: usize) -> Result<Note>
     ensures { IfOk result
         (IsOn Level.Error (codes "%table") number (lines_by_feed table.now)) }
 {
-    let message = String::from_str(alloc, "no table of this board goes on with this line")?;
-    let remark = Remark::new(message, version_help(alloc, number)?);
-    note_in(alloc, Level::Error, "%table", table, number, remark)
+    let message = say!["no table of this board goes on with this line"];
+    let advice = if number == 1 {
+        message.with_text("a table that counts lost arbitrations begins with the line `version 2`")
+    } else {
+        message.alone()
+    };
+    note_in(
+        alloc,
+        Level::Error,
+        "%table",
+        table,
+        number,
+        advice.told(alloc)?,
+    )
+}
+
+/// The note on a message that has no frame.
+fn message_note(
+    alloc: Global,
+    sections: &[Section<'_>],
+    exchange: &Exchange,
+    fault: SmbusFault,
+) -> Result<Option<Note>>
+    ensures { IfOk result (IsOnMessage (sections_view sections.now)) }
+{
+    match section_of(alloc, sections, 0)? {
+        Some(text) => Ok(Some(frame_note(alloc, &text, exchange, fault)?)),
+        None => Ok(None),
+    }
 }
 
 /// The note on a message and its answer, if they have no frame.
@@ -184,8 +151,24 @@ fn framed_note(alloc: Global, sections: &[Section<'_>], framed: &Framed) -> Resu
 {
     match &framed.told {
         Ok(_) => Ok(None),
-        Err(fault) => frame_note(alloc, sections, &framed.exchange, *fault),
+        Err(fault) => message_note(alloc, sections, &framed.exchange, *fault),
     }
+}
+
+/// The note on the fault of a run.
+fn run_note(
+    alloc: Global,
+    sections: &[Section<'_>],
+    ran: &Ran<'_>,
+    fault: RunFault,
+) -> Result<Option<Note>>
+    ensures { IfOk result (IsOnRunFault (sections_view sections.now) fault) }
+{
+    let Some(answers) = section_of(alloc, sections, 2)? else {
+        return Ok(None);
+    };
+    let program = section_of(alloc, sections, 1)?.unwrap_or(String::new(alloc));
+    answer_note(alloc, ran, &program, &answers, fault)
 }
 
 /// The note on a run, if it fails.
@@ -213,6 +196,19 @@ fn checked_note(alloc: Global, sections: &[Section<'_>], checked: &Checked) -> R
     }
 }
 
+/// The note on a place at which the search gave up.
+fn stopped_note(
+    alloc: Global,
+    sections: &[Section<'_>],
+    sequence: &Sequence,
+    place: usize,
+) -> Result<Option<Note>>
+    ensures { IfOk result (IsOnRefusal (sections_view sections.now) place) }
+{
+    let text = program_text(alloc, sections)?;
+    gave_up_note(alloc, &text, &sequence.program, place)
+}
+
 /// The note on a program whose facts were searched for, if the search gave up.
 fn searched_note(
     alloc: Global,
@@ -224,25 +220,26 @@ fn searched_note(
 {
     match &searched.found {
         Ok(_) => Ok(None),
-        Err(place) => gave_up_note(alloc, sections, &searched.sequence.program, *place),
+        Err(place) => stopped_note(alloc, sections, &searched.sequence, *place),
     }
 }
 
-/// The note on a program that isn't verified.
-fn unverified_note(
+/// The note on a program that was to be verified, with the judgement on the facts that were found.
+fn found_note(
     alloc: Global,
     sections: &[Section<'_>],
     verified: &Verified,
     judged: &Judged,
-    refusal: Refusal,
 ) -> Result<Option<Note>>
-    ensures { IfOk result (IsOnRefusal (sections_view sections.now) refusal.place) }
+    ensures { IfOk result (IsOnJudgement (sections_view sections.now) judged.now.judgement) }
 {
-    let program = program_text(alloc, sections)?;
-    let lines = place_lines(alloc, &program)?;
-    let judging = as_found(&verified.sequence, &lines, judged);
-    let (kind, cause) = unverified_cause(alloc, judging, refusal, verified.shown.as_ref())?;
-    detailed_note(alloc, &program, refusal.place, kind, cause)
+    match judged.judgement {
+        Judgement::Accepted { .. } => Ok(None),
+        Judgement::Refused(refusal) => {
+            let text = program_text(alloc, sections)?;
+            verify_note(alloc, &text, verified, judged, refusal)
+        }
+    }
 }
 
 /// The note on a program that was to be verified, if it is refused.
@@ -256,13 +253,8 @@ fn verified_note(
         (λ place. IsOnRefusal (sections_view sections.now) place note)) }
 {
     match &verified.judged {
-        Ok(judged) => match judged.judgement {
-            Judgement::Accepted { .. } => Ok(None),
-            Judgement::Refused(refusal) => {
-                unverified_note(alloc, sections, verified, judged, refusal)
-            }
-        },
-        Err(place) => gave_up_note(alloc, sections, &verified.sequence.program, *place),
+        Ok(judged) => found_note(alloc, sections, verified, judged),
+        Err(place) => stopped_note(alloc, sections, &verified.sequence, *place),
     }
 }
 

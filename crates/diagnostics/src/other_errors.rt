@@ -11,7 +11,6 @@ ghost use Rattle.texts.specs.Words.{lines_by_feed};
 
 use crate::Result;
 use crate::input::program_text;
-use crate::program::{Written, note_at};
 use board::Board;
 use bundles::Section;
 use notes::{LineFinder, Note};
@@ -19,6 +18,7 @@ use seq_program::{LineFaults, ProgramFault, other_faults};
 use session::{Case, Outcome, Unread};
 use std::alloc::Global;
 use std::fmt;
+use text_notes::Written;
 
 /// How many lines are told beside the first: twenty in all.
 const MOST_TOLD: usize = 19;
@@ -73,7 +73,7 @@ fn notes_of(alloc: Global, board: &Board, text: &str, faults: &[ProgramFault]) -
     for fault in faults {
         if let Some(number) = fault.line() {
             let line = lines.line_at(number);
-            notes.push(note_at(alloc, &written, number, line, *fault)?)?;
+            notes.push(written.note_on(alloc, number, line, *fault)?)?;
         }
     }
     Ok(notes)

@@ -2,7 +2,6 @@
 
 ghost use Rattle.std.specs.Prelude.{◌≡◌, option_map, IfOk};
 ghost use Rattle.diagnostics.specs.LabelWarnings.{WarnsOfLabels};
-ghost use Rattle.diagnostics.specs.ProgramPlaces.{IsWarningAt};
 ghost use Rattle.diagnostics.specs.ProgramWarnings.{WarnsOfJudged};
 ghost use Rattle.diagnostics.specs.Warnings.{AreWarningsOf, WarnsOfBoard, WarnsOfBreach, judged_in};
 ghost use Rattle.session.specs.Parts.{sections_view};
@@ -15,86 +14,18 @@ mod program_warning;
 
 use crate::Result;
 use crate::input::program_text;
-use crate::note::note_in;
-use crate::refusal::cause::Cause;
-use crate::refusal::detail::instr_cause;
-use crate::refusal::{RefusalKind, blaming, page_of};
-use crate::remark::Remark;
 use crate::warning::board_warning::board_warnings;
 use crate::warning::label_warning::label_warnings;
 use crate::warning::program_warning::program_warnings;
 use board::Board;
 use bundles::Section;
-use facts::{Row, Rule};
-use notes::{Level, Note};
-use run_monitor::{Breach, Reached};
+use notes::Note;
+use refusal_notes::breach_note;
+use run_monitor::Reached;
 use seq_program::Program;
-use session::{Case, Judged, Outcome, Scenario, Sequence, Trial, place_line};
+use session::{Case, Judged, Outcome, Scenario, Sequence, Trial};
 use std::alloc::Global;
 use table_check::Judgement;
-
-/// What breaks a rule, in a sentence.
-fn sentence_of(rule: Rule) -> &'static str {
-    match rule {
-        Rule::K1 => "K1: no entry of the target's `allow` permits this",
-        Rule::K2 => "K2: this reads at a page, and PAGE is FFh, all pages",
-        Rule::K3 => "K3: what WRITE_PROTECT is here forbids this write",
-        Rule::K4 => "K4: this commands a voltage over the limit of a rail that it touches",
-        Rule::K5 => {
-            "K5: this turns on a rail, and a rail that it needs hasn't reported good, or was \
-             turned off since"
-        }
-        Rule::K6 | Rule::K7 | Rule::K8 | Rule::K9 => "the rules aren't kept here",
-    }
-}
-
-/// What is to blame for a breach.
-fn cause_of(
-    alloc: Global,
-    board: &Board,
-    program: &Program,
-    breach: Breach,
-    row: &Row,
-) -> Result<Cause> {
-    match program.at(breach.place) {
-        Some(instr) => instr_cause(alloc, board, instr, row),
-        None => Ok(Cause::none()),
-    }
-}
-
-/// What is said of a breach.
-fn remark_on(
-    alloc: Global,
-    board: &Board,
-    program: &Program,
-    breach: Breach,
-    row: &Row,
-) -> Result<Remark> {
-    let Breach { index, rule, .. } = breach;
-    let cause = cause_of(alloc, board, program, breach, row)?;
-    let sentence = sentence_of(rule);
-    let sentence = format!(in alloc; "{sentence} (answer {index} of the run)")?;
-    blaming(alloc, &sentence, RefusalKind::Breaks(rule), cause.blame)
-}
-
-/// The warning of a breach, on its place's line.
-fn breach_warning(
-    alloc: Global,
-    sections: &[Section<'_>],
-    board: &Board,
-    program: &Program,
-    breach: Breach,
-    row: &Row,
-) -> Result<Note>
-    ensures { IfOk result (IsWarningAt (sections_view sections.now) breach.place) }
-{
-    let text = program_text(alloc, sections)?;
-    let number = place_line(alloc, &text, breach.place)?.unwrap_or(1);
-    let remark = remark_on(alloc, board, program, breach, row)?;
-    let note = note_in(alloc, Level::Warning, "%program", &text, number, remark)?;
-    let page = page_of(RefusalKind::Breaks(breach.rule));
-    Ok(Note { page, ..note })
-}
 
 /// The warning of a run.
 fn run_warning(
@@ -108,8 +39,9 @@ fn run_warning(
         (option_map (λ x. x.now.breach) found.entry)) }
 {
     match found {
-        Some(Reached { breach, row }) => {
-            Ok(Some(breach_warning(alloc, sections, board, program, *breach, row)?))
+        Some(reached) => {
+            let text = program_text(alloc, sections)?;
+            Ok(Some(breach_note(alloc, &text, board, program, reached)?))
         }
         None => Ok(None),
     }

@@ -40,13 +40,19 @@ mod pmbus_table_rows;
 #[cfg(test)]
 mod program_lints_rows;
 #[cfg(test)]
+mod refusal_notes_rows;
+#[cfg(test)]
 mod run_monitor_rows;
+#[cfg(test)]
+mod run_notes_rows;
 #[cfg(test)]
 mod run_player_rows;
 #[cfg(test)]
 mod runs;
 #[cfg(test)]
 mod search_rows;
+#[cfg(test)]
+mod sentences_rows;
 #[cfg(test)]
 mod seq_program_rows;
 #[cfg(test)]
@@ -59,6 +65,8 @@ mod smbus_rows;
 mod table_check_rows;
 #[cfg(test)]
 mod targets_rows;
+#[cfg(test)]
+mod text_notes_rows;
 #[cfg(test)]
 mod texts_rows;
 #[cfg(test)]

@@ -6,8 +6,8 @@ ghost use Rattle.std.specs.Str.{bytes_eq};
 ghost use Rattle.diagnostics.specs.ProgramWarnings.{allows, is_allowed};
 
 use crate::Result;
-use crate::sentence::Word::Text;
-use crate::sentence::{Sentence, say};
+use sentences::Word::Text;
+use sentences::{Sentence, say};
 use std::alloc::Global;
 use texts::{comment_in, words_of};
 

@@ -1,55 +1,19 @@
 //! Warnings of boards.
 
-ghost use Rattle.std.specs.Prelude.{◌≡◌, All, IfOk, length, string_bytes};
-ghost use Rattle.diagnostics.specs.Boards.{board_lines, IsBoardWarning, IsNumbered};
-ghost use Rattle.diagnostics.specs.Warnings.{WarnsOfBoard};
+ghost use Rattle.std.specs.Prelude.{◌≡◌, IfOk, string_bytes};
+ghost use Rattle.diagnostics.specs.Warnings.{WarnsOfBoard, board_lines};
 ghost use Rattle.session.specs.Parts.{sections_view};
 ghost use Rattle.texts.specs.Words.{lines_by_feed};
 
 use crate::Result;
-use crate::boards::{
-    NamedLine, SayingLine, line_or_first, place_of, remark_of, saying_lines, site_of,
-};
-use crate::note::note_on;
 use board::Board;
-use board_lints::{Lint, lints_on};
+use board_lints::lints_on;
 use bundles::Section;
-use notes::{Level, Note};
+use notes::Note;
 use seq_program::Program;
 use session::section_of;
 use std::alloc::Global;
-
-/// The warning of a lint of a board file with these lines, on one of them.
-fn warning_on(
-    alloc: Global,
-    text: &str,
-    lines: &[SayingLine<'_>],
-    board: &Board,
-    lint: &Lint,
-) -> Result<Note>
-    requires { All (IsNumbered (lines_by_feed text.now)) lines.now }
-    ensures { IfOk result (IsBoardWarning (lines_by_feed text.now)) }
-{
-    let (site, key) = site_of(lint);
-    let place = place_of(lines, site, Some(key));
-    let NamedLine { number, line } = line_or_first(text, lines, place);
-    let remark = remark_of(alloc, board, lint)?;
-    note_on(alloc, Level::Warning, "%board", number, line, remark)
-}
-
-/// The warnings of lints of a board file, each on a line of it.
-fn notes_of(alloc: Global, text: &str, board: &Board, lints: &[Lint]) -> Result<Vec<Note>>
-    ensures lines { IfOk result
-        (λ notes. All (IsBoardWarning (lines_by_feed text.now)) notes.items) }
-    ensures each { IfOk result (λ notes. length notes.items ≡ length lints.now) }
-{
-    let lines = saying_lines(alloc, text)?;
-    let mut notes = Vec::new(alloc);
-    for lint in lints {
-        notes.push(warning_on(alloc, text, &lines, board, lint)?)?;
-    }
-    Ok(notes)
-}
+use text_notes::lint_notes;
 
 /// The text of a bundle's board, or nothing.
 fn board_text(alloc: Global, sections: &[Section<'_>]) -> Result<String>
@@ -79,5 +43,5 @@ pub(crate) fn board_warnings(
         return Ok(Vec::new(alloc));
     }
     let text = board_text(alloc, sections)?;
-    notes_of(alloc, &text, board, &lints)
+    lint_notes(alloc, &text, board, &lints)
 }

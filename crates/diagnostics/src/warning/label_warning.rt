@@ -8,12 +8,10 @@ ghost use Rattle.notes.specs.Notes.{IsQuoting};
 ghost use Rattle.texts.specs.Words.{lines_by_feed};
 
 use crate::Result;
-use crate::note::note_on;
-use crate::remark::Remark;
-use crate::sentence::say;
 use crate::warning::allowed::{allowing, is_allowed};
 use notes::{Level, LineFinder, Note};
 use program_lints::unused_labels;
+use sentences::{note_on, say};
 use std::alloc::Global;
 
 /// How many labels are warned of by themselves at most.
@@ -27,8 +25,10 @@ fn label_warning(alloc: Global, number: usize, line: Option<&str>) -> Result<Not
     ensures { IfOk result
         (IsQuoting Level.Warning (codes "%program") number (option_copied line.entry)) }
 {
-    let help = Some(allowing("take it out", UNUSED, "it is meant"));
-    let remark = Remark::told(alloc, say!["no line jumps to this label"], help)?;
+    let help = allowing("take it out", UNUSED, "it is meant");
+    let remark = say!["no line jumps to this label"]
+        .with_help(help)
+        .told(alloc)?;
     note_on(alloc, Level::Warning, "%program", number, line, remark)
 }
 

@@ -1,14 +1,12 @@
 //! What is said of a lint of a program.
 
 use crate::Result;
-use crate::refusal::facts_here::{rail_word, rails_text, target_word};
-use crate::remark::Remark;
-use crate::sentence::Word::Text;
-use crate::sentence::{Sentence, say};
 use crate::warning::allowed::allowing;
 use board::Board;
 use facts::GoodSet;
 use program_lints::ProgramLint;
+use sentences::Word::{Names, Rail, Target};
+use sentences::{Remark, Sentence, rail_names, say};
 use seq_program::{Instr, Program};
 use std::alloc::Global;
 
@@ -36,7 +34,7 @@ fn meaning(lint: &ProgramLint) -> &'static str {
 
 /// That a rail may be turned off too soon, or isn't known to be good at the end.
 fn need_lost(board: &Board, is_end: bool, need: usize, rail: usize) -> Sentence<'_> {
-    let (need, rail) = (rail_word(board, need), rail_word(board, rail));
+    let (need, rail) = (Rail(board, need), Rail(board, rail));
     if is_end {
         say![
             "the program ends here, and " {need} " isn't known to be good while " {rail}
@@ -52,23 +50,23 @@ fn message_of<'a>(
     board: &'a Board,
     lint: &ProgramLint,
     is_end: bool,
-    rails: &'a str,
+    rails: &'a [&'a str],
 ) -> Sentence<'a> {
     match lint {
         ProgramLint::OnAtFail { .. } => {
-            say!["the program fails here and may leave on: " {Text(rails)}]
+            say!["the program fails here and may leave on: " {Names(rails)}]
         }
         ProgramLint::BeforeVoltage { rail, .. } => say![
-            "this may turn on rail " {rail_word(board, *rail)} " before a voltage was written to it"
+            "this may turn on rail " {Rail(board, *rail)} " before a voltage was written to it"
         ],
         ProgramLint::NeedLost { need, rail, .. } => need_lost(board, is_end, *need, *rail),
         ProgramLint::Unreached { .. } => say!["nothing leads here"],
         ProgramLint::ProtectLeft { target, .. } => say![
-            "the program ends here and may leave WRITE_PROTECT of " {target_word(board, *target)}
+            "the program ends here and may leave WRITE_PROTECT of " {Target(board, *target)}
             " otherwise than it began"
         ],
         ProgramLint::NoRail { target, .. } => say![
-            "this may reach a page of " {target_word(board, *target)}
+            "this may reach a page of " {Target(board, *target)}
             " that has no [[rail]], so no limit and no need is known of it"
         ],
         ProgramLint::UnservedAlert { .. } => {
@@ -93,7 +91,7 @@ pub(crate) fn lint_remark(
     lint: &ProgramLint,
 ) -> Result<Remark> {
     let is_end = matches!(program.at(lint.place()), Some(Instr::End));
-    let rails = rails_text(alloc, board, rails_of(lint))?;
+    let rails = rail_names(alloc, board, rails_of(lint))?;
     let message = message_of(board, lint, is_end, &rails);
     let help = allowing(mending(lint, is_end), lint.name(), meaning(lint));
     message.with_help(help).told(alloc)

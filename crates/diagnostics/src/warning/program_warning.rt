@@ -10,13 +10,13 @@ ghost use Rattle.texts.specs.Words.{lines_by_feed};
 
 use crate::Result;
 use crate::input::program_text;
-use crate::note::note_on;
 use crate::warning::allowed::is_allowed;
 use crate::warning::program_lint::lint_remark;
 use board::Board;
 use bundles::Section;
 use notes::{Level, LineFinder, Note};
 use program_lints::{ProgramLint, program_lints};
+use sentences::note_on;
 use seq_program::Program;
 use session::{Judged, place_lines};
 use std::alloc::Global;

@@ -12,7 +12,7 @@ use Rattle.seq_program.specs.Faults.{line_of}
 use Rattle.texts.specs.Words.{lines_by_feed}
 use Rattle.diagnostics.proofs.ToldLines.{AreNoted, IsNoteOn, next_is, one_noted, none_noted}
 use Rattle.diagnostics.proofs.other_errors.notes_of.Goals as goal
-use Rattle.diagnostics.proofs.other_errors.notes_of.Goals.{in-Some+in_ok-note_at+in_ok-push}
+use Rattle.diagnostics.proofs.other_errors.notes_of.Goals.{in-Some+in_ok-note_on+in_ok-push}
 use Rattle.diagnostics.proofs.other_errors.notes_of.Goals.{in_default}
 
 pub loop-fault-preserved : goal.loop-fault-preserved
@@ -27,12 +27,12 @@ loop-fault-preserved c =
     map (λ (n : Note). n.line) old ++ filter_map line_of xs ≡ filter_map line_of all) next
     inv.told in
     elim c.match-line.branch [
-      | in-Some+in_ok-note_at+in_ok-push w ↦
+      | in-Some+in_ok-note_on+in_ok-push w ↦
           let found = w.line_at-line.ensures lines inv.finds in
-          let note = w.in_ok-note_at.field-0 in
+          let note = w.in_ok-note_on.field-0 in
           let number = w.in-Some.number in
           let on = subst (λ (line : Option (List ℕ)).
-          IsQuoting Error (codes "%program") number line note) found.1 w.in_ok-note_at.ensures in
+          IsQuoting Error (codes "%program") number line note) found.1 w.in_ok-note_on.ensures in
           let noted = subst (λ (line : Option ℕ). IsNoteOn Error lines line (Some note))
           (sym w.in-Some.is ∙ c.line.ensures) on in
           let items = ap (λ (v : Vec Note Global). v.items) w.notes-is

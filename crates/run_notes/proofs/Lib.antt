@@ -1,0 +1,2 @@
+mod CountedLines
+mod FoundAnswers

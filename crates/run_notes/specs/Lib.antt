@@ -1,0 +1,3 @@
+pub mod AnswerPlaces
+pub mod AnswerLaws
+pub mod Messages

@@ -1,0 +1,65 @@
+//! A start that the board doesn't name.
+
+use crate::Result;
+use board::Board;
+use sentences::Word::{Bytes, Count, Hex, Name, Target, Text};
+use sentences::{Advice, Kept, Remark, say};
+use session::Scenario;
+use std::alloc::Global;
+
+/// What is wrong with a list of another length.
+fn bad_count(board: &Board, kept: Kept, values: &[u8]) -> Option<Advice<'static>> {
+    let (found, wanted) = (values.len(), board.targets().len());
+    if found == wanted {
+        return None;
+    }
+    Some(say![
+        "values of " {Text(kept.command())} ": expected " {Count(wanted)} ", found "
+        {Count(found)}
+    ]
+    .with_help(say!["one for each target, in the board's order"]))
+}
+
+/// The first target that doesn't start with its value, by its index, and that value.
+fn first_other(board: &Board, kept: Kept, values: &[u8]) -> Option<(usize, u8)> {
+    for (index, target) in board.targets().iter().enumerate() {
+        let value = values.get(index).copied().unwrap_or(0);
+        if !kept.starts(target).contains(&value) {
+            return Some((index, value));
+        }
+    }
+    None
+}
+
+/// What is wrong with a value that its target doesn't start with.
+fn bad_value(board: &Board, kept: Kept, index: usize, value: u8) -> Advice<'_> {
+    let starts = board
+        .target(index)
+        .map_or(&[][..], |target| kept.starts(target));
+    let (target, value) = (Target(board, index), Hex(u16::from(value), 2));
+    say![{target} " doesn't start with " {Text(kept.command())} " " {value}].with_help(
+        say!["its " {Name(kept.key())} " on the board: " {Bytes(starts)}],
+    )
+}
+
+/// What is said of the start of a scenario.
+pub(crate) fn bad_start(alloc: Global, scenario: &Scenario<'_>) -> Result<Remark> {
+    let board = &scenario.board;
+    let starts = [
+        (Kept::Page, scenario.answers.pages.as_slice()),
+        (Kept::Protect, scenario.answers.protects.as_slice()),
+    ];
+    for (kept, values) in starts {
+        if let Some(advice) = bad_count(board, kept, values) {
+            return advice.told(alloc);
+        }
+    }
+    for (kept, values) in starts {
+        if let Some((index, value)) = first_other(board, kept, values) {
+            return bad_value(board, kept, index, value).told(alloc);
+        }
+    }
+    say!["a start that the board doesn't name"]
+        .alone()
+        .told(alloc)
+}

@@ -1,0 +1,5 @@
+pub mod Words
+pub mod Sentences
+pub mod Kept
+pub mod Rails
+pub mod Marked

@@ -1,0 +1,107 @@
+-- What the words of a sentence say.
+use Rattle.std.specs.Prelude.{◌==◌, ◌&&◌, ◌++◌, ◌∷◌, ℕ, List, [], false, Option, Some}
+use Rattle.std.specs.Prelude.{None, codes, if◌then◌else◌, nat_lt, option_map, slice_get, true}
+use Rattle.std.specs.Prelude.{Bool, ℤ, pos, negsuc, ◌*◌, ◌/◌, ◌^◌, int_le, unsigned_abs, unwrap_or}
+use Rattle.std.specs.Borrow.{Bor}
+use Rattle.std.specs.Fmt.{decimal, digits, ◌++?◌}
+use Rattle.std.specs.List.{filter, join_by, range_with_len}
+use Rattle.texts.specs.Hex as hex
+use Rattle.pmbus_table.specs.Commands.{command_at, name_text}
+use Rattle.pmbus_table.specs.Protect.{permits}
+use Rattle.pmbus_table.specs.Codes.{all_pages}
+use Rattle.facts.specs.domain.Sets.{Set, pages_in, protects_in}
+use Rattle.notes.specs.ShownLines.{quoted}
+use Rattle.sentences.specs.declared.word.Word.{Word}
+use Rattle.sentences.specs.declared.word.Word.TheVariants as words
+
+-- the name of an index, if there is one
+abbrev pub name_at : ℕ → List (List ℕ) → List ℕ
+name_at index names = unwrap_or (slice_get names index) []
+
+-- `"a", "b"`
+abbrev pub names_text : List (Bor (List ℕ)) → List ℕ
+names_text [] = []
+names_text (name ∷ names) =
+    codes "\"" ++ (join_by (λ n. n.now) (codes "\", \"") (name ∷ names) ++ codes "\"")
+
+-- a span of numbers, or the only one
+abbrev pub span_text : ℕ → ℕ → List ℕ
+span_text low high =
+    if low == high then decimal low else decimal low ++ (codes " to " ++ decimal high)
+
+-- upper case hexadecimal digits: four, at least two, or as many as there are
+abbrev pub hex_text : ℕ → ℕ → List ℕ
+hex_text number count =
+    if count == 4 then hex.word_text number
+    else if (count == 2) && nat_lt number 256 then hex.pair_text number
+    else digits 16 true number
+
+-- bytes of two digits, each behind a text, and a text between each two
+abbrev pub bytes_text : List ℕ → List ℕ → List ℕ → List ℕ
+bytes_text before between bytes = join_by (λ byte. before ++ hex.pair_text byte) between bytes
+
+-- the values of PAGE in a set: pages 0 to 31, and FFh for all (PMBus 1.3 Part II, 11.10)
+abbrev pub page_values : Set → List ℕ
+page_values set = filter set (range_with_len 0 32) ++ filter set (all_pages ∷ [])
+
+-- the values that WRITE_PROTECT may have (PMBus 1.3 Part II, 11.1)
+abbrev pub protections : List ℕ
+protections = 0x00 ∷ 0x20 ∷ 0x40 ∷ 0x80 ∷ []
+
+-- those that permit a write of a command
+abbrev pub permitting : ℕ → List ℕ
+permitting code = filter (λ value. unwrap_or (permits value code) false) protections
+
+-- the name of a command, if there is one
+abbrev pub command_text : ℕ → List ℕ
+command_text code = unwrap_or (option_map name_text (command_at code)) []
+
+-- what is read by a command from a target, or what that sends by itself
+abbrev pub read_text : Option ℕ → List ℕ → Option (List ℕ)
+read_text None name = Some (codes "what ") ++? (quoted name ++? Some (codes " sends"))
+read_text (Some code) name = Some (command_text code ++ codes " of ") ++? quoted name
+
+-- an entry of `allow`, as a board file has it
+abbrev pub entry_text : List ℕ → Option ℕ → List ℕ
+entry_text form None = codes "{form = \"" ++ (form ++ codes "\"}")
+entry_text form (Some code) =
+    codes "{form = \"" ++ (form ++ (codes "\", command = \"" ++ (command_text code ++ codes "\"}")))
+
+-- exponents of voltages are -16 to 0
+abbrev pub is_exponent : ℤ → Bool
+is_exponent exponent = int_le (negsuc 15) exponent && int_le exponent (pos 0)
+
+-- a limit in microvolts, and before it the greatest mantissa within it at an exponent: a voltage is
+-- a mantissa times two to that (PMBus 1.3 Part II, 8.4)
+abbrev pub limit_text : ℕ → ℤ → List ℕ
+limit_text limit exponent =
+    if is_exponent exponent
+    then decimal (limit * 2 ^ unsigned_abs exponent / 1000000)
+    ++ (codes ", " ++ (decimal limit ++ codes " uV"))
+    else decimal limit ++ codes " uV"
+
+-- what a word says; nothing is claimed of a name that isn't ASCII
+abbrev pub said : Word → Option (List ℕ)
+said words.Nothing = Some []
+said (words.Text text) = Some text.now
+said (words.Name name) = quoted name.now
+said (words.Target board index) = quoted (name_at index board.now.target_names)
+said (words.Rail board index) = quoted (name_at index board.now.rail_names)
+said (words.Names names) = Some (names_text names.now)
+said (words.Listed texts) = Some (join_by (λ t. t.now) (codes ", ") texts.now)
+said (words.Count count) = Some (decimal count)
+said (words.Number number) = Some (decimal number)
+said (words.Span low high) = Some (span_text low high)
+said (words.Hex number count) = Some (hex_text number count)
+said (words.Bytes bytes) = Some (bytes_text [] (codes ", ") bytes.now)
+said (words.Pages pages) =
+    Some (bytes_text [] (codes ", ") (page_values (pages_in pages.now)))
+said (words.Protects protects) =
+    Some (bytes_text [] (codes ", ") (filter (protects_in protects.now) protections))
+said (words.Command code) = Some (command_text code)
+said (words.Read code name) = read_text code name.now
+said (words.Entry form code) = Some (entry_text form.now code)
+said (words.Permitting code) = Some (bytes_text (codes "0x") (codes " or ") (permitting code))
+said (words.Voltage mantissa microvolts) =
+    Some (decimal mantissa ++ (codes ", " ++ (decimal microvolts ++ codes " uV")))
+said (words.Limit limit exponent) = Some (limit_text limit exponent)
