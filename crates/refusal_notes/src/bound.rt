@@ -44,13 +44,8 @@ fn turns_text(alloc: Global, judged: Judged<'_>, turns: &Turns) -> Result<String
 
 /// What the loops that stand in no other take.
 fn ticks_in_loops(turns: &[Turns]) -> u64 {
-    let mut ticks = 0u64;
-    for turns in turns {
-        if turns.depth == 0 {
-            ticks = ticks.saturating_add(turns.ticks);
-        }
-    }
-    ticks
+    let outer = turns.iter().filter(|turns| turns.depth == 0);
+    outer.fold(0, |ticks, turns| ticks.saturating_add(turns.ticks))
 }
 
 /// Adds what a bound has beyond a way.

@@ -41,12 +41,7 @@ fn edges_beyond(
 
 /// Whether a rule fails at a place, by what is known on one of some edges to it.
 fn breaks(judged: Judged<'_>, place: usize, rule: Rule, edges: &[Edge]) -> bool {
-    for (to, row, _) in edges {
-        if *to == place && judged.broken_at(place, row) == Some(rule) {
-            return true;
-        }
-    }
-    false
+    edges.iter().any(|(to, row, _)| *to == place && judged.broken_at(place, row) == Some(rule))
 }
 
 /// Whether a rule fails at the end of a way, by what a table says of its first place and the edges
@@ -55,8 +50,7 @@ fn fails_along(alloc: Global, judged: Judged<'_>, way: &[usize], rule: Rule) -> 
     let [first, inner @ .., last] = way else {
         return Ok(true);
     };
-    let mut lists = Vec::new(alloc);
-    lists.push(judged.edges(alloc, *first)?)?;
+    let mut lists = vec![in alloc; judged.edges(alloc, *first)?]?;
     for place in inner {
         lists = edges_beyond(alloc, judged, *place, &lists)?;
     }

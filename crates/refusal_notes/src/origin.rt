@@ -81,12 +81,12 @@ impl<'a> BadWay<'a> {
 
     /// The last step whose instruction reads STATUS_WORD of a target.
     fn last_report(self, target: usize) -> Option<&'a Step> {
-        for step in self.way.iter().rev() {
-            if reads_status(self.judged.program.at(step.place)?, target) {
-                return Some(step);
-            }
-        }
-        None
+        let program = self.judged.program;
+        self.way.iter().rev().find(|step| {
+            program
+                .at(step.place)
+                .is_some_and(|instr| reads_status(instr, target))
+        })
     }
 
     /// What a report was read at, of a rail that it doesn't show good.
@@ -223,10 +223,9 @@ fn reads_status(instr: &Instr, target: usize) -> bool {
 
 /// Whether a target has more than one page.
 fn has_pages(board: &Board, target: usize) -> bool {
-    match board.target(target) {
-        Some(target) => target.pages() > 1,
-        None => false,
-    }
+    board
+        .target(target)
+        .is_some_and(|target| target.pages() > 1)
 }
 
 /// The value of PAGE that selects a rail where this is known.
@@ -239,10 +238,5 @@ fn selecting(row: &Row, rail: &Rail) -> u8 {
 
 /// Whether a set has this page and no other.
 fn is_only(pages: &PageSet, page: u8) -> bool {
-    for other in 0..=255u8 {
-        if pages.contains(other) != (other == page) {
-            return false;
-        }
-    }
-    true
+    (0..=u8::MAX).all(|other| pages.contains(other) == (other == page))
 }

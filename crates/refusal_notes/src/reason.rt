@@ -132,12 +132,8 @@ fn blame_of(alloc: Global, judged: Judged<'_>, refusal: Refusal) -> Result<Cause
 
 /// Whether what is left at some place is the most that a row may have.
 fn is_full(table: &Table) -> bool {
-    for row in table.rows.iter().flatten() {
-        if row.base == MOST_TICKS || row.coeffs.contains(&MOST_TICKS) {
-            return true;
-        }
-    }
-    false
+    let mut rows = table.rows.iter().flatten();
+    rows.any(|row| row.base == MOST_TICKS || row.coeffs.contains(&MOST_TICKS))
 }
 
 /// Why a program isn't verified, for whose ticks no bound was found.

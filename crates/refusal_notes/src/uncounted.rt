@@ -25,39 +25,27 @@ fn counter_set(instr: &Instr) -> Option<usize> {
 
 /// Whether a turn of a loop sets a counter.
 fn sets(program: &Program, turn: &[usize], counter: usize) -> bool {
-    for place in turn {
-        if let Some(instr) = program.at(*place) {
-            if counter_set(instr) == Some(counter) {
-                return true;
-            }
-        }
-    }
-    false
+    turn.iter().any(|place| program.at(*place).and_then(|instr| counter_set(instr))
+        == Some(counter))
 }
 
 /// The counters that a turn of a loop counts down, from a place on through these.
 fn counters_down(alloc: Global, program: &Program, turn: &[usize]) -> Result<Vec<usize>> {
-    let mut counters = Vec::new(alloc);
     let behind = turn.iter().skip(1).chain(turn.first());
-    for (place, next) in turn.iter().zip(behind) {
-        if let Some(counter) = program
-            .at(*place)
-            .and_then(|instr| counted_down(instr, *next))
-        {
-            counters.push(counter)?;
-        }
-    }
-    Ok(counters)
+    turn.iter()
+        .zip(behind)
+        .filter_map(|(place, next)| counted_down(program.at(*place)?, *next))
+        .collect(alloc)
 }
 
 /// Whether a counter bounds how often a turn of a loop is made: it falls there, and isn't set.
 fn is_counted(alloc: Global, program: &Program, turn: &[usize]) -> Result<bool> {
-    for counter in counters_down(alloc, program, turn)? {
-        if !sets(program, turn, counter) {
-            return Ok(true);
-        }
-    }
-    Ok(false)
+    let counters = counters_down(alloc, program, turn)?;
+    Ok(
+        counters
+            .iter()
+            .any(|counter| !sets(program, turn, *counter)),
+    )
 }
 
 /// The shortest turn that jumps back from a place and that no counter bounds.
@@ -110,11 +98,8 @@ pub(crate) fn uncounted_text(
         return Ok(None);
     };
     let route = route_of(alloc, lines, &turn)?;
-    let last = turn
-        .last()
-        .and_then(|place| lines.get(*place))
-        .copied()
-        .unwrap_or(0);
+    let last = turn.last().and_then(|place| lines.get(*place).copied());
+    let last = last.unwrap_or(0);
     Ok(Some(format!(in alloc;
         "no counter bounds the loop of {route}, which jumps back in line {last}"
     )?))

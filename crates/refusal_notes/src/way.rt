@@ -15,12 +15,11 @@ struct Search {
 impl Search {
     /// Only the first place is reached.
     fn new(alloc: Global, places: usize, first: usize) -> Result<Search> {
-        let mut from = Vec::new(alloc);
-        for place in 0..places {
-            from.push(if place == first { Some(first) } else { None })?;
+        let mut from = vec![in alloc; None; places]?;
+        if let Some(reached) = from.get_mut(first) {
+            *reached = Some(first);
         }
-        let mut order = Vec::new(alloc);
-        order.push(first)?;
+        let order = vec![in alloc; first]?;
         Ok(Search { from, order })
     }
 
@@ -44,14 +43,13 @@ impl Search {
 
     /// The place from where another was first reached.
     fn place_before(&self, place: usize) -> Option<usize> {
-        let before = self.from.get(place).copied().flatten()?;
-        if before == place { None } else { Some(before) }
+        let before = self.from.get(place).copied().flatten();
+        before.filter(|before| *before != place)
     }
 
     /// The places from the first to one that was reached, both included.
     fn way_to(&self, alloc: Global, place: usize) -> Result<Vec<usize>> {
-        let mut way = Vec::new(alloc);
-        way.push(place)?;
+        let mut way = vec![in alloc; place]?;
         let mut here = place;
         for _ in 0..self.order.len() {
             let Some(before) = self.place_before(here) else {

@@ -67,16 +67,25 @@ fn fits_at_first(step: &Step, answer: &Answer) -> Result<bool> {
     Ok(step.takes(answer))
 }
 
-/// An answer with nothing but another controller.
-fn alone(alloc: Global, contender: &Contender) -> Result<Answer> {
-    Ok(Answer {
+/// An answer that says nothing.
+pub(crate) fn nothing(alloc: Global) -> Answer {
+    Answer {
         holds: Vec::new(alloc),
         refuse: None,
         value: 0,
         bytes: Vec::new(alloc),
         took: false,
         alerts: 0,
-        contender: Some(copy_of(contender)?),
+        contender: None,
+    }
+}
+
+/// An answer with nothing but another controller.
+fn alone(alloc: Global, contender: &Contender) -> Result<Answer> {
+    let contender = Some(copy_of(contender)?);
+    Ok(Answer {
+        contender,
+        ..nothing(alloc)
     })
 }
 

@@ -79,13 +79,11 @@ struct Here {
 
 /// What a row leaves.
 fn left_at(row: &Row, here: Here) -> u64 {
-    let mut left = row
-        .base
-        .saturating_add(row.lost_coeff.saturating_mul(here.losable));
-    for (coeff, counter) in row.coeffs.iter().zip(&here.counters) {
-        left = left.saturating_add(coeff.saturating_mul(*counter));
-    }
-    left
+    let lost = row.lost_coeff.saturating_mul(here.losable);
+    let turns = row.coeffs.iter().zip(&here.counters);
+    turns.fold(row.base.saturating_add(lost), |left, (coeff, counter)| {
+        left.saturating_add(coeff.saturating_mul(*counter))
+    })
 }
 
 /// The counters behind an instruction that leads to a place.
@@ -306,8 +304,7 @@ fn dear_way(alloc: Global, judged: Judged<'_>, favored: Favored) -> Result<Optio
 fn dearer(one: Option<Dearest>, other: Option<Dearest>) -> Option<Dearest> {
     match (one, other) {
         (Some(one), Some(other)) => Some(if other.ticks > one.ticks { other } else { one }),
-        (None, other) => other,
-        (one, None) => one,
+        (one, other) => one.or(other),
     }
 }
 
