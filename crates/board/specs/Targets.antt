@@ -1,5 +1,5 @@
 -- A target, as its table says: its name and the target, or its first fault.
-use Rattle.std.specs.Prelude.{ℕ, ℤ, pos, negsuc, int_le, List, [], ◌∷◌, ◌++◌, length, Bool, ◌&&◌}
+use Rattle.std.specs.Prelude.{ℕ, ℤ, List, [], ◌∷◌, ◌++◌, length, Bool, ◌&&◌}
 use Rattle.std.specs.Prelude.{◌==◌, not, nat_lt, Option, Some, None, unwrap_or, position, Result}
 use Rattle.std.specs.Prelude.{Ok, option_and_then, if◌then◌else◌}
 use Rattle.std.specs.List.{list_any}
@@ -7,6 +7,7 @@ use Rattle.toml.specs.Data.{Items, no_items, item, Members, as_integer}
 use Rattle.texts.specs.Reading.{◌>>=◌, some_or, value_if}
 use Rattle.bit_bus.specs.declared.plan.TheConstants.{LONGEST_HOLD}
 use Rattle.pmbus_table.specs.Protect.{is_protection}
+use Rattle.pmbus_table.specs.Voltage.{is_exponent}
 use Rattle.board.specs.declared.fault.BoardFault.{BoardFault}
 use Rattle.board.specs.declared.fault.FaultKind.TheVariants.{SameName, BadAddress}
 use Rattle.board.specs.declared.fault.FaultKind.TheVariants.{SameAddress, TooMany, BadExponent}
@@ -60,7 +61,7 @@ new_address table done ms = do
   value_if (key_fault SameAddress table key.Address) (not (has_address address done)) address
 
 abbrev pub exponent_of : ℤ → Option ℤ
-exponent_of z = if int_le (negsuc 15) z && int_le z (pos 0) then Some z else None
+exponent_of z = if is_exponent z then Some z else None
 
 abbrev pub exponent_at : Members → Option ℤ
 exponent_at ms =

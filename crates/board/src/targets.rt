@@ -24,7 +24,7 @@ use crate::site::Place;
 use crate::target::{Target, is_page_value};
 use bit_bus::LONGEST_HOLD;
 use indexmap::IndexSet;
-use pmbus_table::is_protection;
+use pmbus_table::{is_exponent, is_protection};
 use std::alloc::Global;
 use toml::{Table, Value};
 
@@ -125,7 +125,7 @@ fn exponent_at(table: &Table) -> Option<i8>
     ensures { result ≡ exponent_at (table_view table.now) }
 {
     let exponent = value_at(table, Key::Exponent)?.as_integer()?;
-    if -16 <= exponent && exponent <= 0 {
+    if is_exponent(exponent) {
         Some(exponent as i8)
     } else {
         None

@@ -32,45 +32,6 @@ fn has_alerts(program: &Program) -> bool {
     (0..program.places()).any(|place| program.at(place).is_some_and(looks_at_alerts))
 }
 
-/// The answer in which nothing is said.
-fn silence(alloc: Global) -> Answer {
-    Answer {
-        holds: Vec::new(alloc),
-        refuse: None,
-        value: 0,
-        bytes: Vec::new(alloc),
-        took: false,
-        alerts: 0,
-        contender: None,
-    }
-}
-
-/// The same other controller once more.
-fn copied_contender(contender: &Option<Contender>) -> Result<Option<Contender>, AllocError> {
-    match contender {
-        Some(contender) => Ok(Some(Contender {
-            address: contender.address,
-            read: contender.read,
-            bytes: contender.bytes.clone()?,
-            holds: contender.holds.clone()?,
-        })),
-        None => Ok(None),
-    }
-}
-
-/// The same answer once more.
-fn copied(answer: &Answer) -> Result<Answer, AllocError> {
-    Ok(Answer {
-        holds: answer.holds.clone()?,
-        bytes: answer.bytes.clone()?,
-        refuse: answer.refuse,
-        value: answer.value,
-        took: answer.took,
-        alerts: answer.alerts,
-        contender: copied_contender(&answer.contender)?,
-    })
-}
-
 /// Holds that cut a frame in a slot.
 fn cut_at(alloc: Global, slot: usize) -> Result<Vec<u16>, AllocError> {
     let mut holds = Vec::new(alloc);
@@ -114,7 +75,7 @@ fn reading(
     message: &Message,
     value: u16,
 ) -> Result<Answer, AllocError> {
-    let mut answer = silence(alloc);
+    let mut answer = Answer::silent(alloc);
     match message.form {
         Form::BlockRead | Form::BlockProcessCall => {
             answer.bytes.push((value & 0xff) as u8)?;
@@ -136,11 +97,11 @@ fn push_alert_answers(
     answers: &mut Vec<Answer>,
 ) -> Result<(), AllocError> {
     for target in board.targets() {
-        let mut answer = silence(alloc);
+        let mut answer = Answer::silent(alloc);
         answer.value = 2 * u16::from(target.address());
         answers.push(answer)?;
     }
-    let mut nobody = silence(alloc);
+    let mut nobody = Answer::silent(alloc);
     nobody.refuse = Some(0);
     answers.push(nobody)?;
     Ok(())
@@ -155,7 +116,7 @@ fn push_refused(
 ) -> Result<(), AllocError> {
     let last = sent_count(message).saturating_sub(1).min(65_535) as u16;
     for (byte, took) in [(last, false), (last, true), (0, false)] {
-        let mut answer = copied(like)?;
+        let mut answer = like.clone()?;
         answer.refuse = Some(byte);
         answer.took = took;
         answers.push(answer)?;
@@ -185,7 +146,7 @@ fn push_cut(
         (before, true),
         (0, false),
     ] {
-        let mut answer = copied(like)?;
+        let mut answer = like.clone()?;
         answer.holds = cut_at(alloc, slot)?;
         answer.took = took;
         answers.push(answer)?;
@@ -214,7 +175,7 @@ fn push_cut_reports(
         let Some(like) = answers.get(index) else {
             return Ok(());
         };
-        let mut answer = copied(like)?;
+        let mut answer = like.clone()?;
         answer.holds = cut_at(alloc, slot_count(message, like).saturating_sub(1))?;
         answers.push(answer)?;
     }
@@ -230,7 +191,7 @@ fn push_lost(
 ) -> Result<(), AllocError> {
     for address in board.foreign() {
         if *address < message.address {
-            let mut answer = silence(alloc);
+            let mut answer = Answer::silent(alloc);
             answer.contender = Some(Contender {
                 address: *address,
                 read: false,
@@ -246,7 +207,7 @@ fn push_lost(
 
 /// Adds an answer like this one in which these targets begin to alert.
 fn push_alert(answers: &mut Vec<Answer>, like: &Answer, alerts: u16) -> Result<(), AllocError> {
-    let mut answer = copied(like)?;
+    let mut answer = like.clone()?;
     answer.alerts = alerts;
     answers.push(answer)?;
     Ok(())
@@ -277,7 +238,7 @@ fn push_alerts(board: &Board, answers: &mut Vec<Answer>) -> Result<(), AllocErro
         let Some(like) = answers.get(index) else {
             return Ok(());
         };
-        let like = copied(like)?;
+        let like = like.clone()?;
         push_alerting(board, answers, &like)?;
     }
     Ok(())
@@ -292,8 +253,8 @@ fn push_others(
 ) -> Result<(), AllocError> {
     let done = answers.len();
     let like = match answers.first() {
-        Some(first) => copied(first)?,
-        None => silence(alloc),
+        Some(first) => first.clone()?,
+        None => Answer::silent(alloc),
     };
     push_refused(answers, message, &like)?;
     push_cut(alloc, board, answers, message, &like)?;
@@ -383,7 +344,7 @@ impl Chooser {
             | Form::SendByte
             | Form::WriteByte
             | Form::WriteWord
-            | Form::BlockWrite => Ok(answers.push(silence(alloc))?),
+            | Form::BlockWrite => Ok(answers.push(Answer::silent(alloc))?),
             Form::Alert => push_alert_answers(alloc, board, answers),
             _ => self.push_readings(alloc, board, answers, state, message),
         }
@@ -404,7 +365,7 @@ impl Chooser {
                 self.push_done(alloc, board, &mut answers, state, message)?;
                 push_others(alloc, board, &mut answers, message)?;
             }
-            None => answers.push(silence(alloc))?,
+            None => answers.push(Answer::silent(alloc))?,
         }
         if self.alerts {
             push_alerts(board, &mut answers)?;

@@ -1,6 +1,7 @@
 -- What `-` alone says.
 use Rattle.std.proofs.Common.{◌≡◌, ℕ, Ok, codes, refl}
-use Rattle.bundles.specs.AnswerLines.{silence, answer_in, answer_line_of}
+use Rattle.smbus.specs.Answered.{silence}
+use Rattle.bundles.specs.AnswerLines.{answer_in, answer_line_of}
 use Rattle.bundles.specs.AnswerWords.{answer_of}
 use Rattle.bundles.specs.ContenderWords.{contender_in}
 use Rattle.bundles.specs.Fields.{value_of, rest_of}

@@ -40,18 +40,6 @@ answer_in words = do
       (length (past_cholds (past_alerts words)) == 0)
       (record answer { took = took; alerts = alerts; contender = contender })
 
--- the answer of no words
-abbrev pub silence : Answered
-silence = record {
-  holds = [];
-  refuse = None;
-  value = 0;
-  bytes = [];
-  took = false;
-  alerts = 0;
-  contender = None;
-}
-
 -- `-` alone stands for no words
 abbrev pub without_dash : List Line → List Line
 without_dash (word ∷ []) = if bytes_eq word (codes "-") then [] else word ∷ []

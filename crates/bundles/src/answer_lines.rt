@@ -1,6 +1,6 @@
 ghost use Rattle.std.specs.Prelude.{◌≡◌, ◌≤◌, option_copied, All, IfOk};
 ghost use Rattle.texts.specs.Reading.{Gives};
-ghost use Rattle.bundles.specs.AnswerLines.{took_of, without_dash, silence, answer_in};
+ghost use Rattle.bundles.specs.AnswerLines.{took_of, without_dash, answer_in};
 ghost use Rattle.bundles.specs.AnswerLines.{answer_line_of};
 ghost use Rattle.bundles.specs.AnswerWords.{answer_of};
 ghost use Rattle.bundles.specs.Texts.{texts_of};
@@ -63,21 +63,6 @@ fn answer_in(alloc: Global, words: &mut Fields<'_>) -> Result<Answer, ReadError<
     })
 }
 
-/// The answer in which nothing is said.
-fn silence(alloc: Global) -> Answer
-    ensures { result ≡ silence }
-{
-    Answer {
-        holds: Vec::new(alloc),
-        refuse: None,
-        value: 0,
-        bytes: Vec::new(alloc),
-        took: false,
-        alerts: 0,
-        contender: None,
-    }
-}
-
 /// The answer that a line says: BadAnswer with this number and the line's flaw where it says none.
 /// Memory is answered where a growth was refused.
 pub fn answer_line_of(
@@ -90,7 +75,7 @@ pub fn answer_line_of(
 {
     // Most steps are answered so; the words needn't be looked at.
     if line == "-" {
-        return Ok(silence(alloc));
+        return Ok(Answer::silent(alloc));
     }
     let list = words_of(alloc, line)?;
     let mut words = Fields {

@@ -1,18 +1,15 @@
 //! The row of the start.
 
-ghost use Rattle.std.specs.Prelude.{◌<◌, ℕ, IfOk, IsTrue, All};
+ghost use Rattle.std.specs.Prelude.{IfOk, IsTrue, All};
 ghost use Rattle.board.specs.Boards.{Target};
 ghost use Rattle.board.specs.Valid.{IsTarget};
 ghost use Rattle.facts.specs.domain.Rows.{row_view};
-ghost use Rattle.facts.specs.domain.Sets.{is_page, is_protect, pages_in, protects_in, rails_in};
+ghost use Rattle.facts.specs.domain.Sets.{is_page, is_protect, pages_in, protects_in};
 ghost use Rattle.fact_search.specs.Starting.{HoldsJust, HoldEachStart, IsStartRow};
 
 use board::{Board, Target};
-use facts::{GoodSet, PageSet, ProtectSet, Row, Source, Span};
+use facts::{PageSet, ProtectSet, Row};
 use std::alloc::{AllocError, Global};
-
-/// The span of 0 alone.
-const ZERO: Span = Span { lo: 0, hi: 0 };
 
 /// The set of these pages.
 fn page_set(alloc: Global, values: &[u8]) -> Result<PageSet, AllocError>
@@ -31,16 +28,6 @@ fn protect_set(alloc: Global, values: &[u8]) -> Result<ProtectSet, AllocError>
     ensures { IfOk result (λ set. HoldsJust (protects_in set) values.now) }
 {
     match ProtectSet::of(alloc, values)? {
-        Some(set) => Ok(set),
-        None => unreachable!(),
-    }
-}
-
-/// The set of no rails.
-fn no_rail(alloc: Global) -> Result<GoodSet, AllocError>
-    ensures { IfOk result (λ set. (d : ℕ) → IsTrue (rails_in set d) → ⊥) }
-{
-    match GoodSet::of(alloc, &[])? {
         Some(set) => Ok(set),
         None => unreachable!(),
     }
@@ -79,17 +66,5 @@ pub(crate) fn start_row(alloc: Global, board: &Board) -> Result<Row, AllocError>
 {
     let pages = start_pages(alloc, board.targets())?;
     let protects = start_protects(alloc, board.targets())?;
-    let good = no_rail(alloc)?;
-    Ok(Row {
-        pages,
-        protects,
-        good,
-        regs: [ZERO; 8],
-        sources: [Source::None; 8],
-        counters: [ZERO; 4],
-        lost: ZERO,
-        base: 0,
-        coeffs: [0; 4],
-        lost_coeff: 0,
-    })
+    Ok(Row::at_start(pages, protects))
 }

@@ -1,11 +1,12 @@
 -- Voltages of a plan's lines.
-use Rattle.std.specs.Prelude.{◌≡◌, ℕ, ℤ, pos, negsuc, unsigned_abs, ◌+◌, ◌-◌, ◌*◌, ◌/◌, ◌^◌, ◌≤◌}
-use Rattle.std.specs.Prelude.{◌<◌, List, length, ◌==◌, ◌&&◌, nat_le, int_le, Option, Some, None}
+use Rattle.std.specs.Prelude.{◌≡◌, ℕ, ℤ, ◌+◌, ◌-◌, ◌*◌, ◌/◌, ◌^◌, ◌≤◌}
+use Rattle.std.specs.Prelude.{◌<◌, List, length, ◌==◌, ◌&&◌, nat_le, Option, Some, None}
 use Rattle.std.specs.Prelude.{option_and_then, option_map, IfSome, codes, if◌then◌else◌}
 use Rattle.std.specs.List.{list_all, before_first, after_first}
 use Rattle.std.specs.Char.{is_ascii_digit}
 use Rattle.std.specs.Str.Parse.{digits_value}
 use Rattle.texts.specs.Decimal.{decimal_within}
+use Rattle.pmbus_table.specs.Voltage.{mantissas_in_volt}
 use Rattle.plans.specs.Numbers.{before_ending}
 
 -- the millionths that one to six digits behind a point are
@@ -20,12 +21,6 @@ microvolts_of volts =
     option_and_then (λ whole. option_map (λ millionths. whole * 1000000 + millionths)
     (millionths_of (after_first (λ b. b == 46) volts)))
     (decimal_within 9999 (before_first (λ b. b == 46) volts))
-
--- at an exponent of a target so many mantissas are a volt
-abbrev pub mantissas_in_volt : ℤ → Option ℕ
-mantissas_in_volt exponent =
-    if int_le (negsuc 15) exponent && int_le exponent (pos 0)
-    then Some (2 ^ unsigned_abs exponent) else None
 
 -- where so many mantissas are a volt, the voltage of this one is nearest to the microvolts: they
 -- are apart by half a step at most, and half way between two the higher one is taken

@@ -4,9 +4,10 @@ ghost use Rattle.std.specs.Prelude.{◌≡◌, ◌≤◌, ◌<◌, IfSome};
 ghost use Rattle.std.specs.List.{list_all};
 ghost use Rattle.std.specs.Char.{is_ascii_digit};
 ghost use Rattle.plans.specs.Volts.{millionths_of, microvolts_of, nearest_mantissa, mantissa_of};
-ghost use Rattle.plans.specs.Volts.{mantissas_in_volt, nearest_among};
+ghost use Rattle.plans.specs.Volts.{nearest_among};
 
 use crate::number::before_ending;
+use pmbus_table::mantissas_in_volt;
 use texts::decimal_within;
 
 /// The microvolts of a volt.
@@ -46,18 +47,6 @@ fn microvolts_of(volts: &str) -> Option<u64>
     let whole = decimal_within(whole, MOST_VOLTS)?;
     let millionths = millionths_of(digits)?;
     Some(whole * MICROVOLTS_OF_VOLT + millionths)
-}
-
-/// How many mantissas are a volt at an exponent. `None` for one outside -16 to 0, which no target
-/// has.
-fn mantissas_in_volt(exponent: i8) -> Option<u64>
-    ensures value { result ≡ mantissas_in_volt exponent }
-    ensures few { IfSome result (λ n. n ≤ 65536) }
-{
-    if exponent < -16 || exponent > 0 {
-        return None;
-    }
-    Some(2u64.pow(u32::from(exponent.unsigned_abs())))
 }
 
 /// The mantissa whose voltage is nearest, and the higher one of two, if it has 16 bits.

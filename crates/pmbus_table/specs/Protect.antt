@@ -25,6 +25,10 @@ permitted protect =
     else if protect == 0x00 then Some (λ code. true)
     else None
 
+-- the four values, the least first
+abbrev pub protections : List ℕ
+protections = 0x00 ∷ 0x20 ∷ 0x40 ∷ 0x80 ∷ []
+
 -- whether a WRITE_PROTECT value is one of the four
 abbrev pub is_protection : ℕ → Bool
 is_protection protect = is_some (permitted protect)

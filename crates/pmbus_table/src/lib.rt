@@ -16,6 +16,6 @@ pub use command::{Command, by_code};
 pub use law::names_read_back;
 pub use name::{by_name, manufacturer_named, name_of};
 pub use operation::enables;
-pub use protect::{is_protection, permits};
+pub use protect::{PROTECTIONS, is_protection, permits};
 pub use status::{StatusWord, reported_good};
-pub use voltage::{carries_voltage, within};
+pub use voltage::{carries_voltage, is_exponent, mantissas_in_volt, within};

@@ -3,6 +3,9 @@ ghost use Rattle.pmbus_table.specs.Protect.{permits, is_protection};
 
 use crate::code::{ON_OFF_CONFIG, OPERATION, PAGE, VOUT_COMMAND, WRITE_PROTECT};
 
+/// The values of WRITE_PROTECT, the least first (PMBus 1.3 Part II, 11.1).
+pub const PROTECTIONS: [u8; 4] = [0x00, 0x20, 0x40, 0x80];
+
 /// Whether a WRITE_PROTECT value permits a write of a command code; `None` for a value that is
 /// none of 00h, 20h, 40h and 80h.
 pub fn permits(protect: u8, code: u8) -> Option<bool>

@@ -1,15 +1,15 @@
 //! Answers to alert responses.
 
-use crate::contended::nothing;
 use crate::step::Step;
 use sentences::Word::Hex;
 use sentences::{Sentence, say};
+use smbus::Answer;
 use std::alloc::Global;
 
 /// The byte that an alert response returns, if a target alerts: of those that alert the one that
 /// fits.
 fn alert_byte(alloc: Global, step: &Step) -> Option<u16> {
-    let mut answer = nothing(alloc);
+    let mut answer = Answer::silent(alloc);
     for target in step.board.targets() {
         answer.value = 2 * u16::from(target.address());
         if step.takes(&answer) {

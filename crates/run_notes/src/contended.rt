@@ -23,42 +23,11 @@ pub(crate) enum Clash {
     Address,
 }
 
-fn copy_of(contender: &Contender) -> Result<Contender> {
-    Ok(Contender {
-        address: contender.address,
-        read: contender.read,
-        bytes: contender.bytes.clone()?,
-        holds: contender.holds.clone()?,
-    })
-}
-
-fn contender_of(answer: &Answer) -> Result<Option<Contender>> {
-    match &answer.contender {
-        Some(contender) => Ok(Some(copy_of(contender)?)),
-        None => Ok(None),
-    }
-}
-
-pub(crate) fn copied(answer: &Answer) -> Result<Answer> {
-    Ok(Answer {
-        holds: answer.holds.clone()?,
-        refuse: answer.refuse,
-        value: answer.value,
-        bytes: answer.bytes.clone()?,
-        took: answer.took,
-        alerts: answer.alerts,
-        contender: contender_of(answer)?,
-    })
-}
-
 /// Whether an answer fits where no arbitration was lost before.
 fn fits_at_first(step: &Step, answer: &Answer) -> Result<bool> {
-    let bus = step.bus;
     let first = BusState {
-        page: bus.page.clone()?,
-        protect: bus.protect.clone()?,
-        alerting: bus.alerting,
         lost: 0,
+        ..step.bus.clone()?
     };
     let step = Step {
         bus: &first,
@@ -67,25 +36,11 @@ fn fits_at_first(step: &Step, answer: &Answer) -> Result<bool> {
     Ok(step.takes(answer))
 }
 
-/// An answer that says nothing.
-pub(crate) fn nothing(alloc: Global) -> Answer {
-    Answer {
-        holds: Vec::new(alloc),
-        refuse: None,
-        value: 0,
-        bytes: Vec::new(alloc),
-        took: false,
-        alerts: 0,
-        contender: None,
-    }
-}
-
 /// An answer with nothing but another controller.
 fn alone(alloc: Global, contender: &Contender) -> Result<Answer> {
-    let contender = Some(copy_of(contender)?);
     Ok(Answer {
-        contender,
-        ..nothing(alloc)
+        contender: Some(contender.clone()?),
+        ..Answer::silent(alloc)
     })
 }
 
@@ -104,9 +59,9 @@ pub(crate) fn clash_of(
     if step.takes(&alone(alloc, contender)?) {
         return Ok(Clash::Beside);
     }
-    let mut shorter = copy_of(contender)?;
+    let mut shorter = contender.clone()?;
     shorter.holds = Vec::new(alloc);
-    left.contender = Some(copy_of(&shorter)?);
+    left.contender = Some(shorter.clone()?);
     if step.takes(&left) {
         return Ok(Clash::Holds);
     }

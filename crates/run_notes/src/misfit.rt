@@ -2,7 +2,7 @@
 
 use crate::Result;
 use crate::alert::alert_misfit;
-use crate::contended::{Clash, clash_of, contended_misfit, copied};
+use crate::contended::{Clash, clash_of, contended_misfit};
 use crate::returned::returned_misfit;
 use crate::step::Step;
 use board::Board;
@@ -31,12 +31,14 @@ fn clash(alloc: Global, step: &Step) -> Result<Option<Part>> {
     let Some(contender) = &answer.contender else {
         return Ok(None);
     };
-    let mut without = copied(answer)?;
-    without.contender = None;
+    let without = Answer {
+        contender: None,
+        ..answer.clone()?
+    };
     if !step.takes(&without) {
         return Ok(None);
     }
-    let clash = clash_of(alloc, step, contender, copied(answer)?)?;
+    let clash = clash_of(alloc, step, contender, answer.clone()?)?;
     Ok(Some(Part::Contender(clash)))
 }
 
@@ -55,7 +57,7 @@ fn last_part(alloc: Global, step: &Step, left: Answer) -> Result<Part> {
 /// The first part that doesn't fit. The others are left out one after another, the last first,
 /// until what is left fits: so no rule is written here a second time.
 fn part_of(alloc: Global, step: &Step) -> Result<Part> {
-    let mut left = copied(step.answer)?;
+    let mut left = step.answer.clone()?;
     left.took = false;
     if step.takes(&left) {
         return Ok(Part::Took);

@@ -13,19 +13,6 @@ use smbus::{Answer, Form, Message, contender_over, sent_count, slot_count};
 use std::alloc::{AllocError, Global};
 use targets::{BusState, fits};
 
-/// The answer in which nothing is said.
-fn silence(alloc: Global) -> Answer {
-    Answer {
-        holds: Vec::new(alloc),
-        refuse: None,
-        value: 0,
-        bytes: Vec::new(alloc),
-        took: false,
-        alerts: 0,
-        contender: None,
-    }
-}
-
 /// Some of the targets that may alert, now and again.
 fn alerts(board: &Board, chance: &mut Chance) -> u16 {
     let mut bits = 0;
@@ -112,7 +99,7 @@ fn chosen(
     state: &BusState,
     message: Option<&Message>,
 ) -> Result<Answer, AllocError> {
-    let mut answer = silence(alloc);
+    let mut answer = Answer::silent(alloc);
     answer.alerts = alerts(values.board, chance);
     if let Some(message) = message {
         answer.contender = contender(alloc, values.board, chance)?;

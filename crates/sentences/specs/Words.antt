@@ -1,14 +1,15 @@
 -- What the words of a sentence say.
 use Rattle.std.specs.Prelude.{◌==◌, ◌&&◌, ◌++◌, ◌∷◌, ℕ, List, [], false, Option, Some}
 use Rattle.std.specs.Prelude.{None, codes, if◌then◌else◌, nat_lt, option_map, slice_get, true}
-use Rattle.std.specs.Prelude.{Bool, ℤ, pos, negsuc, ◌*◌, ◌/◌, ◌^◌, int_le, unsigned_abs, unwrap_or}
+use Rattle.std.specs.Prelude.{ℤ, ◌*◌, ◌/◌, unwrap_or}
 use Rattle.std.specs.Borrow.{Bor}
 use Rattle.std.specs.Fmt.{decimal, digits, ◌++?◌}
 use Rattle.std.specs.List.{filter, join_by, range_with_len}
 use Rattle.texts.specs.Hex as hex
 use Rattle.pmbus_table.specs.Commands.{command_at, name_text}
-use Rattle.pmbus_table.specs.Protect.{permits}
+use Rattle.pmbus_table.specs.Protect.{permits, protections}
 use Rattle.pmbus_table.specs.Codes.{all_pages}
+use Rattle.pmbus_table.specs.Voltage.{mantissas_in_volt}
 use Rattle.facts.specs.domain.Sets.{Set, pages_in, protects_in}
 use Rattle.notes.specs.ShownLines.{quoted}
 use Rattle.sentences.specs.declared.word.Word.{Word}
@@ -44,11 +45,7 @@ bytes_text before between bytes = join_by (λ byte. before ++ hex.pair_text byte
 abbrev pub page_values : Set → List ℕ
 page_values set = filter set (range_with_len 0 32) ++ filter set (all_pages ∷ [])
 
--- the values that WRITE_PROTECT may have (PMBus 1.3 Part II, 11.1)
-abbrev pub protections : List ℕ
-protections = 0x00 ∷ 0x20 ∷ 0x40 ∷ 0x80 ∷ []
-
--- those that permit a write of a command
+-- the values of WRITE_PROTECT that permit a write of a command
 abbrev pub permitting : ℕ → List ℕ
 permitting code = filter (λ value. unwrap_or (permits value code) false) protections
 
@@ -67,18 +64,15 @@ entry_text form None = codes "{form = \"" ++ (form ++ codes "\"}")
 entry_text form (Some code) =
     codes "{form = \"" ++ (form ++ (codes "\", command = \"" ++ (command_text code ++ codes "\"}")))
 
--- exponents of voltages are -16 to 0
-abbrev pub is_exponent : ℤ → Bool
-is_exponent exponent = int_le (negsuc 15) exponent && int_le exponent (pos 0)
+-- the greatest mantissa within a limit in microvolts, where so many mantissas are a volt
+abbrev pub greatest_text : ℕ → Option ℕ → List ℕ
+greatest_text limit None = []
+greatest_text limit (Some in_volt) = decimal (limit * in_volt / 1000000) ++ codes ", "
 
--- a limit in microvolts, and before it the greatest mantissa within it at an exponent: a voltage is
--- a mantissa times two to that (PMBus 1.3 Part II, 8.4)
+-- a limit, and before it the greatest mantissa within it at an exponent
 abbrev pub limit_text : ℕ → ℤ → List ℕ
 limit_text limit exponent =
-    if is_exponent exponent
-    then decimal (limit * 2 ^ unsigned_abs exponent / 1000000)
-    ++ (codes ", " ++ (decimal limit ++ codes " uV"))
-    else decimal limit ++ codes " uV"
+    greatest_text limit (mantissas_in_volt exponent) ++ (decimal limit ++ codes " uV")
 
 -- what a word says; nothing is claimed of a name that isn't ASCII
 abbrev pub said : Word → Option (List ℕ)

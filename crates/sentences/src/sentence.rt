@@ -124,7 +124,7 @@ impl<'a> Sentence<'a> {
     }
 }
 
-/// The text of a sentence, if there is one.
+/// The text of a sentence, if there is one. Fails only for want of memory.
 pub fn told(alloc: Global, sentence: Option<Sentence>) -> Result<Option<String>>
     ensures { IfOk result (λ text. TellsIfSome sentence.entry (option_map string_bytes text)) }
 {

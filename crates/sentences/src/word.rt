@@ -4,19 +4,19 @@ ghost use Rattle.std.specs.Prelude.{◌≡◌, ◌++◌, [], option_map, string_
 ghost use Rattle.std.specs.Prelude.{unwrap_or, IfOk, IfSome, OnOk};
 ghost use Rattle.std.specs.List.{filter, range_with_len};
 ghost use Rattle.texts.specs.Hex.{pair_text};
+ghost use Rattle.pmbus_table.specs.Protect.{protections};
 ghost use Rattle.facts.specs.domain.Sets.{pages_in, protects_in};
 ghost use Rattle.notes.specs.ShownLines.{quoted};
 ghost use Rattle.sentences.specs.Words.{bytes_text, command_text, entry_text, hex_text};
 ghost use Rattle.sentences.specs.Words.{limit_text, names_text, page_values, permitting};
-ghost use Rattle.sentences.specs.Words.{protections, read_text};
-ghost use Rattle.sentences.specs.Words.{said, span_text};
+ghost use Rattle.sentences.specs.Words.{read_text, said, span_text};
 
 use crate::Result;
 use board::Board;
 use facts::{PageSet, ProtectSet};
 use notes::Quoted;
 use pmbus_table::code::ALL_PAGES;
-use pmbus_table::{by_code, name_of, permits};
+use pmbus_table::{PROTECTIONS, by_code, mantissas_in_volt, name_of, permits};
 use std::alloc::Global;
 use texts::{push_pair, push_word as push_digits};
 
@@ -177,9 +177,6 @@ fn pages_of(alloc: Global, pages: &PageSet) -> Result<Vec<u8>>
     Ok(values)
 }
 
-/// The values that WRITE_PROTECT may have (PMBus 1.3 Part II, 11.1).
-const PROTECTIONS: [u8; 4] = [0x00, 0x20, 0x40, 0x80];
-
 /// The values of WRITE_PROTECT in a set.
 fn protects_of(alloc: Global, protects: &ProtectSet) -> Result<Vec<u8>>
     ensures { IfOk result
@@ -235,12 +232,11 @@ fn push_limit(text: &mut String, limit: u32, exponent: i8) -> Result<()>
     ensures { OnOk result
         (string_bytes text.new ≡ string_bytes text.old ++ limit_text limit exponent) }
 {
-    if exponent < -16 || exponent > 0 {
-        return write!(text, "{limit} uV");
+    if let Some(in_volt) = mantissas_in_volt(exponent) {
+        let greatest = u64::from(limit) * in_volt / 1_000_000;
+        write!(text, "{greatest}, ")?;
     }
-    let scale = 2u64.pow(u32::from(exponent.unsigned_abs()));
-    let greatest = u64::from(limit) * scale / 1_000_000;
-    write!(text, "{greatest}, {limit} uV")
+    write!(text, "{limit} uV")
 }
 
 /// Adds what a word says.

@@ -101,7 +101,7 @@ impl Machine {
     pub(crate) fn copied(&self) -> Result<Machine, AllocError>
         ensures { IfOk result (λ copy. copy ≡ self.now) }
     {
-        Ok(self.over(copied(&self.bus)?))
+        Ok(self.over(self.bus.clone()?))
     }
 
     /// The same machine over another state of the targets.
@@ -116,18 +116,6 @@ impl Machine {
             ended: self.ended,
         }
     }
-}
-
-/// The same state once more.
-fn copied(state: &BusState) -> Result<BusState, AllocError>
-    ensures { IfOk result (λ copy. copy ≡ state.now) }
-{
-    Ok(BusState {
-        page: state.page.clone()?,
-        protect: state.protect.clone()?,
-        alerting: state.alerting,
-        lost: state.lost,
-    })
 }
 
 /// Registers hold words. Nothing is done: this is what their type says.

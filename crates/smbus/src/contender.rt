@@ -13,7 +13,7 @@ use std::marker::Model;
 /// What another controller says that starts a frame at the same time as ours (UM10204, 3.1.8): its
 /// address and its data bytes are those of one segment, and all are acknowledged but the last byte
 /// that it reads.
-#[derive(Debug, Drop)]
+#[derive(Clone, Debug, Drop)]
 pub struct Contender {
     /// Seven bits: at most 127.
     pub address: u8,

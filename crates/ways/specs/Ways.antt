@@ -1,24 +1,20 @@
 -- Ways through a program, by what is known along each alone.
 use Rattle.std.specs.Prelude.{◌≡◌, ℕ, Bool, List, [], ◌∷◌, Some, None, All, Contains}
-use Rattle.std.specs.Prelude.{IsSomeAnd, length, replicate, slice_get}
+use Rattle.std.specs.Prelude.{IsSomeAnd, length, slice_get}
 use Rattle.std.specs.List.{last_or}
 use Rattle.board.specs.Boards.{Board, Target}
 use Rattle.targets.specs.States.{IsTargetAt}
 use Rattle.seq_program.specs.declared.instr.Instr.{Instr}
 use Rattle.facts.specs.declared.duties.rule.Rule.{Rule}
-use Rattle.facts.specs.declared.domain.source.Source.TheVariants as source
-use Rattle.facts.specs.declared.domain.span.Span.{Span}
 use Rattle.facts.specs.domain.Rows.{Row, row_view, set_at}
-use Rattle.facts.specs.domain.Sets.{Set, empty, is_page, is_protect, set_of}
+use Rattle.facts.specs.domain.Sets.{Set, is_page, is_protect, set_of}
 use Rattle.facts.specs.duties.Duties.{IsFirstFailing, duties}
 use Rattle.facts.specs.transfer.Edges.{edge}
 use Rattle.facts.specs.transfer.TimedEdges.{timed_edges}
+use Rattle.facts.specs.well_formed.Starts.{SaysJustStart}
 use Rattle.ways.specs.declared.search.Search.{Search}
 use Rattle.ways.specs.declared.search.Search.TheVariants.{Found, Nowhere, Unknown}
 use Rattle.ways.specs.declared.step.Step.{Step}
-
-abbrev pub zero_span : Span
-zero_span = record { lo = 0; hi = 0 }
 
 abbrev pub row_at : Step → Row
 row_at s = row_view s.row
@@ -36,11 +32,7 @@ pub record IsStart (b : Board) (row : Row) : Type 0 where
       → IsChosen is_page t.start_pages (set_at row.pages i)
   pub protects : (i : ℕ) (t : Target) → IsTargetAt b i t
       → IsChosen is_protect t.start_protects (set_at row.protects i)
-  pub good : row.good ≡ empty
-  pub regs : row.regs ≡ replicate 8 zero_span
-  pub sources : row.sources ≡ replicate 8 source.None
-  pub counters : row.counters ≡ replicate 4 zero_span
-  pub lost : row.lost ≡ zero_span
+  pub rest : SaysJustStart row
 
 -- the instruction of the first step's place keeps the rules K1 to K5, and of its edges, so many,
 -- the one at this place leads to the second

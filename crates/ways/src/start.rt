@@ -8,14 +8,11 @@ ghost use Rattle.ways.specs.Trails.{IsStartEdge};
 ghost use Rattle.ways.specs.Ways.{IsChosen, IsStart};
 
 use board::{Board, Target};
-use facts::{GoodSet, PageSet, ProtectSet, Row, Source, Span};
+use facts::{PageSet, ProtectSet, Row};
 use std::alloc::{AllocError, Global};
 
 /// So many starts at most are told apart.
 const MOST_STARTS: usize = 1024;
-
-/// The span of 0 alone.
-const ZERO: Span = Span { lo: 0, hi: 0 };
 
 /// Which of the values count that registers of the targets may start with.
 #[derive(Clone, Copy)]
@@ -96,18 +93,7 @@ fn start_row(alloc: Global, board: &Board, mut choice: Choice) -> Result<Row, Al
 {
     let pages = page_sets(alloc, board.targets(), &mut choice)?;
     let protects = protect_sets(alloc, board.targets(), &mut choice)?;
-    Ok(Row {
-        pages,
-        protects,
-        good: GoodSet::empty(),
-        regs: [ZERO; 8],
-        sources: [Source::None; 8],
-        counters: [ZERO; 4],
-        lost: ZERO,
-        base: 0,
-        coeffs: [0; 4],
-        lost_coeff: 0,
-    })
+    Ok(Row::at_start(pages, protects))
 }
 
 /// How many starts a board has.

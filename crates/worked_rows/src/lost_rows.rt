@@ -49,13 +49,12 @@ type Beside = (u16, Said, Started);
 fn answer_of(alloc: Global, beside: Beside) -> Result<Answer, BoardFault> {
     let (_, (refuse, value, took, alerts), started) = beside;
     Ok(Answer {
-        holds: Vec::new(alloc),
         refuse,
         value,
-        bytes: Vec::new(alloc),
         took,
         alerts,
         contender: contender_of(alloc, started)?,
+        ..Answer::silent(alloc)
     })
 }
 

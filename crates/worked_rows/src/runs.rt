@@ -18,13 +18,10 @@ pub(crate) const NOTHING: Said = (0, None, 0);
 pub(crate) fn answer_of(alloc: Global, said: Said) -> Answer {
     let (value, refuse, alerts) = said;
     Answer {
-        holds: Vec::new(alloc),
         refuse,
         value,
-        bytes: Vec::new(alloc),
-        took: false,
         alerts,
-        contender: None,
+        ..Answer::silent(alloc)
     }
 }
 

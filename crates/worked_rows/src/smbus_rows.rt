@@ -37,13 +37,10 @@ fn answer_of(
 ) -> Result<Answer, SmbusFault> {
     let bytes = bytes.to_vec(alloc)?;
     Ok(Answer {
-        holds: Vec::new(alloc),
         refuse,
         value,
         bytes,
-        took: false,
-        alerts: 0,
-        contender: None,
+        ..Answer::silent(alloc)
     })
 }
 
@@ -325,6 +322,25 @@ fn none_has_slots(rt: &impl Abort, alloc: Global, rows: &[(Asked, Option<u16>, S
 #[test]
 fn no_slots(rt: HostRuntime) {
     none_has_slots(&rt, rt.alloc(), &UNFRAMED);
+}
+
+#[test]
+fn silence(rt: HostRuntime) {
+    let Answer {
+        holds,
+        refuse,
+        value,
+        bytes,
+        took,
+        alerts,
+        contender,
+    } = Answer::silent(rt.alloc());
+    same(&rt, (holds.len(), bytes.len(), value, alerts), (0, 0, 0, 0));
+    same(
+        &rt,
+        (refuse, took, contender.is_some()),
+        (None, false, false),
+    );
 }
 
 #[test]

@@ -24,6 +24,7 @@ use Rattle.facts.specs.domain.Rows.{SpanCovers, SpansCover}
 use Rattle.facts.specs.domain.Rows.{no_span, row_view, set_at, source_at}
 use Rattle.facts.specs.domain.Sets.{Set, empty, gains, is_page, is_protect, pages_in, protects_in}
 use Rattle.facts.specs.domain.Sets.{rails_in, set_of, with_values}
+use Rattle.facts.specs.well_formed.Starts.{SaysJustStart}
 use Rattle.fact_search.specs.Starting.{HoldsJust, HoldEachStart, IsStartRow}
 use Rattle.fact_search.proofs.Shared.Places.{at_replicate, found, is_target, none_some, some_same}
 
@@ -188,14 +189,13 @@ spans_hold (suc n) (s ∷ ss) k = ((k.0.0, k.0.1), spans_hold n ss k.1)
 pub record StartsBy (b : Board) (row : CodeRow) : Type 0 where
   pub pages : HoldEachStart pages_in (λ t. t.start_pages) row.pages.items b.targets
   pub protects : HoldEachStart protects_in (λ t. t.start_protects) row.protects.items b.targets
-  pub good : (d : ℕ) → IsTrue (rails_in row.good d) → ⊥
-  pub regs : row.regs ≡ replicate 8 (one 0)
-  pub sources : row.sources ≡ replicate 8 source.None
-  pub counters : row.counters ≡ replicate 4 (one 0)
-  pub lost : row.lost ≡ one 0
-  pub base : row.base ≡ 0
-  pub coeffs : row.coeffs ≡ replicate 4 0
-  pub lost_coeff : row.lost_coeff ≡ 0
+  pub rest : SaysJustStart (row_view row)
+
+none_good : (b : Board) (row : CodeRow) → StartsBy b row → (d : ℕ) → IsTrue (rails_in row.good d)
+    → ⊥
+none_good b row k d good =
+    let P : Set → Type 0 = λ s. IsTrue (s d) in
+    false≢true (subst P k.rest.good good)
 
 zero_span : (ss : List Span) (n r : ℕ) → ss ≡ replicate n (one 0) → r < n
     → slice_index_or ss r no_span ≡ one 0
@@ -223,32 +223,32 @@ start_shaped b row is k = record {
       t.start_protects
       (each_at protects_in (λ z. z.start_protects) row.protects.items b.targets i t k.protects
       f.1) u.starts_protected u.start_protects;
-  good = λ d g. absurd (k.good d g);
-  reg_count = ap (λ (xs : List Span). length xs) k.regs;
+  good = λ d g. absurd (none_good b row k d g);
+  reg_count = ap (λ (xs : List Span). length xs) k.rest.regs;
   regs = λ r lt. let P : Span → Type 0 = λ s. IsSpan s in
-      subst P (sym (zero_span row.regs 8 r k.regs lt)) (omega arith);
+      subst P (sym (zero_span row.regs 8 r k.rest.regs lt)) (omega arith);
   reg_range = λ r lt. let P : Span → Type 0 = λ s. s.hi < 65536 in
-      subst P (sym (zero_span row.regs 8 r k.regs lt)) (omega arith);
-  source_count = ap (λ (xs : List Source). length xs) k.sources;
+      subst P (sym (zero_span row.regs 8 r k.rest.regs lt)) (omega arith);
+  source_count = ap (λ (xs : List Source). length xs) k.rest.sources;
   sources = λ r lt. let P : Source → Type 0 = λ s. IsSource b s in
       subst P (sym (none_at r)) tt;
-  counter_count = ap (λ (xs : List Span). length xs) k.counters;
+  counter_count = ap (λ (xs : List Span). length xs) k.rest.counters;
   counters = λ c lt. let P : Span → Type 0 = λ s. IsSpan s × (s.hi ≤ 1000) in
-      subst P (sym (zero_span row.counters 4 c k.counters lt)) (omega arith, omega arith);
-  lost = subst IsSpan (sym k.lost) (omega arith);
+      subst P (sym (zero_span row.counters 4 c k.rest.counters lt)) (omega arith, omega arith);
+  lost = subst IsSpan (sym k.rest.lost) (omega arith);
   lost_range = let P : Span → Type 0 = λ s. s.hi ≤ b.contentions in
-      subst P (sym k.lost) (omega arith);
-  base = let z = k.base in omega (arith, z);
-  coeff_count = ap (λ (xs : List ℕ). length xs) k.coeffs;
+      subst P (sym k.rest.lost) (omega arith);
+  base = let z = k.rest.base in omega (arith, z);
+  coeff_count = ap (λ (xs : List ℕ). length xs) k.rest.coeffs;
   coeffs = λ c lt.
-      let none = ap (λ (xs : List ℕ). slice_index xs c) k.coeffs in
+      let none = ap (λ (xs : List ℕ). slice_index xs c) k.rest.coeffs in
       let z : slice_index (replicate 4 0) c ≡ 0 = at_replicate 4 c 0 0 lt in
       omega (arith, none, z);
-  lost_coeff = let z = k.lost_coeff in omega (arith, z);
+  lost_coeff = let z = k.rest.lost_coeff in omega (arith, z);
 }
   where
     none_at : (r : ℕ) → source_at row.sources r ≡ source.None
-    none_at r = ap (λ (xs : List Source). source_at xs r) k.sources ∙ no_source 8 r
+    none_at r = ap (λ (xs : List Source). source_at xs r) k.rest.sources ∙ no_source 8 r
 
 pub start_is : (b : Board) (row : CodeRow) → IsBoard b → StartsBy b row
     → IsStartRow b (row_view row)
@@ -260,16 +260,16 @@ start_is b row is k = record {
     protects = λ i t at.
         (each_at protects_in (λ z. z.start_protects) row.protects.items b.targets i t
         k.protects at).0;
-    good = k.good;
+    good = none_good b row k;
     regs = let P : List Span → Type 0 = λ ss. InSpans ss (replicate 8 0) in
-        subst P (sym k.regs) (zeros_inside 8);
+        subst P (sym k.rest.regs) (zeros_inside 8);
     counters = let P : List Span → Type 0 = λ ss. InSpans ss (replicate 4 0) in
-        subst P (sym k.counters) (zeros_inside 4);
+        subst P (sym k.rest.counters) (zeros_inside 4);
     lost = let P : Span → Type 0 = λ s. InSpan s 0 in
-        subst P (sym k.lost) (omega arith, omega arith);
-    lost_coeff = k.lost_coeff;
+        subst P (sym k.rest.lost) (omega arith, omega arith);
+    lost_coeff = k.rest.lost_coeff;
     sources = λ r.
-        ap (λ (xs : List Source). source_at xs r) k.sources ∙ no_source 8 r;
+        ap (λ (xs : List Source). source_at xs r) k.rest.sources ∙ no_source 8 r;
   };
   least = λ other h. record {
     pages = λ i lt v t.
@@ -288,12 +288,12 @@ start_is b row is k = record {
         subst P c.2 (h.protects i u f.1 c.0 v c.1);
     good = λ d g. absurd (h.good d g);
     regs = let P : List Span → Type 0 = λ ss. SpansCover other.regs ss in
-        subst P (sym k.regs) (spans_hold 8 other.regs h.regs);
+        subst P (sym k.rest.regs) (spans_hold 8 other.regs h.regs);
     sources = λ r. inl (h.sources r);
     counters = let P : List Span → Type 0 = λ ss. SpansCover other.counters ss in
-        subst P (sym k.counters) (spans_hold 4 other.counters h.counters);
+        subst P (sym k.rest.counters) (spans_hold 4 other.counters h.counters);
     lost = let P : Span → Type 0 = λ s. SpanCovers other.lost s in
-        subst P (sym k.lost) (h.lost.0, h.lost.1);
+        subst P (sym k.rest.lost) (h.lost.0, h.lost.1);
   };
 }
 

@@ -11,12 +11,13 @@ use Rattle.smbus.specs.declared.message.Form.TheVariants as form
 use Rattle.smbus.specs.FormWords.{carries_code}
 use Rattle.board.specs.Boards.{Board}
 use Rattle.seq_program.specs.Requests.{Transaction, code_in}
+use Rattle.pmbus_table.specs.Protect.{protections}
 use Rattle.facts.specs.declared.duties.rule.Rule.TheVariants.{K2, K3}
 use Rattle.facts.specs.declared.duties.violation.Violation.TheVariants.{Protected}
 use Rattle.facts.specs.domain.Rows.{Row, set_at}
 use Rattle.facts.specs.domain.Sets.{protects_in}
 use Rattle.facts.specs.duties.Duties.{ReadsOnePage, IsUnprotected}
-use Rattle.facts.specs.duties.Permitting.{PermitsAt, protections}
+use Rattle.facts.specs.duties.Permitting.{PermitsAt}
 use Rattle.facts.specs.duties.Blaming.{FindsItem, Blames}
 use Rattle.facts.proofs.Coded.Protections.{four, lower_permitted, stored}
 

@@ -1,5 +1,5 @@
 -- Protections that permit a write. No public contract cites this: `Duties` says what is asked.
-use Rattle.std.specs.Prelude.{◌≡◌, ℕ, true, List, [], ◌∷◌, Some, IsTrue}
+use Rattle.std.specs.Prelude.{◌≡◌, ℕ, true, Some, IsTrue}
 use Rattle.pmbus_table.specs.Protect.{permits}
 use Rattle.facts.specs.domain.Sets.{protects_in}
 
@@ -7,7 +7,3 @@ use Rattle.facts.specs.domain.Sets.{protects_in}
 abbrev pub PermitsAt : ℕ → ℕ → ℕ → Type 0
 PermitsAt protects code protect = IsTrue (protects_in protects protect)
     → permits protect code ≡ Some true
-
--- the values of WRITE_PROTECT, the least first
-abbrev pub protections : List ℕ
-protections = 0x00 ∷ 0x20 ∷ 0x40 ∷ 0x80 ∷ []

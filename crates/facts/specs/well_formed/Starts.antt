@@ -4,6 +4,8 @@ use Rattle.board.specs.Boards.{Target, Board}
 use Rattle.targets.specs.States.{IsTargetAt}
 use Rattle.facts.specs.declared.domain.source.Source.TheVariants as source
 use Rattle.facts.specs.domain.Rows.{Row, set_at, source_at, InSpans, InSpan}
+use Rattle.facts.specs.domain.Sets.{empty}
+use Rattle.facts.specs.duties.Duties.{one}
 
 -- each value that a target may start with, no good rail, 0 in each register and counter, no
 -- sources, and no lost arbitration, which are left at no cost
@@ -24,3 +26,15 @@ abbrev pub StartsAt : Row → ℕ → Target → Type 0
 StartsAt row i t =
     All (λ v. IsTrue (set_at row.pages i v)) t.start_pages
     × All (λ v. IsTrue (set_at row.protects i v)) t.start_protects
+
+-- beside the values of PAGE and WRITE_PROTECT a row says just this of the start, and that no ticks
+-- are left
+pub record SaysJustStart (row : Row) : Type 0 where
+  pub good : row.good ≡ empty
+  pub regs : row.regs ≡ replicate 8 (one 0)
+  pub sources : row.sources ≡ replicate 8 source.None
+  pub counters : row.counters ≡ replicate 4 (one 0)
+  pub lost : row.lost ≡ one 0
+  pub base : row.base ≡ 0
+  pub coeffs : row.coeffs ≡ replicate 4 0
+  pub lost_coeff : row.lost_coeff ≡ 0

@@ -28,3 +28,34 @@ pub struct Row {
     pub coeffs: [u64; 4],
     pub lost_coeff: u64,
 }
+
+/// The span of 0 alone.
+const ZERO: Span = Span { lo: 0, hi: 0 };
+
+impl Row {
+    ghost use Rattle.std.specs.Prelude.{◌≡◌};
+    ghost use Rattle.facts.specs.domain.Rows.{row_view};
+    ghost use Rattle.facts.specs.well_formed.Starts.{SaysJustStart};
+
+    /// What is known where each target starts with a value of its set of PAGE and one of its set of
+    /// WRITE_PROTECT: no good rail, 0 in each register and counter, no sources, and no lost
+    /// arbitration. No ticks are left.
+    pub fn at_start(pages: Vec<PageSet>, protects: Vec<ProtectSet>) -> Row
+        ensures pages { result.pages.items ≡ pages.items }
+        ensures protects { result.protects.items ≡ protects.items }
+        ensures rest { SaysJustStart (row_view result) }
+    {
+        Row {
+            pages,
+            protects,
+            good: GoodSet::empty(),
+            regs: [ZERO; 8],
+            sources: [Source::None; 8],
+            counters: [ZERO; 4],
+            lost: ZERO,
+            base: 0,
+            coeffs: [0; 4],
+            lost_coeff: 0,
+        }
+    }
+}

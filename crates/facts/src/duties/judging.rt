@@ -4,13 +4,14 @@ ghost use Rattle.std.specs.Prelude.{◌≡◌, ◌↔◌, false, Some, None, IsT
 ghost use Rattle.smbus.specs.FormWords.{carries_code};
 ghost use Rattle.pmbus_table.specs.Codes.{all_pages};
 ghost use Rattle.pmbus_table.specs.Commands.{form_read, is_paged};
+ghost use Rattle.pmbus_table.specs.Protect.{protections};
 ghost use Rattle.board.specs.Boards.{Board as AnyBoard};
 ghost use Rattle.seq_program.specs.RequestViews.{content_view, transaction_view};
 ghost use Rattle.facts.specs.declared.duties.rule.Rule.TheVariants.{K2, K3, K4, K5};
 ghost use Rattle.facts.specs.domain.Rows.{row_view};
 ghost use Rattle.facts.specs.domain.Sets.{pages_in, rails_in};
 ghost use Rattle.facts.specs.duties.Duties.{may_select, duties, IsFirstFailing};
-ghost use Rattle.facts.specs.duties.Permitting.{PermitsAt, protections};
+ghost use Rattle.facts.specs.duties.Permitting.{PermitsAt};
 ghost use Rattle.facts.specs.duties.Touching.{touches_in, IsWithinLimit, HasGoodNeeds};
 ghost use Rattle.facts.specs.duties.Violations.{rule_of, words_of, voltages_of, TurnsOn, IsToBlame};
 ghost use Rattle.facts.specs.duties.Blaming.{FindsPlace, FindsItem};
@@ -28,12 +29,9 @@ use crate::duties::rule::Rule;
 use crate::duties::violation::Violation;
 use board::{Board, Rail, Target};
 use pmbus_table::code::{ALL_PAGES, OPERATION};
-use pmbus_table::{Command, carries_voltage, enables, permits, within};
+use pmbus_table::{Command, PROTECTIONS, carries_voltage, enables, permits, within};
 use seq_program::{Content, Instr, Transaction, Written};
 use smbus::Form;
-
-/// The values of WRITE_PROTECT, the least first (PMBus 1.3 Part II, 11.1).
-const PROTECTIONS: [u8; 4] = [0x00, 0x20, 0x40, 0x80];
 
 /// Whether a paged command is read while PAGE may stand for all pages.
 fn reads_all_pages(pages: PageSet, command: Command, form: Form) -> bool

@@ -3,14 +3,15 @@
 use crate::expected::same;
 use bitflags::Flags;
 use pmbus_table::{
-    StatusWord, carries_voltage, code, enables, is_protection, permits, reported_good, within,
+    PROTECTIONS, StatusWord, carries_voltage, code, enables, is_exponent, is_protection,
+    mantissas_in_volt, permits, reported_good, within,
 };
 use std::process::Abort;
 use std::test::*;
 /// The protection, the code of a command, and whether it may be written, if both are known.
 type Protected = (u8, u8, Option<bool>);
 
-static PROTECTIONS: [Protected; 15] = [
+static PERMITTED: [Protected; 15] = [
     (0x80, code::WRITE_PROTECT, Some(true)),
     (0x80, code::PAGE, Some(false)),
     (0x40, code::OPERATION, Some(true)),
@@ -36,7 +37,7 @@ fn each_permits(rt: &impl Abort, rows: &[Protected]) {
 
 #[test]
 fn protection(rt: HostRuntime) {
-    each_permits(&rt, &PROTECTIONS);
+    each_permits(&rt, &PERMITTED);
 }
 
 #[test]
@@ -46,6 +47,8 @@ fn protection_values(rt: HostRuntime) {
         (is_protection(0x20), is_protection(0x10)),
         (true, false),
     );
+    let listed = PROTECTIONS.iter().all(|value| is_protection(*value));
+    same(&rt, (listed, PROTECTIONS), (true, [0x00, 0x20, 0x40, 0x80]));
 }
 
 /// Values of OPERATION, and whether they enable.
@@ -132,6 +135,31 @@ fn status_bits(rt: HostRuntime) {
         (true, false),
     );
     same(&rt, word.bits(), 0x0842);
+}
+
+/// A number, and of an exponent how many mantissas are a volt.
+static EXPONENTS: [(i8, Option<u64>); 5] = [
+    (-17, None),
+    (-16, Some(65536)),
+    (-12, Some(4096)),
+    (0, Some(1)),
+    (1, None),
+];
+
+fn each_is_exponent(rt: &impl Abort, rows: &[(i8, Option<u64>)]) {
+    for row in rows {
+        same(rt, (row.0, mantissas_in_volt(row.0)), *row);
+        same(
+            rt,
+            (row.0, is_exponent(i64::from(row.0))),
+            (row.0, row.1.is_some()),
+        );
+    }
+}
+
+#[test]
+fn exponents(rt: HostRuntime) {
+    each_is_exponent(&rt, &EXPONENTS);
 }
 
 /// The mantissa and the exponent of a voltage, a limit, and whether the voltage is within it.

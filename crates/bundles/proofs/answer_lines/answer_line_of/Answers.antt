@@ -7,4 +7,4 @@ pub returns-then-eq-clause-value : goal.returns-then-eq-clause-value
 returns-then-eq-clause-value c =
     let dash : c.args.line.now ≡ codes "-" =
     (bytes_eq-Decides c.args.line.now (codes "-")).0 (sym c.if-eq.ensures) in
-    rw (dash, c.silence.ensures) (dash_is_silence c.args.number)
+    rw (dash, c.silent.ensures) (dash_is_silence c.args.number)

@@ -1,7 +1,7 @@
 use Rattle.std.proofs.Common.{◌≡◌, ◌≤◌, ℕ, codes, subst, sym}
 use Rattle.std.proofs.lemmas.List.Elements.{All-nil}
 use Rattle.std.proofs.lemmas.Slice.Eq.{bytes_eq-Decides}
-use Rattle.bundles.specs.AnswerLines.{silence}
+use Rattle.smbus.specs.Answered.{silence}
 use Rattle.bundles.specs.Answers.{IsGoodAnswer, answer_said}
 use Rattle.bundles.specs.Bundles.{Line}
 use Rattle.bundles.proofs.CheckedLines.{IsHeld, is_answer, is_held}

@@ -1,8 +1,9 @@
 use Rattle.std.proofs.Common.{◌∙◌, None, Some, sym, subst}
 use Rattle.seq_program.specs.RequestViews.{transaction_view}
+use Rattle.pmbus_table.specs.Protect.{protections}
 use Rattle.facts.specs.declared.duties.rule.Rule.TheVariants.{K3}
 use Rattle.facts.specs.domain.Rows.{row_view}
-use Rattle.facts.specs.duties.Permitting.{PermitsAt, protections}
+use Rattle.facts.specs.duties.Permitting.{PermitsAt}
 use Rattle.facts.specs.duties.Blaming.{FindsItem, Blames}
 use Rattle.facts.proofs.Coded.Refused.{k3_none, k3}
 use Rattle.facts.proofs.duties.judging.forbidden.Goals as goal

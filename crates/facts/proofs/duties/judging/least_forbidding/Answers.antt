@@ -1,6 +1,7 @@
 use Rattle.std.proofs.Common.{None, sym, subst, rules, tests}
 use Rattle.std.proofs.lemmas.Iterator.{IsFirst-from_position, YieldsList-from_slice}
-use Rattle.facts.specs.duties.Permitting.{PermitsAt, protections}
+use Rattle.pmbus_table.specs.Protect.{protections}
+use Rattle.facts.specs.duties.Permitting.{PermitsAt}
 use Rattle.facts.specs.duties.Blaming.{FindsItem}
 use Rattle.facts.proofs.Coded.Firsts.{Searched, found_place, found_item}
 use Rattle.facts.proofs.duties.judging.least_forbidding.Goals as goal
