@@ -1,5 +1,5 @@
 -- The section of a run's answers: how the targets start, and then an answer a line.
-use Rattle.std.specs.Prelude.{◌≡◌, ℕ, ◌+◌, map, false, List, [], ◌∷◌, ◌==◌, length, Option, Some}
+use Rattle.std.specs.Prelude.{◌≡◌, ℕ, ◌+◌, map, List, [], ◌∷◌, ◌==◌, length, Option, Some}
 use Rattle.std.specs.Prelude.{None, option_map}
 use Rattle.std.specs.Prelude.{option_and_then, Result, Ok, Err, if◌then◌else◌, codes}
 use Rattle.std.specs.List.{slice_split}
@@ -7,7 +7,7 @@ use Rattle.std.specs.Str.{bytes_eq}
 use Rattle.texts.specs.Reading.{◌>>=◌, some_or}
 use Rattle.texts.specs.Words.{words_of}
 use Rattle.texts.specs.Hex.{pair_of}
-use Rattle.smbus.specs.Answered.{Answered}
+use Rattle.smbus.specs.Answered.{Answered, silence}
 use Rattle.bundles.specs.declared.fault.BundleFault.{BundleFault}
 use Rattle.bundles.specs.Bundles.{Line, Section}
 use Rattle.bundles.specs.declared.fault.BundleFault.TheVariants.{BadAnswer}
@@ -53,15 +53,7 @@ answer_lines_of (first ∷ later) = do
 -- what a line says, where it is an answer
 abbrev pub read_or_silent : Result Answered BundleFault → Answered
 read_or_silent (Ok answer) = answer
-read_or_silent (Err fault) = record {
-  holds = [];
-  refuse = None;
-  value = 0;
-  bytes = [];
-  took = false;
-  alerts = 0;
-  contender = None;
-}
+read_or_silent (Err fault) = silence
 
 abbrev pub answer_said : ℕ × Line → Answered
 answer_said line = read_or_silent (answer_line_of line.0 line.1)
