@@ -9,7 +9,8 @@ use board::{Board, Place};
 use bundles::{Section, form_word};
 use facts::Rule;
 use notes::Note;
-use sentences::Word::{Command, Count, Entry, Limit, Rail, Target, Text};
+use sentences::Figure::{Command, Count, Entry, Limit};
+use sentences::Word::{Rail, Target, Text};
 use sentences::{Advice, Sentence, say};
 use session::{DraftFault, Planned, section_of};
 use smbus::Form;
@@ -31,10 +32,10 @@ fn no_entry(board: &Board, target: usize, form: Form, code: u8) -> Advice<'_> {
     let target = Target(board, target);
     let entry = Entry(form_word(form), Some(code));
     say![
-        "the program would send " {Command(code)} " to " {target}
+        "the program would send " (Command(code)) " to " {target}
         ", and no entry of its `allow` permits it with this value"
     ]
-    .with_help(say!["if its data sheet allows it, add " {entry}])
+    .with_help(say!["if its data sheet allows it, add "(entry)])
 }
 
 /// What a rail's voltages are up to, where the plan wishes one over that.
@@ -44,7 +45,7 @@ fn over_limit(board: &Board, index: usize) -> Option<Sentence<'_>> {
     let limit = Limit(rail.limit_uv(), device.exponent());
     Some(say![
         "the voltage that the plan wishes for " {Rail(board, index)}
-        " is over its limit: it takes up to " {limit}
+        " is over its limit: it takes up to " (limit)
     ])
 }
 
@@ -60,7 +61,7 @@ fn limit_advice(board: &Board, rail: usize) -> Advice<'_> {
 /// What is said of a program that isn't accepted.
 fn not_accepted(place: usize, rule: Rule) -> Advice<'static> {
     say![
-        "the program that was drafted is refused at place " {Count(place)} " by "
+        "the program that was drafted is refused at place " (Count(place)) " by "
         {Text(rule.name())}
     ]
     .alone()
@@ -70,7 +71,7 @@ fn not_accepted(place: usize, rule: Rule) -> Advice<'static> {
 fn advice_on(board: &Board, fault: DraftFault) -> Advice<'_> {
     match fault {
         DraftFault::BadPlan(fault) =>
-            say!["line " {Count(fault.line)} " of the plan is no wish"].alone(),
+            say!["line " (Count(fault.line)) " of the plan is no wish"].alone(),
         DraftFault::Circle(rail) => say![
             "no order can place " {Rail(board, rail)}
             ": it waits for rails that wait for one another"

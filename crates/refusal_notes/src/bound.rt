@@ -87,10 +87,15 @@ fn remark_on(alloc: Global, bound: u64) -> Result<Remark> {
         write!(message, "{bound} ticks, ")?;
     }
     push_time(&mut message, bound)?;
-    Ok(Remark {
-        message,
-        help: None,
-    })
+    Ok(Remark::bare(message))
+}
+
+/// What is told of the dearest way, if one was found.
+fn way_facts(alloc: Global, judged: Judged<'_>, bound: u64) -> Result<Vec<String>> {
+    match dearest_way(alloc, judged)? {
+        Some(dearest) => facts_on(alloc, judged, &dearest, bound),
+        None => Ok(Vec::new(alloc)),
+    }
 }
 
 /// Where the ticks of the bound go of a program with this text that is accepted with the facts that
@@ -112,9 +117,6 @@ pub fn bound_note(
     let judged = Judged::found(sequence, &lines, found);
     let remark = remark_on(alloc, bound)?;
     let note = note_in(alloc, Level::Info, "%program", text, number, remark)?;
-    let facts = match dearest_way(alloc, judged)? {
-        Some(dearest) => facts_on(alloc, judged, &dearest, bound)?,
-        None => Vec::new(alloc),
-    };
+    let facts = way_facts(alloc, judged, bound)?;
     Ok(Some(Note { facts, ..note }))
 }

@@ -6,7 +6,8 @@ use crate::kept::{KEPT, kept_values, may_keep};
 use crate::roads::Judged;
 use board::{Board, Target};
 use facts::Row;
-use sentences::Word::{Count, Text};
+use sentences::Figure::Count;
+use sentences::Word::Text;
 use sentences::{Kept, Sentence, Word, say};
 use seq_program::Instr;
 use std::alloc::Global;
@@ -77,10 +78,10 @@ fn branches_of(alloc: Global, judged: Judged<'_>, way: &[Step]) -> Result<Vec<Ha
 fn branch_sentence(judged: Judged<'_>, taken: &Happened<Branch>) -> Sentence<'static> {
     let line = Count(judged.line(taken.place));
     match taken.what {
-        Branch::NotDone => say!["; line " {line} ": not done"],
-        Branch::UsedUp(counter) => { say!["; line " {line} ": c" {Count(counter)} " is used up"] }
-        Branch::Tested(true) => say!["; line " {line} ": the test holds"],
-        Branch::Tested(false) => say!["; line " {line} ": the test doesn't hold"],
+        Branch::NotDone => say!["; line " (line) ": not done"],
+        Branch::UsedUp(counter) => { say!["; line " (line) ": c" (Count(counter)) " is used up"] }
+        Branch::Tested(true) => say!["; line " (line) ": the test holds"],
+        Branch::Tested(false) => say!["; line " (line) ": the test doesn't hold"],
     }
 }
 

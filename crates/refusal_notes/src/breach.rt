@@ -42,7 +42,7 @@ fn cause_of(
 ) -> Result<Cause> {
     match program.at(breach.place) {
         Some(instr) => instr_cause(alloc, board, instr, row),
-        None => Ok(Cause::none()),
+        None => Ok(Cause::none(alloc)),
     }
 }
 

@@ -1,7 +1,7 @@
 //! What is to blame for a refusal, with names and numbers.
 
 use crate::Result;
-use crate::cause::{Cause, bare};
+use crate::cause::Cause;
 use crate::edge_detail::{edge_detail, end_detail};
 use crate::entry_words::{known_values, no_entry, no_room, other_byte, other_length, other_values};
 use crate::facts_here::facts_here;
@@ -9,8 +9,9 @@ use crate::roads::Judged;
 use crate::table_detail::{length_detail, shape_detail, start_detail};
 use board::{Allow, Board, Target};
 use facts::{PageSet, Row, Violation, violation};
-use sentences::Word::{Command, Hex, Limit, Number, Permitting, Rail};
-use sentences::{Advice, Sentence, Word, say, told};
+use sentences::Figure::{Command, Hex, Limit, Number, Permitting};
+use sentences::Word::Rail;
+use sentences::{Advice, Remark, Sentence, Word, say, told};
 use seq_program::{Content, Instr, Request, Transaction};
 use std::alloc::Global;
 use table_check::{Breach, Refusal};
@@ -61,8 +62,8 @@ fn limit_advice<'a>(
     let limit = Limit(board.rail(rail)?.limit_uv(), device.exponent());
     Some(Advice {
         message: say![
-            "up to " {Number(u64::from(most))} " may be written to " {Command(code)} ", and "
-            {Rail(board, rail)} " takes up to " {limit}
+            "up to " (Number(u64::from(most))) " may be written to " (Command(code)) ", and "
+            {Rail(board, rail)} " takes up to " (limit)
         ],
         help: limit_help(pages),
     })
@@ -70,8 +71,8 @@ fn limit_advice<'a>(
 
 /// K3: what may be stored that forbids a write of this command, and what permits it.
 fn forbidden(name: Word<'_>, value: u8, code: u8) -> Advice<'_> {
-    say![{name} " may store " {Hex(u16::from(value), 2)} "h here"].with_help(say![
-        "write " {Permitting(code)} " to WRITE_PROTECT before; where that write wasn't done, \
+    say![{name} " may store " (Hex(u16::from(value), 2)) "h here"].with_help(say![
+        "write " (Permitting(code)) " to WRITE_PROTECT before; where that write wasn't done, \
          leave by its `else` label, or read it back and test the register"
     ])
 }
@@ -92,7 +93,7 @@ fn advice_on<'a>(
             Some(no_entry(name, transaction, device.allow().is_empty()))
         }
         Violation::AllPages => {
-            Some(say![{name} " has " {Command(code)} " for each page"].alone())
+            Some(say![{name} " has " (Command(code)) " for each page"].alone())
         }
         Violation::Protected(value) => Some(forbidden(name, value, code)),
         Violation::OverLimit { rail, most } => {
@@ -118,21 +119,21 @@ fn duty_cause(
     violation: Violation,
 ) -> Result<Cause> {
     let Some(request) = instr.request() else {
-        return Ok(Cause::none());
+        return Ok(Cause::none(alloc));
     };
     let blame = match advice_on(board, row, &request, violation) {
         Some(advice) => Some(advice.told(alloc)?),
         None => None,
     };
     let known = facts_here(alloc, board, row, request.target, violation.rule())?;
-    Ok(Cause::of(blame, known))
+    Cause::of(alloc, blame, known)
 }
 
 /// What is to blame where an instruction breaks a rule at a row, and what is known there.
 pub(crate) fn instr_cause(alloc: Global, board: &Board, instr: &Instr, row: &Row) -> Result<Cause> {
     match violation(board, instr, row) {
         Some(violation) => duty_cause(alloc, board, instr, row, violation),
-        None => Ok(Cause::none()),
+        None => Ok(Cause::none(alloc)),
     }
 }
 
@@ -145,7 +146,7 @@ fn place_cause(
 ) -> Result<Cause> {
     match (judged.program.at(place), judged.row(place)) {
         (Some(instr), Some(row)) => duty_cause(alloc, judged.board, instr, row, violation),
-        _ => Ok(Cause::none()),
+        _ => Ok(Cause::none(alloc)),
     }
 }
 
@@ -162,5 +163,5 @@ pub(crate) fn refusal_cause(alloc: Global, judged: Judged<'_>, refusal: Refusal)
         Breach::Length => told(alloc, Some(length_detail(judged)))?,
         Breach::Shape(misfit) => shape_detail(alloc, judged, place, misfit)?,
     };
-    Ok(Cause::of(bare(detail), None))
+    Cause::of(alloc, detail.map(|detail| Remark::bare(detail)), None)
 }

@@ -5,8 +5,9 @@ use crate::kept::kept_values;
 use crate::roads::{Edge, Judged};
 use board::Board;
 use facts::{Row, RowPart, Source, Span};
-use sentences::Word::{Count, Rail, Target, Text};
-use sentences::{Kept, Sentence, Word, say};
+use sentences::Figure::Count;
+use sentences::Word::{Rail, Target, Text};
+use sentences::{Figure, Kept, Sentence, say};
 use std::alloc::Global;
 use table_check::{Breach, Spot};
 
@@ -39,8 +40,8 @@ fn span_detail(
 ) -> Option<Sentence<'static>> {
     let (more, span) = (known.get(index)?, claimed.get(index)?);
     Some(say![
-        {Text(letter)} {Count(index)} " may be " {Word::Span(more.lo, more.hi)}
-        ", and there the row has " {Word::Span(span.lo, span.hi)}
+        {Text(letter)} (Count(index)) " may be " (Figure::Span(more.lo, more.hi))
+        ", and there the row has " (Figure::Span(span.lo, span.hi))
     ])
 }
 
@@ -49,7 +50,7 @@ fn source_detail(board: &Board, register: usize, source: Source) -> Sentence<'_>
     let (command, name) = match source {
         Source::None => {
             return say![
-                "it isn't known that r" {Count(register)}
+                "it isn't known that r" (Count(register))
                 " was read from nothing, as there the row has it"
             ];
         }
@@ -58,7 +59,7 @@ fn source_detail(board: &Board, register: usize, source: Source) -> Sentence<'_>
         Source::Protect(target) => ("WRITE_PROTECT", Target(board, target)),
     };
     say![
-        "it isn't known that r" {Count(register)} " was read from " {Text(command)} " of " {name}
+        "it isn't known that r" (Count(register)) " was read from " {Text(command)} " of " {name}
         ", as there the row has it"
     ]
 }
@@ -66,8 +67,8 @@ fn source_detail(board: &Board, register: usize, source: Source) -> Sentence<'_>
 /// How many arbitrations may be lost, beside how many the row has.
 fn lost_detail(known: &Row, claimed: &Row) -> Sentence<'static> {
     say![
-        "`lost` may be " {Word::Span(known.lost.lo, known.lost.hi)} ", and there the row has "
-        {Word::Span(claimed.lost.lo, claimed.lost.hi)}
+        "`lost` may be " (Figure::Span(known.lost.lo, known.lost.hi)) ", and there the row has "
+        (Figure::Span(claimed.lost.lo, claimed.lost.hi))
     ]
 }
 

@@ -4,8 +4,9 @@ use board::{Range, Target};
 use bundles::form_word;
 use facts::Span;
 use pmbus_table::code::{OPERATION, PAGE, WRITE_PROTECT};
-use sentences::Word::{Count, Hex, Name, Number, Text};
-use sentences::{Advice, Word, say};
+use sentences::Figure::{Count, Entry, Hex, Number};
+use sentences::Word::{Name, Text};
+use sentences::{Advice, Figure, say};
 use seq_program::Transaction;
 
 /// The greatest number of bytes of both blocks of a Block Process Call (SMBus 3.2, 6.5.8).
@@ -38,21 +39,18 @@ pub(crate) fn no_entry<'a>(
     first: bool,
 ) -> Advice<'a> {
     let command = transaction.command.map(|command| command.code());
-    let (name, entry) = (
-        Name(name),
-        Word::Entry(form_word(transaction.form), command),
-    );
+    let (name, entry) = (Name(name), Entry(form_word(transaction.form), command));
     Advice {
-        message: say![{name} " has no entry " {entry}],
+        message: say![{name} " has no entry " (entry)],
         help: Some(if first {
-            say!["if the data sheet allows it, give it the line allow = [" {entry} "]"]
+            say!["if the data sheet allows it, give it the line allow = [" (entry) "]"]
         } else {
-            say!["if the data sheet allows it, add " {entry} " to its `allow`"]
+            say!["if the data sheet allows it, add " (entry) " to its `allow`"]
         }),
     }
 }
 
-fn number(number: u16) -> Word<'static> {
+fn number(number: u16) -> Figure {
     Number(u64::from(number))
 }
 
@@ -63,7 +61,7 @@ fn known_pages(device: &Target) -> Advice<'static> {
         say!["PAGE takes 0, its only page, and 255, all of them"]
     } else {
         let last = Number(u64::from(last));
-        say!["PAGE takes 0 to " {last} " and 255, all of them"]
+        say!["PAGE takes 0 to " (last) " and 255, all of them"]
     };
     message.with_text("write one of these, or mend the target's `pages` on the board")
 }
@@ -84,13 +82,13 @@ pub(crate) fn other_values(range: Range, span: Span) -> Advice<'static> {
     let (low, high) = (number(range.low), number(range.high));
     if span.lo == span.hi {
         let message = say![
-            {number(span.hi)} " is written, and its entry takes " {low} " to " {high}
+            (number(span.hi)) " is written, and its entry takes " (low) " to " (high)
         ];
         return message.with_text(NARROWER);
     }
     let message = say![
-        {number(span.lo)} " to " {number(span.hi)} " may be written, and its entry takes " {low}
-        " to " {high}
+        (number(span.lo)) " to " (number(span.hi)) " may be written, and its entry takes " (low)
+        " to " (high)
     ];
     message.with_text(BOUNDED)
 }
@@ -98,8 +96,8 @@ pub(crate) fn other_values(range: Range, span: Span) -> Advice<'static> {
 /// What is wrong with the length of a block.
 pub(crate) fn other_length(range: Range, count: usize) -> Advice<'static> {
     let message = say![
-        {Count(count)} " bytes are written, and its entry takes " {number(range.low)} " to "
-        {number(range.high)}
+        (Count(count)) " bytes are written, and its entry takes " (number(range.low)) " to "
+        (number(range.high))
     ];
     message.with_text(OTHER_COUNT)
 }
@@ -107,8 +105,8 @@ pub(crate) fn other_length(range: Range, count: usize) -> Advice<'static> {
 /// What is wrong with a byte of a block.
 pub(crate) fn other_byte(range: Range, byte: u8) -> Advice<'static> {
     let message = say![
-        "the byte " {Hex(u16::from(byte), 2)} " is written, and its entry takes "
-        {Hex(range.low, 2)} " to " {Hex(range.high, 2)}
+        "the byte " (Hex(u16::from(byte), 2)) " is written, and its entry takes "
+        (Hex(range.low, 2)) " to " (Hex(range.high, 2))
     ];
     message.with_text(NARROWER)
 }
@@ -116,8 +114,8 @@ pub(crate) fn other_byte(range: Range, byte: u8) -> Advice<'static> {
 /// That both blocks of a call have too many bytes together.
 pub(crate) fn no_room(range: Range, count: usize) -> Advice<'static> {
     let message = say![
-        {Count(count)} " bytes are written and up to " {number(range.high)} " come back, over "
-        {Count(MOST_OF_BOTH)} " together"
+        (Count(count)) " bytes are written and up to " (number(range.high)) " come back, over "
+        (Count(MOST_OF_BOTH)) " together"
     ];
     message.with_text(FEWER)
 }

@@ -4,8 +4,8 @@ use crate::Result;
 use crate::kept::kept_values;
 use board::Board;
 use facts::{GoodSet, PageSet, Row, Rule};
-use sentences::Word::{Names, Pages, Target, Text};
-use sentences::{Kept, Sentence, rail_names, say, told};
+use sentences::Word::{Pages, Target, Text};
+use sentences::{Kept, Sentence, quoted_names, rail_names, say, told};
 use std::alloc::Global;
 
 /// Whether a rail is in a set.
@@ -38,7 +38,8 @@ fn order_text(
             alloc,
         )
     } else {
-        let good = Names(good);
+        let names = quoted_names(alloc, good)?;
+        let good = Text(&names);
         say!["PAGE of " {name} " may be " {pages} " here, and known to be good: " {good}].told(
             alloc,
         )

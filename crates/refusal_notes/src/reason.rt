@@ -2,18 +2,19 @@
 
 use crate::Result;
 use crate::branch::{push_branches, push_start};
-use crate::cause::{Cause, Evidence, bare};
+use crate::cause::Cause;
 use crate::detail::refusal_cause;
 use crate::meeting::meeting_place;
 use crate::origin::BadWay;
 use crate::refusal::RefusalKind;
 use crate::roads::{Judged, Roads};
 use crate::route::route_of;
-use crate::shown::evidence_of;
+use crate::shown::push_evidence;
 use crate::uncounted::uncounted_text;
 use crate::way::{loop_through, way_to};
 use crate::widened::widened_text;
 use facts::Rule;
+use sentences::Remark;
 use seq_program::Program;
 use session::{Shown, place_lines};
 use simulator::MOST_TICKS;
@@ -83,51 +84,57 @@ fn unknown_note(alloc: Global) -> Result<Option<String>> {
     Ok(Some(format!(in alloc; "no way on which it may fail was found within {MOST_STEPS} steps")?))
 }
 
-/// The same cause, with a way on which a rule may fail at a place, or that none shows it, and where
-/// what breaks the rule came in.
-fn with_way(
+/// Adds a way on which a rule may fail, and where on it what breaks the rule came in.
+fn push_found(
     alloc: Global,
+    facts: &mut Vec<String>,
+    judged: Judged<'_>,
+    way: &[Step],
+) -> Result<()> {
+    facts.extend(found_note(alloc, judged, way)?)?;
+    facts.extend(BadWay { judged, way }.origin(alloc)?)
+}
+
+/// Adds a way on which a rule may fail at a place, or that none shows it, and where what breaks the
+/// rule came in.
+fn push_way(
+    alloc: Global,
+    facts: &mut Vec<String>,
     judged: Judged<'_>,
     place: usize,
     rule: Rule,
-    cause: Cause,
-) -> Result<Cause> {
+) -> Result<()> {
     let way = match bad_way(alloc, judged.board, judged.program, place, rule)? {
-        Search::Found(way) => {
-            let way = way.as_slice();
-            let origin = BadWay { judged, way }.origin(alloc)?;
-            let way = found_note(alloc, judged, way)?;
-            return Ok(Cause {
-                way,
-                origin,
-                ..cause
-            });
-        }
+        Search::Found(way) => return push_found(alloc, facts, judged, &way),
         Search::Nowhere => joined_note(alloc, judged, place, rule)?,
         Search::Unknown => unknown_note(alloc)?,
     };
-    let origin = widened_text(alloc, judged, place)?;
-    Ok(Cause {
-        way,
-        origin,
-        ..cause
-    })
+    facts.extend(way)?;
+    facts.extend(widened_text(alloc, judged, place)?)
+}
+
+/// Adds how the place of a refusal is reached.
+fn push_road(
+    alloc: Global,
+    facts: &mut Vec<String>,
+    judged: Judged<'_>,
+    refusal: Refusal,
+) -> Result<()> {
+    let (place, rule) = (refusal.place, refusal.breach.rule());
+    match rule {
+        Rule::K1 | Rule::K2 | Rule::K3 | Rule::K4 | Rule::K5 => {
+            push_way(alloc, facts, judged, place, rule)
+        }
+        Rule::K6 | Rule::K7 => facts.extend(way_note(alloc, judged, place)?),
+        Rule::K8 | Rule::K9 => Ok(()),
+    }
 }
 
 /// What is to blame for a refusal, and how its place is reached.
 fn blame_of(alloc: Global, judged: Judged<'_>, refusal: Refusal) -> Result<Cause> {
-    let cause = refusal_cause(alloc, judged, refusal)?;
-    let (place, rule) = (refusal.place, refusal.breach.rule());
-    match rule {
-        Rule::K1 | Rule::K2 | Rule::K3 | Rule::K4 | Rule::K5 => {
-            with_way(alloc, judged, place, rule, cause)
-        }
-        Rule::K6 | Rule::K7 => {
-            let way = way_note(alloc, judged, place)?;
-            Ok(Cause { way, ..cause })
-        }
-        Rule::K8 | Rule::K9 => Ok(cause),
-    }
+    let mut cause = refusal_cause(alloc, judged, refusal)?;
+    push_road(alloc, &mut cause.facts, judged, refusal)?;
+    Ok(cause)
 }
 
 /// Whether what is left at some place is the most that a row may have.
@@ -137,13 +144,18 @@ fn is_full(table: &Table) -> bool {
 }
 
 /// Why a program isn't verified, for whose ticks no bound was found.
-fn unbounded_cause(judged: Judged<'_>, uncounted: Option<String>) -> (RefusalKind, Cause) {
+fn unbounded_cause(
+    alloc: Global,
+    judged: Judged<'_>,
+    uncounted: Option<String>,
+) -> Result<(RefusalKind, Cause)> {
     let kind = match &uncounted {
         Some(_) => RefusalKind::Uncounted,
         None if is_full(judged.table) => RefusalKind::TooLong,
         None => RefusalKind::Unbounded,
     };
-    (kind, Cause::of(bare(uncounted), None))
+    let cause = Cause::of(alloc, uncounted.map(|text| Remark::bare(text)), None)?;
+    Ok((kind, cause))
 }
 
 /// What is told of a loop that no counter bounds, beside another refusal.
@@ -164,30 +176,6 @@ pub(crate) fn cause_of(
     Ok((RefusalKind::Breaks(refusal.breach.rule()), cause))
 }
 
-/// Why a program isn't verified, beside what a search for a run came to.
-fn unverified(
-    alloc: Global,
-    judged: Judged<'_>,
-    refusal: Refusal,
-    evidence: Option<Evidence>,
-) -> Result<(RefusalKind, Cause)> {
-    let uncounted = uncounted_text(alloc, judged.program, Roads::Kept(judged), judged.lines)?;
-    let rule = refusal.breach.rule();
-    if rule == Rule::K7 {
-        return Ok(unbounded_cause(judged, uncounted));
-    }
-    let cause = blame_of(alloc, judged, refusal)?;
-    let beside = beside(alloc, uncounted)?;
-    Ok((
-        RefusalKind::Breaks(rule),
-        Cause {
-            beside,
-            evidence,
-            ..cause
-        },
-    ))
-}
-
 /// Why a program isn't verified. Nobody wrote the table, so nothing is said of its ticks. The run
 /// is the one that shows it, if one was found.
 pub(crate) fn unverified_cause(
@@ -196,8 +184,16 @@ pub(crate) fn unverified_cause(
     refusal: Refusal,
     shown: Option<&Shown>,
 ) -> Result<(RefusalKind, Cause)> {
-    let evidence = evidence_of(alloc, judged, refusal, shown)?;
-    unverified(alloc, judged, refusal, evidence)
+    let uncounted = uncounted_text(alloc, judged.program, Roads::Kept(judged), judged.lines)?;
+    let rule = refusal.breach.rule();
+    if rule == Rule::K7 {
+        return unbounded_cause(alloc, judged, uncounted);
+    }
+    let uncounted = beside(alloc, uncounted)?;
+    let mut cause = blame_of(alloc, judged, refusal)?;
+    cause.facts.extend(uncounted)?;
+    push_evidence(alloc, &mut cause, judged, refusal, shown)?;
+    Ok((RefusalKind::Breaks(rule), cause))
 }
 
 /// The loop that no counter bounds, or else the shortest one through a place.
@@ -230,8 +226,5 @@ pub(crate) fn loop_cause(
 ) -> Result<Cause> {
     let lines = place_lines(alloc, text)?;
     let way = loop_text(alloc, program, &lines, place)?;
-    Ok(Cause {
-        way,
-        ..Cause::none()
-    })
+    Cause::of(alloc, None, way)
 }

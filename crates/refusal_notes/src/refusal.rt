@@ -5,7 +5,7 @@ ghost use Rattle.texts.specs.Words.{lines_by_feed};
 ghost use Rattle.refusal_notes.specs.Places.{IsOnPlace};
 
 use crate::Result;
-use crate::cause::{Cause, Evidence};
+use crate::cause::Cause;
 use crate::reason::{cause_of, loop_cause, unverified_cause};
 use crate::roads::Judged;
 use facts::Rule;
@@ -131,29 +131,6 @@ pub(crate) fn page_of(kind: RefusalKind) -> Option<&'static str> {
     }
 }
 
-/// Adds what a search for a run came to.
-fn push_evidence(
-    alloc: Global,
-    facts: &mut Vec<String>,
-    helps: &mut Vec<String>,
-    evidence: Option<Evidence>,
-) -> Result<()> {
-    match evidence {
-        Some(Evidence::Shown(lines)) => {
-            facts.extend(lines)?;
-            helps.push(String::from_str(alloc, "pmseq refute prints it")?)?;
-            Ok(())
-        }
-        Some(Evidence::NoneFound) => {
-            let none = "no run was found that does this; the board's ranges or the facts may be \
-                        too wide";
-            facts.push(String::from_str(alloc, none)?)?;
-            Ok(())
-        }
-        None => Ok(()),
-    }
-}
-
 /// The note on a refusal, with what is to blame for it.
 fn detailed_note(
     alloc: Global,
@@ -169,19 +146,10 @@ fn detailed_note(
     };
     let Cause {
         blame,
-        known,
-        way,
-        origin,
-        beside,
-        evidence,
+        facts,
+        mut helps,
     } = cause;
     let Remark { message, help } = blaming(alloc, message_of(kind), kind, blame)?;
-    let (mut facts, mut helps) = (Vec::new(alloc), Vec::new(alloc));
-    facts.extend(known)?;
-    facts.extend(way)?;
-    facts.extend(origin)?;
-    facts.extend(beside)?;
-    push_evidence(alloc, &mut facts, &mut helps, evidence)?;
     helps.extend(help)?;
     let note = Note::on(alloc, Level::Error, "%program", text, number)?;
     let page = page_of(kind);
@@ -205,7 +173,7 @@ pub fn refusal_note(
 ) -> Result<Option<Note>>
     ensures { IfOk result (IsOnPlace Level.Error (lines_by_feed text.now) place) }
 {
-    detailed_note(alloc, text, place, kind, Cause::none())
+    detailed_note(alloc, text, place, kind, Cause::none(alloc))
 }
 
 /// The same for a program with this text that is refused with a table that was read: with what is

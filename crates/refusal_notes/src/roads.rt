@@ -80,18 +80,13 @@ impl<'a> Judged<'a> {
 
     /// The first of the rules K1 to K5 that a place's instruction breaks at a row.
     pub(crate) fn broken_at(self, place: usize, row: &Row) -> Option<Rule> {
-        match self.program.at(place) {
-            Some(instr) => duty(self.board, instr, row),
-            None => None,
-        }
+        duty(self.board, self.program.at(place)?, row)
     }
 
     /// Whether a place's instruction breaks one of them.
     fn is_broken(self, place: usize) -> bool {
-        match self.row(place) {
-            Some(row) => self.broken_at(place, row).is_some(),
-            None => false,
-        }
+        self.row(place)
+            .is_some_and(|row| self.broken_at(place, row).is_some())
     }
 
     /// Where those edges lead.

@@ -1,12 +1,13 @@
 //! A run that shows the harm of a refused program, in words.
 
 use crate::Result;
-use crate::cause::Evidence;
+use crate::cause::Cause;
 use crate::happened::{Happened, count, push_times};
 use crate::roads::Judged;
 use board::Board;
 use facts::Rule;
-use sentences::Word::{Count, Hex, Target, Text};
+use sentences::Figure::{Count, Hex};
+use sentences::Word::{Target, Text};
 use sentences::{Kept, Sentence, say, told};
 use seq_program::Program;
 use session::Shown;
@@ -15,6 +16,9 @@ use smbus::Answer;
 use std::alloc::Global;
 use table_check::Refusal;
 use targets::Outcome;
+
+const NONE_FOUND: &str =
+    "no run was found that does this; the board's ranges or the facts may be too wide";
 
 /// So many things that happened are told at most.
 const MOST_TOLD: usize = 8;
@@ -106,17 +110,17 @@ fn sentence_of<'a>(judged: Judged<'a>, happened: &Happened<Happening>) -> Senten
     };
     match happened.what {
         Happening::Read(value) => {
-            say!["  line " {line} ": " {target} " answers " {Hex(value, 4)}]
+            say!["  line " (line) ": " {target} " answers " (Hex(value, 4))]
         }
         Happening::NotAcknowledged(took) => say![
-            "  line " {line} ": " {target} " doesn't acknowledge" {Text(took_word(took))}
+            "  line " (line) ": " {target} " doesn't acknowledge" {Text(took_word(took))}
         ],
         Happening::TimedOut(took) => say![
-            "  line " {line} ": SCL is held low too long" {Text(took_word(took))}
+            "  line " (line) ": SCL is held low too long" {Text(took_word(took))}
         ],
-        Happening::Lost => say!["  line " {line} ": another controller wins"],
+        Happening::Lost => say!["  line " (line) ": another controller wins"],
         Happening::Alerted(alerts) => say![
-            "  line " {line} ": targets begin to alert, alerts=" {Hex(alerts, 1)}
+            "  line " (line) ": targets begin to alert, alerts=" (Hex(alerts, 1))
         ],
     }
 }
@@ -138,7 +142,7 @@ fn start_of<'a>(board: &'a Board, shown: &Shown, kept: Kept, index: usize) -> Op
         return None;
     }
     let (command, name) = (Text(kept.command()), Target(board, index));
-    Some(say!["  " {command} " of " {name} " starts as " {Hex(u16::from(*value), 2)}])
+    Some(say!["  " {command} " of " {name} " starts as " (Hex(u16::from(*value), 2))])
 }
 
 /// How the targets of a run start, a line each, where they may start in several ways.
@@ -198,21 +202,28 @@ fn shown_lines(
     Ok(facts)
 }
 
-/// Whether a run shows that a program is refused with reason, if its rule is one that runs break.
-pub(crate) fn evidence_of(
+/// Adds what a search for a run came to, where the rule is one that runs break.
+pub(crate) fn push_evidence(
     alloc: Global,
+    cause: &mut Cause,
     judged: Judged<'_>,
     refusal: Refusal,
     shown: Option<&Shown>,
-) -> Result<Option<Evidence>> {
+) -> Result<()> {
     match (shown, refusal.breach.rule()) {
         (Some(shown), _) => {
-            let facts = shown_lines(alloc, judged, refusal, shown)?;
-            Ok(Some(Evidence::Shown(facts)))
+            cause
+                .facts
+                .extend(shown_lines(alloc, judged, refusal, shown)?)?;
+            cause
+                .helps
+                .push(String::from_str(alloc, "pmseq refute prints it")?)?;
+            Ok(())
         }
         (None, Rule::K1 | Rule::K2 | Rule::K3 | Rule::K4 | Rule::K5) => {
-            Ok(Some(Evidence::NoneFound))
+            cause.facts.push(String::from_str(alloc, NONE_FOUND)?)?;
+            Ok(())
         }
-        _ => Ok(None),
+        _ => Ok(()),
     }
 }

@@ -5,8 +5,9 @@ use crate::kept::{kept_values, may_keep};
 use crate::roads::Judged;
 use board::Board;
 use facts::{Misfit, Row, Span, Unheld};
-use sentences::Word::{Count, Hex, Number, Rail, Target, Text};
-use sentences::{Kept, Sentence, Word, say, told};
+use sentences::Figure::{Count, Hex, Number};
+use sentences::Word::{Rail, Target, Text};
+use sentences::{Figure, Kept, Sentence, say, told};
 use seq_program::MOST_TURNS;
 use simulator::MOST_TICKS;
 use std::alloc::Global;
@@ -15,8 +16,8 @@ use std::alloc::Global;
 fn empty_span(letter: &'static str, spans: &[Span], index: usize) -> Option<Sentence<'static>> {
     let Span { lo, hi } = *spans.get(index)?;
     Some(say![
-        {Text(letter)} {Count(index)} " is from " {Number(u64::from(lo))} " to "
-        {Number(u64::from(hi))} ", in no order"
+        {Text(letter)} (Count(index)) " is from " (Number(u64::from(lo))) " to "
+        (Number(u64::from(hi))) ", in no order"
     ])
 }
 
@@ -25,7 +26,7 @@ fn foreign_page<'a>(board: &'a Board, row: &Row, target: usize) -> Option<Senten
     let (count, pages) = (board.target(target)?.pages(), row.pages.get(target)?);
     let page = (count..32).find(|page| pages.contains(*page))?;
     let name = Target(board, target);
-    Some(say![{name} " has no page " {Hex(u16::from(page), 2)}])
+    Some(say![{name} " has no page " (Hex(u16::from(page), 2))])
 }
 
 /// What makes a row none of the board. A table that was read has only sets of its board's targets,
@@ -39,19 +40,19 @@ fn row_detail<'a>(board: &'a Board, row: &Row, misfit: Misfit) -> Option<Sentenc
         Misfit::Counter(index) => empty_span("c", &row.counters, index),
         Misfit::Lost => {
             let low = Number(low);
-            Some(say!["`lost` is from " {low} " to " {high} ", in no order"])
+            Some(say!["`lost` is from " (low) " to " (high) ", in no order"])
         }
         Misfit::Contentions => {
             let most = Number(u64::from(board.contentions()));
-            Some(say!["`lost` is up to " {high} ", and `contentions` is " {most}])
+            Some(say!["`lost` is up to " (high) ", and `contentions` is " (most)])
         }
         Misfit::Turns(index) => {
             let most = Number(u64::from(MOST_TURNS));
-            Some(say!["c" {Count(index)} " is over " {most}])
+            Some(say!["c" (Count(index)) " is over " (most)])
         }
         Misfit::Ticks => {
             let most = Number(MOST_TICKS);
-            Some(say!["a number of `ticks` is over " {most}])
+            Some(say!["a number of `ticks` is over "(most)])
         }
     }
 }
@@ -66,7 +67,7 @@ pub(crate) fn length_detail(judged: Judged<'_>) -> Sentence<'static> {
         "instructions"
     };
     say![
-        "it has " {Count(rows)} " " {Text(unit)} ", and the program has " {Count(places)} " "
+        "it has " (Count(rows)) " " {Text(unit)} ", and the program has " (Count(places)) " "
         {Text(sort)}
     ]
 }
@@ -105,7 +106,7 @@ fn kept_start<'a>(
         .find(|value| !may_keep(row, kept, target, **value))?;
     let value = Hex(u16::from(*value), 2);
     Some(say![
-        {Text(kept.command())} " of " {Target(board, target)} " may be " {value}
+        {Text(kept.command())} " of " {Target(board, target)} " may be " (value)
         " at the start, and row 0 has " {kept_values(row, kept, target)?}
     ])
 }
@@ -120,8 +121,8 @@ fn target_start<'a>(board: &'a Board, row: &'a Row, target: usize) -> Option<Sen
 fn span_start(letter: &'static str, spans: &[Span], index: usize) -> Option<Sentence<'static>> {
     let span = spans.get(index)?;
     Some(say![
-        {Text(letter)} {Count(index)} " is 0 at the start, and row 0 has "
-        {Word::Span(span.lo, span.hi)}
+        {Text(letter)} (Count(index)) " is 0 at the start, and row 0 has "
+        (Figure::Span(span.lo, span.hi))
     ])
 }
 
@@ -134,15 +135,15 @@ fn row_start<'a>(board: &'a Board, row: &'a Row, unheld: Unheld) -> Option<Sente
         ]),
         Unheld::Register(index) => span_start("r", &row.regs, index),
         Unheld::Source(index) => Some(say![
-            "nothing was read at the start, and row 0 has a source for r" {Count(index)}
+            "nothing was read at the start, and row 0 has a source for r"(Count(index))
         ]),
         Unheld::Counter(index) => span_start("c", &row.counters, index),
         Unheld::Lost => {
-            let lost = Word::Span(row.lost.lo, row.lost.hi);
-            Some(say!["`lost` is 0 at the start, and row 0 has " {lost}])
+            let lost = Figure::Span(row.lost.lo, row.lost.hi);
+            Some(say!["`lost` is 0 at the start, and row 0 has "(lost)])
         }
         Unheld::LostTicks => Some(say![
-            "the last number of `ticks` is 0 at the start, and row 0 has " {Number(row.lost_coeff)}
+            "the last number of `ticks` is 0 at the start, and row 0 has "(Number(row.lost_coeff))
         ]),
     }
 }

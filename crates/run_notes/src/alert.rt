@@ -1,7 +1,7 @@
 //! Answers to alert responses.
 
 use crate::step::Step;
-use sentences::Word::Hex;
+use sentences::Figure::Hex;
 use sentences::{Sentence, say};
 use smbus::Answer;
 use std::alloc::Global;
@@ -23,7 +23,7 @@ fn alert_byte(alloc: Global, step: &Step) -> Option<u16> {
 pub(crate) fn alert_misfit(alloc: Global, step: &Step) -> Sentence<'static> {
     match alert_byte(alloc, step) {
         Some(byte) => say![
-            "the target that wins the alert response is told by \"value=" {Hex(byte, 1)} "\" alone"
+            "the target that wins the alert response is told by \"value=" (Hex(byte, 1)) "\" alone"
         ],
         None => say!["nobody alerts here, and that is told by \"refuse=0\" alone"],
     }

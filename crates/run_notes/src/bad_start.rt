@@ -2,8 +2,9 @@
 
 use crate::Result;
 use board::Board;
-use sentences::Word::{Bytes, Count, Hex, Name, Target, Text};
-use sentences::{Advice, Kept, Remark, say};
+use sentences::Figure::{Count, Hex};
+use sentences::Word::{Name, Target, Text};
+use sentences::{Advice, Kept, Remark, listed_bytes, say};
 use session::Scenario;
 use std::alloc::Global;
 
@@ -14,8 +15,8 @@ fn bad_count(board: &Board, kept: Kept, values: &[u8]) -> Option<Advice<'static>
         return None;
     }
     Some(say![
-        "values of " {Text(kept.command())} ": expected " {Count(wanted)} ", found "
-        {Count(found)}
+        "values of " {Text(kept.command())} ": expected " (Count(wanted)) ", found "
+        (Count(found))
     ]
     .with_help(say!["one for each target, in the board's order"]))
 }
@@ -32,14 +33,15 @@ fn first_other(board: &Board, kept: Kept, values: &[u8]) -> Option<(usize, u8)> 
 }
 
 /// What is wrong with a value that its target doesn't start with.
-fn bad_value(board: &Board, kept: Kept, index: usize, value: u8) -> Advice<'_> {
+fn bad_value(alloc: Global, board: &Board, kept: Kept, index: usize, value: u8) -> Result<Remark> {
     let starts = board
         .target(index)
         .map_or(&[][..], |target| kept.starts(target));
+    let starts = listed_bytes(alloc, starts)?;
     let (target, value) = (Target(board, index), Hex(u16::from(value), 2));
-    say![{target} " doesn't start with " {Text(kept.command())} " " {value}].with_help(
-        say!["its " {Name(kept.key())} " on the board: " {Bytes(starts)}],
-    )
+    say![{target} " doesn't start with " {Text(kept.command())} " " (value)]
+        .with_help(say!["its " {Name(kept.key())} " on the board: " {Text(&starts)}])
+        .told(alloc)
 }
 
 /// What is said of the start of a scenario.
@@ -56,7 +58,7 @@ pub(crate) fn bad_start(alloc: Global, scenario: &Scenario<'_>) -> Result<Remark
     }
     for (kept, values) in starts {
         if let Some((index, value)) = first_other(board, kept, values) {
-            return bad_value(board, kept, index, value).told(alloc);
+            return bad_value(alloc, board, kept, index, value);
         }
     }
     say!["a start that the board doesn't name"]

@@ -3,7 +3,7 @@
 use crate::Result;
 use crate::step::Step;
 use board::Board;
-use sentences::Word::{Count, Hex, Number};
+use sentences::Figure::{Count, Hex, Number};
 use sentences::{Sentence, say};
 use smbus::{Answer, Contender, Message, contender_slot_count};
 use std::alloc::Global;
@@ -80,15 +80,15 @@ fn holds_clash(board: &Board, contender: &Contender) -> Sentence<'static> {
         Some(slot) => {
             let hold = contender.holds.get(slot).copied().unwrap_or(0);
             say![
-                "a hold of " {Number(u64::from(hold))} " ticks in slot " {Count(slot)}
+                "a hold of " (Number(u64::from(hold))) " ticks in slot " (Count(slot))
                 " of the other controller's frame; the board's \"foreign_stretch\" is "
-                {Number(u64::from(most))}
+                (Number(u64::from(most)))
             ]
         }
         None => say![
-            "a hold in slot " {Count(contender.holds.len().saturating_sub(1))}
+            "a hold in slot " (Count(contender.holds.len().saturating_sub(1)))
             " of the other controller's frame; its slots are 0 to "
-            {Count(contender_slot_count(contender).saturating_sub(1))}
+            (Count(contender_slot_count(contender).saturating_sub(1)))
         ],
     }
 }
@@ -107,21 +107,21 @@ pub(crate) fn contended_misfit<'a>(
     match clash {
         Clash::Holds => holds_clash(step.board, contender),
         Clash::Bytes => say![
-            "the other controller's frame has " {Count(contender.bytes.len())}
+            "the other controller's frame has " (Count(contender.bytes.len()))
             " data bytes; the board's \"foreign_bytes\" is "
-            {Number(u64::from(step.board.foreign_bytes()))}
+            (Number(u64::from(step.board.foreign_bytes())))
         ],
         Clash::Contentions => say![
-            "another controller wins, and others won " {Number(u64::from(bus.lost))}
+            "another controller wins, and others won " (Number(u64::from(bus.lost)))
             " times before; the board's \"contentions\" is "
-            {Number(u64::from(step.board.contentions()))}
+            (Number(u64::from(step.board.contentions())))
         ],
         Clash::Beside => say![
-            "another controller wins, since 0x" {to} " is lower than 0x"
-            {Hex(u16::from(message.address), 2)} ": beside it an answer has only \"alerts=\""
+            "another controller wins, since 0x" (to) " is lower than 0x"
+            (Hex(u16::from(message.address), 2)) ": beside it an answer has only \"alerts=\""
         ],
         Clash::Address => say![
-            "another controller's frame to 0x" {to} ", which isn't in the board's \"foreign\""
+            "another controller's frame to 0x" (to) ", which isn't in the board's \"foreign\""
         ],
     }
 }

@@ -10,7 +10,7 @@ use crate::counted::counted_line;
 use crate::misfit::refuse_misfit;
 use bundles::Exchange;
 use notes::{Level, Note};
-use sentences::Word::{Count, Text};
+use sentences::Figure::Count;
 use sentences::{Advice, note_in, say};
 use smbus::{Form, Message, SmbusFault};
 use std::alloc::Global;
@@ -31,7 +31,7 @@ fn bad_data(exchange: &Exchange) -> Advice<'static> {
     let found = message.out.len();
     match data_count(message.form) {
         Some(count) if count != found => say![
-            "data bytes in \"out=\": expected " {Count(count)} ", found " {Count(found)}
+            "data bytes in \"out=\": expected " (Count(count)) ", found " (Count(found))
         ]
         .with_help(say!["the code stands in \"code=\", and words low byte first"]),
         _ => refuse_misfit(message, answer).with_help(say![
@@ -44,12 +44,12 @@ fn bad_data(exchange: &Exchange) -> Advice<'static> {
 fn bad_block(message: &Message, returned: usize) -> Advice<'static> {
     let written = Count(message.out.len());
     let message = match message.form {
-        Form::BlockWrite => say!["a block of " {written} " bytes in \"out=\""],
+        Form::BlockWrite => say!["a block of " (written) " bytes in \"out=\""],
         Form::BlockRead if returned == 0 => {
             say!["\"bytes=\" is missing, the block that comes back"]
         }
-        Form::BlockRead => { say!["a block of " {Count(returned)} " bytes in \"bytes=\""] }
-        _ => say![{written} " bytes in \"out=\" and " {Count(returned)} " in \"bytes=\""],
+        Form::BlockRead => { say!["a block of " (Count(returned)) " bytes in \"bytes=\""] }
+        _ => say![(written) " bytes in \"out=\" and " (Count(returned)) " in \"bytes=\""],
     };
     let help = "a block has 1 to 255 bytes of two digits each, as in \"bytes=4143\", and both of a \
                 block call have at most 255 together";

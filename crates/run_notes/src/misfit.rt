@@ -6,7 +6,8 @@ use crate::contended::{Clash, clash_of, contended_misfit};
 use crate::returned::returned_misfit;
 use crate::step::Step;
 use board::Board;
-use sentences::Word::{Count, Hex, Name, Number};
+use sentences::Figure::{Count, Hex, Number};
+use sentences::Word::Name;
 use sentences::{Sentence, say};
 use smbus::{Answer, Form, Message, sent_count, slot_count};
 use std::alloc::Global;
@@ -94,16 +95,16 @@ fn first_silent(board: &Board, alerts: u16) -> Option<usize> {
 fn alerts_misfit(board: &Board, alerts: u16) -> Sentence<'_> {
     let digits = Hex(alerts, 1);
     let Some(index) = first_silent(board, alerts) else {
-        return say!["alerts=" {digits}];
+        return say!["alerts="(digits)];
     };
     match board.target_name(index) {
         Some(name) => say![
-            {Name(name)} " alerts by bit " {Count(index)} " of alerts=" {digits}
+            {Name(name)} " alerts by bit " (Count(index)) " of alerts=" (digits)
             ", which it can't on this board"
         ],
         None => say![
-            "bit " {Count(index)} " of alerts=" {digits} "; the board's targets are "
-            {Count(board.targets().len())}
+            "bit " (Count(index)) " of alerts=" (digits) "; the board's targets are "
+            (Count(board.targets().len()))
         ],
     }
 }
@@ -115,14 +116,14 @@ fn holds_misfit(board: &Board, message: &Message, answer: &Answer) -> Sentence<'
         Some(slot) => {
             let hold = answer.holds.get(slot).copied().unwrap_or(0);
             say![
-                "a hold of " {Number(u64::from(hold))} " ticks in slot " {Count(slot)}
-                "; the board's targets stretch by at most " {Number(u64::from(most))}
+                "a hold of " (Number(u64::from(hold))) " ticks in slot " (Count(slot))
+                "; the board's targets stretch by at most " (Number(u64::from(most)))
             ]
         }
         None => say![
-            "a hold in slot " {Count(answer.holds.len().saturating_sub(1))}
+            "a hold in slot " (Count(answer.holds.len().saturating_sub(1)))
             "; the slots of the frame are 0 to "
-            {Count(slot_count(message, answer).saturating_sub(1))}
+            (Count(slot_count(message, answer).saturating_sub(1)))
         ],
     }
 }
@@ -130,9 +131,9 @@ fn holds_misfit(board: &Board, message: &Message, answer: &Answer) -> Sentence<'
 /// What is wrong with a byte that is refused.
 pub(crate) fn refuse_misfit(message: &Message, answer: &Answer) -> Sentence<'static> {
     say![
-        "refuse=" {Number(u64::from(answer.refuse.unwrap_or(0)))}
+        "refuse=" (Number(u64::from(answer.refuse.unwrap_or(0))))
         "; the bytes that the controller sends here are 0 to "
-        {Count(sent_count(message).saturating_sub(1))}
+        (Count(sent_count(message).saturating_sub(1)))
     ]
 }
 

@@ -5,13 +5,14 @@ use crate::step::Step;
 use board::{Allow, Board, Range};
 use pmbus_table::by_code;
 use pmbus_table::code::{PAGE, WRITE_PROTECT};
-use sentences::Word::{Count, Hex, Number, Read, Text};
-use sentences::{Sentence, Word, say};
+use sentences::Figure::{Count, Hex, Number};
+use sentences::Word::{Read, Text};
+use sentences::{Figure, Sentence, Word, say};
 use smbus::{Answer, Form, Message, carries_code};
 use std::alloc::Global;
 
 /// A number with as many digits as the form's values have.
-fn digits_of(form: Form, number: u16) -> Word<'static> {
+fn digits_of(form: Form, number: u16) -> Figure {
     match form {
         Form::ReadWord | Form::ProcessCall => Hex(number, 4),
         _ => Hex(number, 2),
@@ -57,7 +58,7 @@ fn nothing_misfit(form: Form, answer: &Answer) -> Sentence<'static> {
     let text = Text(form_text(form));
     if answer.value != 0 {
         let value = Hex(answer.value, 4);
-        return say!["value " {value} " for " {text} ", whose answer is \"-\""];
+        return say!["value " (value) " for " {text} ", whose answer is \"-\""];
     }
     say!["a block for " {text} ", whose answer is \"-\""]
 }
@@ -68,8 +69,8 @@ fn stored_misfit<'a>(step: &Step<'a>, message: &Message, stored: &[u8]) -> Sente
     let index = board.target_at(message.address).unwrap_or(0);
     let byte = stored.get(index).copied().unwrap_or(0);
     say![
-        {subject_of(board, message)} " is " {Hex(u16::from(byte), 2)} " here, the answer says "
-        {Hex(answer.value, 2)}
+        {subject_of(board, message)} " is " (Hex(u16::from(byte), 2)) " here, the answer says "
+        (Hex(answer.value, 2))
     ]
 }
 
@@ -78,12 +79,12 @@ fn value_misfit<'a>(step: &Step<'a>, message: &Message) -> Sentence<'a> {
     let (board, answer, form) = (step.board, step.answer, message.form);
     let value = digits_of(form, answer.value);
     let Some(entry) = board.entry_for(message) else {
-        return say!["value " {value} "; a byte has at most FF"];
+        return say!["value " (value) "; a byte has at most FF"];
     };
     let Range { low, high } = entry.values();
     say![
-        "value " {value} "; " {subject_of(board, message)} " has the values " {digits_of(form, low)}
-        " to " {digits_of(form, high)} " on the board"
+        "value " (value) "; " {subject_of(board, message)} " has the values " (digits_of(form, low))
+        " to " (digits_of(form, high)) " on the board"
     ]
 }
 
@@ -109,8 +110,8 @@ fn bytes_misfit<'a>(step: &Step<'a>, message: &Message, entry: &Allow) -> Senten
     let Range { low, high } = entry.length();
     if count < usize::from(low) || count > usize::from(high) {
         return say![
-            "a block of " {Count(count)} " bytes; " {subject} " has " {Number(u64::from(low))}
-            " to " {Number(u64::from(high))} " on the board"
+            "a block of " (Count(count)) " bytes; " {subject} " has " (Number(u64::from(low)))
+            " to " (Number(u64::from(high))) " on the board"
         ];
     }
     let Range { low, high } = entry.values();
@@ -118,8 +119,8 @@ fn bytes_misfit<'a>(step: &Step<'a>, message: &Message, entry: &Allow) -> Senten
         u16::from(*byte) < low || u16::from(*byte) > high
     });
     say![
-        "byte " {Hex(u16::from(outside.unwrap_or(0)), 2)} " in the block; those of " {subject}
-        " are " {Hex(low, 2)} " to " {Hex(high, 2)} " on the board"
+        "byte " (Hex(u16::from(outside.unwrap_or(0)), 2)) " in the block; those of " {subject}
+        " are " (Hex(low, 2)) " to " (Hex(high, 2)) " on the board"
     ]
 }
 
@@ -129,7 +130,7 @@ fn block_misfit<'a>(step: &Step<'a>, message: &Message) -> Sentence<'a> {
     let (board, answer) = (step.board, step.answer);
     if answer.value != 0 {
         let value = Hex(answer.value, 4);
-        return say!["value " {value} " for " {text} ", whose answer is \"bytes=\""];
+        return say!["value " (value) " for " {text} ", whose answer is \"bytes=\""];
     }
     let (count, written) = (answer.bytes.len(), message.out.len());
     if count == 0 {
@@ -137,13 +138,13 @@ fn block_misfit<'a>(step: &Step<'a>, message: &Message) -> Sentence<'a> {
     }
     if count > 255_usize.saturating_sub(written) {
         return say![
-            "blocks of " {Count(written)} " and " {Count(count)}
+            "blocks of " (Count(written)) " and " (Count(count))
             " bytes; both have at most 255 together"
         ];
     }
     match board.entry_for(message) {
         Some(entry) => bytes_misfit(step, message, entry),
-        None => say!["a block of " {Count(count)} " bytes for " {text}],
+        None => say!["a block of " (Count(count)) " bytes for " {text}],
     }
 }
 

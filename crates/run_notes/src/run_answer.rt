@@ -78,13 +78,7 @@ fn remark_on(alloc: Global, ran: &Ran<'_>, program: &str, fault: RunFault) -> Re
         ),
         (RunFault::AfterEnd(index), Some(stop)) => late_remark(alloc, program, index, stop),
         (RunFault::BadStart, _) => bad_start(alloc, scenario),
-        _ => {
-            let message = format!(in alloc; "{fault}")?;
-            Ok(Remark {
-                message,
-                help: None,
-            })
-        }
+        _ => Ok(Remark::bare(format!(in alloc; "{fault}")?)),
     }
 }
 

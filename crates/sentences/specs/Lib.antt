@@ -3,3 +3,4 @@ pub mod Sentences
 pub mod Kept
 pub mod Rails
 pub mod Marked
+pub mod Remarks

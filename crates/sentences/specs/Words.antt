@@ -12,6 +12,8 @@ use Rattle.pmbus_table.specs.Codes.{all_pages}
 use Rattle.pmbus_table.specs.Voltage.{mantissas_in_volt}
 use Rattle.facts.specs.domain.Sets.{Set, pages_in, protects_in}
 use Rattle.notes.specs.ShownLines.{quoted}
+use Rattle.sentences.specs.declared.word.Figure.{Figure}
+use Rattle.sentences.specs.declared.word.Figure.TheVariants as figures
 use Rattle.sentences.specs.declared.word.Word.{Word}
 use Rattle.sentences.specs.declared.word.Word.TheVariants as words
 
@@ -74,6 +76,19 @@ abbrev pub limit_text : ℕ → ℤ → List ℕ
 limit_text limit exponent =
     greatest_text limit (mantissas_in_volt exponent) ++ (decimal limit ++ codes " uV")
 
+-- what a figure says
+abbrev pub figure_text : Figure → List ℕ
+figure_text (figures.Count count) = decimal count
+figure_text (figures.Number number) = decimal number
+figure_text (figures.Span low high) = span_text low high
+figure_text (figures.Hex number count) = hex_text number count
+figure_text (figures.Command code) = command_text code
+figure_text (figures.Entry form code) = entry_text form.now code
+figure_text (figures.Permitting code) = bytes_text (codes "0x") (codes " or ") (permitting code)
+figure_text (figures.Voltage mantissa microvolts) =
+    decimal mantissa ++ (codes ", " ++ (decimal microvolts ++ codes " uV"))
+figure_text (figures.Limit limit exponent) = limit_text limit exponent
+
 -- what a word says; nothing is claimed of a name that isn't ASCII
 abbrev pub said : Word → Option (List ℕ)
 said words.Nothing = Some []
@@ -81,21 +96,9 @@ said (words.Text text) = Some text.now
 said (words.Name name) = quoted name.now
 said (words.Target board index) = quoted (name_at index board.now.target_names)
 said (words.Rail board index) = quoted (name_at index board.now.rail_names)
-said (words.Names names) = Some (names_text names.now)
-said (words.Listed texts) = Some (join_by (λ t. t.now) (codes ", ") texts.now)
-said (words.Count count) = Some (decimal count)
-said (words.Number number) = Some (decimal number)
-said (words.Span low high) = Some (span_text low high)
-said (words.Hex number count) = Some (hex_text number count)
-said (words.Bytes bytes) = Some (bytes_text [] (codes ", ") bytes.now)
+said (words.Read code name) = read_text code name.now
 said (words.Pages pages) =
     Some (bytes_text [] (codes ", ") (page_values (pages_in pages.now)))
 said (words.Protects protects) =
     Some (bytes_text [] (codes ", ") (filter (protects_in protects.now) protections))
-said (words.Command code) = Some (command_text code)
-said (words.Read code name) = read_text code name.now
-said (words.Entry form code) = Some (entry_text form.now code)
-said (words.Permitting code) = Some (bytes_text (codes "0x") (codes " or ") (permitting code))
-said (words.Voltage mantissa microvolts) =
-    Some (decimal mantissa ++ (codes ", " ++ (decimal microvolts ++ codes " uV")))
-said (words.Limit limit exponent) = Some (limit_text limit exponent)
+said (words.Figure figure) = Some (figure_text figure)

@@ -1,6 +1,6 @@
 //! What is said of a fault, and what may help.
 
-ghost use Rattle.std.specs.Prelude.{IfOk};
+ghost use Rattle.std.specs.Prelude.{◌≡◌, IfOk, None};
 ghost use Rattle.sentences.specs.Sentences.{TellsAdvice};
 
 use crate::Result;
@@ -12,6 +12,18 @@ use std::alloc::Global;
 pub struct Remark {
     pub message: String,
     pub help: Option<String>,
+}
+
+impl Remark {
+    /// What is said, where no more may be said to mend it.
+    pub fn bare(message: String) -> Remark
+        ensures { result ≡ record { message = message; help = None } }
+    {
+        Remark {
+            message,
+            help: None,
+        }
+    }
 }
 
 /// What is said, and what may help, before it is written.

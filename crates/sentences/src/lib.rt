@@ -14,7 +14,7 @@ pub use on_line::{marked, note_in, note_on};
 pub use rails::rail_names;
 pub use sentence::{Sentence, told};
 use std::alloc::AllocError;
-pub use word::Word;
+pub use word::{Figure, Word, listed_bytes, quoted_names};
 
 /// What can fail for want of memory.
 pub(crate) type Result<T> = std::result::Result<T, AllocError>;

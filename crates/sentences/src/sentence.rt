@@ -22,12 +22,17 @@ pub struct Sentence<'a> {
     fourth: Word<'a>,
 }
 
-/// A sentence: its texts as literals, and between them its words in braces, at most four. The gaps
-/// of its template are made from them, so none can lack its word.
+/// A sentence: its texts as literals, and between them its words in braces and its figures in
+/// parentheses, at most four. The gaps of its template are made from them, so none can lack its
+/// word.
 #[macro_export]
 macro_rules! say {
     (@ [$($text:literal)*] [$($word:expr,)*] [_ $($left:tt)*] {$said:expr} $($rest:tt)*) => {
         $crate::say!(@ [$($text)* "\0"] [$said, $($word,)*] [$($left)*] $($rest)*)
+    };
+    (@ [$($text:literal)*] [$($word:expr,)*] [$($left:tt)*] ($figure:expr) $($rest:tt)*) => {
+        $crate::say!(@ [$($text)*] [$($word,)*] [$($left)*]
+            {$crate::Word::Figure($figure)} $($rest)*)
     };
     (@ [$($text:literal)*] [$($word:expr,)*] [$($left:tt)*] $next:literal $($rest:tt)*) => {
         $crate::say!(@ [$($text)* $next] [$($word,)*] [$($left)*] $($rest)*)

@@ -1,15 +1,15 @@
 //! The words of sentences.
 
-ghost use Rattle.std.specs.Prelude.{◌≡◌, ◌++◌, [], option_map, string_bytes};
+ghost use Rattle.std.specs.Prelude.{◌≡◌, ◌++◌, [], codes, option_map, string_bytes};
 ghost use Rattle.std.specs.Prelude.{unwrap_or, IfOk, IfSome, OnOk};
 ghost use Rattle.std.specs.List.{filter, range_with_len};
 ghost use Rattle.texts.specs.Hex.{pair_text};
 ghost use Rattle.pmbus_table.specs.Protect.{protections};
 ghost use Rattle.facts.specs.domain.Sets.{pages_in, protects_in};
 ghost use Rattle.notes.specs.ShownLines.{quoted};
-ghost use Rattle.sentences.specs.Words.{bytes_text, command_text, entry_text, hex_text};
-ghost use Rattle.sentences.specs.Words.{limit_text, names_text, page_values, permitting};
-ghost use Rattle.sentences.specs.Words.{read_text, said, span_text};
+ghost use Rattle.sentences.specs.Words.{bytes_text, command_text, entry_text, figure_text};
+ghost use Rattle.sentences.specs.Words.{hex_text, limit_text, names_text, page_values};
+ghost use Rattle.sentences.specs.Words.{permitting, read_text, said, span_text};
 
 use crate::Result;
 use board::Board;
@@ -20,7 +20,8 @@ use pmbus_table::{PROTECTIONS, by_code, mantissas_in_volt, name_of, permits};
 use std::alloc::Global;
 use texts::{push_pair, push_word as push_digits};
 
-/// A word of a sentence.
+/// A word of a sentence. Each is kept small, since a proof goes through all parts of the eight that
+/// an advice may have: what needs no text of somebody else is a figure.
 #[derive(Clone, Copy)]
 pub enum Word<'a> {
     /// Nothing is said.
@@ -33,10 +34,20 @@ pub enum Word<'a> {
     Target(&'a Board, usize),
     /// The name of a board's rail, by its index.
     Rail(&'a Board, usize),
-    /// Names in quotes, with commas between them.
-    Names(&'a [&'a str]),
-    /// Texts with commas between them.
-    Listed(&'a [&'a str]),
+    /// What is read by the command with a code from the target of this name, or what that sends by
+    /// itself.
+    Read(Option<u8>, &'a str),
+    /// The values of PAGE in a set.
+    Pages(&'a PageSet),
+    /// The values of WRITE_PROTECT in a set.
+    Protects(&'a ProtectSet),
+    /// A number, or what is said by numbers.
+    Figure(Figure),
+}
+
+/// A number, or what is said by numbers.
+#[derive(Clone, Copy)]
+pub enum Figure {
     /// A number in decimal digits.
     Count(usize),
     /// The same.
@@ -45,19 +56,10 @@ pub enum Word<'a> {
     Span(u16, u16),
     /// Upper case hexadecimal digits, at least so many: 1, 2 or 4.
     Hex(u16, usize),
-    /// Bytes of two digits, with commas between them.
-    Bytes(&'a [u8]),
-    /// The values of PAGE in a set.
-    Pages(&'a PageSet),
-    /// The values of WRITE_PROTECT in a set.
-    Protects(&'a ProtectSet),
     /// The name of the command with this code.
     Command(u8),
-    /// What is read by the command with a code from the target of this name, or what that sends by
-    /// itself.
-    Read(Option<u8>, &'a str),
     /// An entry of `allow` with this form, and with the command of this code if it has one.
-    Entry(&'a str, Option<u8>),
+    Entry(&'static str, Option<u8>),
     /// The values of WRITE_PROTECT that permit a write of the command with this code.
     Permitting(u8),
     /// A voltage by its mantissa, and in microvolts.
@@ -86,16 +88,15 @@ fn push_name(text: &mut String, name: &str) -> Result<()>
     write!(text, "{name}")
 }
 
-/// Adds names in quotes.
-fn push_names(alloc: Global, text: &mut String, names: &[&str]) -> Result<()>
-    ensures { OnOk result (string_bytes text.new
-        ≡ string_bytes text.old ++ names_text names.now) }
+/// Names in quotes, with commas between them. Fails only for want of memory.
+pub fn quoted_names(alloc: Global, names: &[&str]) -> Result<String>
+    ensures { IfOk result (λ text. string_bytes text ≡ names_text names.now) }
 {
     let [_, ..] = names else {
-        return Ok(());
+        return Ok(String::new(alloc));
     };
     let names = names.join(alloc, "\", \"")?;
-    write!(text, "\"{names}\"")
+    format!(in alloc; "\"{names}\"")
 }
 
 /// Adds the name of a command, if there is one.
@@ -140,6 +141,15 @@ fn push_byte(text: &mut String, before: &str, byte: u8) -> Result<()>
 {
     text.push_str(before)?;
     push_pair(text, byte)
+}
+
+/// Bytes of two digits, with commas between them. Fails only for want of memory.
+pub fn listed_bytes(alloc: Global, bytes: &[u8]) -> Result<String>
+    ensures { IfOk result (λ text. string_bytes text ≡ bytes_text [] (codes ", ") bytes.now) }
+{
+    let mut text = String::new(alloc);
+    push_bytes(&mut text, bytes, "", ", ")?;
+    Ok(text)
 }
 
 /// Adds bytes of two digits, each behind a text, and a text between each two.
@@ -239,6 +249,24 @@ fn push_limit(text: &mut String, limit: u32, exponent: i8) -> Result<()>
     write!(text, "{limit} uV")
 }
 
+/// Adds what a figure says.
+fn push_figure(alloc: Global, text: &mut String, figure: Figure) -> Result<()>
+    ensures { OnOk result
+        (string_bytes text.new ≡ string_bytes text.old ++ figure_text figure) }
+{
+    match figure {
+        Figure::Count(count) => write!(text, "{count}"),
+        Figure::Number(number) => write!(text, "{number}"),
+        Figure::Span(low, high) => push_span(text, low, high),
+        Figure::Hex(number, digits) => push_hex(text, number, digits),
+        Figure::Command(code) => push_command(alloc, text, code),
+        Figure::Entry(form, code) => push_entry(alloc, text, form, code),
+        Figure::Permitting(code) => push_bytes(text, &permitting(alloc, code)?, "0x", " or "),
+        Figure::Voltage(mantissa, microvolts) => write!(text, "{mantissa}, {microvolts} uV"),
+        Figure::Limit(limit, exponent) => push_limit(text, limit, exponent),
+    }
+}
+
 /// Adds what a word says.
 pub(crate) fn push_word(alloc: Global, text: &mut String, word: Word) -> Result<()>
     ensures { OnOk result (IfSome (said word.entry)
@@ -250,20 +278,9 @@ pub(crate) fn push_word(alloc: Global, text: &mut String, word: Word) -> Result<
         Word::Name(name) => push_name(text, name),
         Word::Target(board, index) => push_name(text, name_or_none(board.target_name(index))),
         Word::Rail(board, index) => push_name(text, name_or_none(board.rail_name(index))),
-        Word::Names(names) => push_names(alloc, text, names),
-        Word::Listed(words) => text.push_str(&words.join(alloc, ", ")?),
-        Word::Count(count) => write!(text, "{count}"),
-        Word::Number(number) => write!(text, "{number}"),
-        Word::Span(low, high) => push_span(text, low, high),
-        Word::Hex(number, digits) => push_hex(text, number, digits),
-        Word::Bytes(bytes) => push_bytes(text, bytes, "", ", "),
+        Word::Read(code, name) => push_read(alloc, text, code, name),
         Word::Pages(pages) => push_bytes(text, &pages_of(alloc, pages)?, "", ", "),
         Word::Protects(protects) => push_bytes(text, &protects_of(alloc, protects)?, "", ", "),
-        Word::Command(code) => push_command(alloc, text, code),
-        Word::Read(code, name) => push_read(alloc, text, code, name),
-        Word::Entry(form, code) => push_entry(alloc, text, form, code),
-        Word::Permitting(code) => push_bytes(text, &permitting(alloc, code)?, "0x", " or "),
-        Word::Voltage(mantissa, microvolts) => write!(text, "{mantissa}, {microvolts} uV"),
-        Word::Limit(limit, exponent) => push_limit(text, limit, exponent),
+        Word::Figure(figure) => push_figure(alloc, text, figure),
     }
 }

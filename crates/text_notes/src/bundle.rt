@@ -66,10 +66,7 @@ fn no_text(alloc: Global, text: &str, fault: BundleFault) -> Result<Remark> {
         }
         _ => format!(in alloc; "{fault}")?,
     };
-    Ok(Remark {
-        message,
-        help: None,
-    })
+    Ok(Remark::bare(message))
 }
 
 /// What is said of a fault of a bundle.

@@ -2,7 +2,7 @@
 
 use crate::Result;
 use notes::lowercase_suggestion;
-use sentences::Word::Listed;
+use sentences::Word::Text;
 use sentences::say;
 use std::alloc::Global;
 
@@ -27,6 +27,9 @@ pub(crate) const NAMES: [&str; 13] = [
 pub(crate) fn form_help(alloc: Global, word: &str) -> Result<String> {
     match lowercase_suggestion(alloc, word, &NAMES)? {
         Some(help) => Ok(help),
-        None => say!["the forms are " {Listed(&NAMES)}].told(alloc),
+        None => {
+            let forms = NAMES.join(alloc, ", ")?;
+            say!["the forms are " {Text(&forms)}].told(alloc)
+        },
     }
 }

@@ -11,7 +11,8 @@ use crate::program::unknown_target::{target_remark, unnamed};
 use board::Board;
 use notes::{Level, Note, line_at, lowercase_suggestion};
 use plans::{LineFault, MOST_TICKS, MOST_TIMES, PlanFault};
-use sentences::Word::{Name, Number, Text};
+use sentences::Figure::Number;
+use sentences::Word::{Name, Text};
 use sentences::{Advice, Remark, Sentence, marked, note_in, say};
 use std::alloc::Global;
 use texts::{without_comment, words_of};
@@ -99,10 +100,10 @@ fn word_remark(
         LineFault::NoTarget(_) => return target_remark(alloc, board, word),
         LineFault::WordCount => say!["too few or too many words behind " {found}],
         LineFault::NoVoltage(_) => say![{found} " is no voltage that can be commanded"],
-        LineFault::NoRetries(_) => say!["expected 0 to " {Number(MOST_TIMES)} ", found " {found}],
+        LineFault::NoRetries(_) => say!["expected 0 to " (Number(MOST_TIMES)) ", found " {found}],
         LineFault::NoTicks(_) =>
-            say!["expected 1 to " {Number(MOST_TICKS)} " ticks, found " {found}],
-        LineFault::NoCount(_) => say!["expected 1 to " {Number(MOST_TIMES)} ", found " {found}],
+            say!["expected 1 to " (Number(MOST_TICKS)) " ticks, found " {found}],
+        LineFault::NoCount(_) => say!["expected 1 to " (Number(MOST_TIMES)) ", found " {found}],
         LineFault::NoProtection(_) => say![{found} " is no value of WRITE_PROTECT"],
         LineFault::SameRail => say![{found} " can't be turned on before itself"],
         LineFault::Twice => return say!["a line above wishes this already"].alone().told(alloc),

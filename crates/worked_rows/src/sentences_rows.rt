@@ -7,7 +7,8 @@ use facts::{GoodSet, PageSet, ProtectSet};
 use notes::Level;
 use pmbus_table::code::OPERATION;
 use sentences::{
-    Advice, Kept, Remark, Sentence, Word, marked, note_in, note_on, rail_names, say, told,
+    Advice, Figure, Kept, Remark, Sentence, Word, listed_bytes, marked, note_in, note_on,
+    quoted_names, rail_names, say, told,
 };
 use std::alloc::{AllocError, Global};
 use std::process::Abort;
@@ -30,41 +31,48 @@ fn words(rt: HostRuntime) {
         (Word::Nothing, "<>"),
         (Word::Text("a\tb"), "<a\tb>"),
         (Word::Name("a\tb"), "<\"a\\tb\">"),
-        (Word::Names(&["va", "vb"]), "<\"va\", \"vb\">"),
-        (Word::Names(&[]), "<>"),
-        (Word::Listed(&["va", "vb"]), "<va, vb>"),
-        (Word::Count(7), "<7>"),
-        (Word::Number(8), "<8>"),
-        (Word::Span(1, 1), "<1>"),
-        (Word::Span(1, 2), "<1 to 2>"),
-        (Word::Hex(10, 1), "<A>"),
-        (Word::Hex(10, 2), "<0A>"),
-        (Word::Hex(266, 2), "<10A>"),
-        (Word::Hex(10, 4), "<000A>"),
-        (Word::Bytes(&[0, 255]), "<00, FF>"),
+        (Word::Read(Some(0x79), "vr"), "<STATUS_WORD of \"vr\">"),
+        (Word::Read(None, "vr"), "<what \"vr\" sends>"),
+        (Word::Figure(Figure::Count(7)), "<7>"),
     ];
     each_says(&rt, rt.alloc(), &rows);
 }
 
 /// 1.1 V is under 4506 times two to -12 (4505.6).
 #[test]
-fn words_of_the_field(rt: HostRuntime) {
+fn figures(rt: HostRuntime) {
     let rows = [
-        (Word::Command(OPERATION), "<OPERATION>"),
-        (Word::Command(0xD0), "<D0>"),
-        (Word::Read(Some(0x79), "vr"), "<STATUS_WORD of \"vr\">"),
-        (Word::Read(None, "vr"), "<what \"vr\" sends>"),
+        (Figure::Number(8), "<8>"),
+        (Figure::Span(1, 1), "<1>"),
+        (Figure::Span(1, 2), "<1 to 2>"),
+        (Figure::Hex(10, 1), "<A>"),
+        (Figure::Hex(10, 2), "<0A>"),
+        (Figure::Hex(266, 2), "<10A>"),
+        (Figure::Hex(10, 4), "<000A>"),
+        (Figure::Command(OPERATION), "<OPERATION>"),
+        (Figure::Command(0xD0), "<D0>"),
         (
-            Word::Entry("send", Some(3)),
+            Figure::Entry("send", Some(3)),
             "<{form = \"send\", command = \"CLEAR_FAULTS\"}>",
         ),
-        (Word::Entry("receive", None), "<{form = \"receive\"}>"),
-        (Word::Permitting(OPERATION), "<0x00 or 0x20 or 0x40>"),
-        (Word::Voltage(4096, 1_000_000), "<4096, 1000000 uV>"),
-        (Word::Limit(1_100_000, -12), "<4505, 1100000 uV>"),
-        (Word::Limit(1_100_000, 1), "<1100000 uV>"),
+        (Figure::Entry("receive", None), "<{form = \"receive\"}>"),
+        (Figure::Permitting(OPERATION), "<0x00 or 0x20 or 0x40>"),
+        (Figure::Voltage(4096, 1_000_000), "<4096, 1000000 uV>"),
+        (Figure::Limit(1_100_000, -12), "<4505, 1100000 uV>"),
+        (Figure::Limit(1_100_000, 1), "<1100000 uV>"),
     ];
-    each_says(&rt, rt.alloc(), &rows);
+    let alloc = rt.alloc();
+    for (figure, want) in &rows {
+        says(&rt, said(alloc, Word::Figure(*figure)), want);
+    }
+}
+
+#[test]
+fn lists(rt: HostRuntime) {
+    let alloc = rt.alloc();
+    says(&rt, quoted_names(alloc, &["va", "vb"]), "\"va\", \"vb\"");
+    says(&rt, quoted_names(alloc, &[]), "");
+    says(&rt, listed_bytes(alloc, &[0, 255]), "00, FF");
 }
 
 /// The words that stand for parts of a board, and of what is known on it.
@@ -80,7 +88,7 @@ fn board_words(alloc: Global, board: &Board) -> Result<String, AllocError> {
         {Word::Pages(&pages)}
     ]
     .told(alloc)?;
-    let second = say![" " {Word::Protects(&protects)}].told(alloc)?;
+    let second = say![" "{Word::Protects(&protects)}].told(alloc)?;
     format!(in alloc; "{first}{second}")
 }
 
@@ -115,21 +123,32 @@ fn texts_of(alloc: Global, remark: Remark) -> Result<String, AllocError> {
     format!(in alloc; "{message}/{help}")
 }
 
-/// Three ways to say what may help, and none.
-fn advices(alloc: Global) -> Result<String, AllocError> {
-    let plain = Sentence::plain("a\0").led_by(Word::Count(1));
-    let Advice { message, help } = plain.alone();
-    let alone = texts_of(alloc, Advice { message, help }.told(alloc)?)?;
-    let sentence = texts_of(alloc, plain.with_help(say!["b"]).told(alloc)?)?;
-    let text = texts_of(alloc, plain.with_text("c").told(alloc)?)?;
+fn one() -> Sentence<'static> {
+    Sentence::plain("a\0").led_by(Word::Figure(Figure::Count(1)))
+}
+
+fn advice_text(alloc: Global, advice: Advice) -> Result<String, AllocError> {
+    texts_of(alloc, advice.told(alloc)?)
+}
+
+/// What may help is a text already.
+fn helped(alloc: Global) -> Result<String, AllocError> {
     let help = told(alloc, Some(say!["d"]))?;
-    let helped = texts_of(alloc, plain.helped_by(alloc, help)?)?;
-    format!(in alloc; "{alone} {sentence} {text} {helped}")
+    texts_of(alloc, one().helped_by(alloc, help)?)
+}
+
+fn bare(alloc: Global) -> Result<String, AllocError> {
+    texts_of(alloc, Remark::bare(String::from_str(alloc, "e")?))
 }
 
 #[test]
 fn advice(rt: HostRuntime) {
-    says(&rt, advices(rt.alloc()), "a1/- a1/b a1/c a1/d");
+    let alloc = rt.alloc();
+    says(&rt, advice_text(alloc, one().alone()), "a1/-");
+    says(&rt, advice_text(alloc, one().with_help(say!["b"])), "a1/b");
+    says(&rt, advice_text(alloc, one().with_text("c")), "a1/c");
+    says(&rt, helped(alloc), "a1/d");
+    says(&rt, bare(alloc), "e/-");
 }
 
 /// A note on the second line of a text, with a mark below a word.

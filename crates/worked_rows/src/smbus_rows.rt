@@ -283,11 +283,20 @@ fn longest_block_is_counted(rt: HostRuntime) {
     same(&rt, most_slots(Form::BlockWrite, 255, 0), 2323);
 }
 
-fn compare_longest(rt: &impl Abort, alloc: Global) -> Option<()> {
+/// How the longest block is driven.
+fn longest_driven(alloc: Global) -> Option<Driven> {
     let answer = answer_of(alloc, None, 0, &[]).ok()?;
-    let driven = drive_frame(alloc, &longest_block(alloc).ok()?, &answer)?;
-    let zeros = "00A ".repeat(alloc, 255).ok()?;
-    let text = format!(in alloc; "S 80A D0A FFA {zeros}P").ok()?;
+    drive_frame(alloc, &longest_block(alloc).ok()?, &answer)
+}
+
+fn longest_text(alloc: Global) -> Result<String, AllocError> {
+    let zeros = "00A ".repeat(alloc, 255)?;
+    format!(in alloc; "S 80A D0A FFA {zeros}P")
+}
+
+fn compare_longest(rt: &impl Abort, alloc: Global) -> Option<()> {
+    let driven = longest_driven(alloc)?;
+    let text = longest_text(alloc).ok()?;
     compare(rt, alloc, &driven, (text.as_str(), 4648, None))
 }
 

@@ -5,8 +5,8 @@ use crate::warning::allowed::allowing;
 use board::Board;
 use facts::GoodSet;
 use program_lints::ProgramLint;
-use sentences::Word::{Names, Rail, Target};
-use sentences::{Remark, Sentence, rail_names, say};
+use sentences::Word::{Rail, Target, Text};
+use sentences::{Remark, Sentence, quoted_names, rail_names, say};
 use seq_program::{Instr, Program};
 use std::alloc::Global;
 
@@ -50,11 +50,11 @@ fn message_of<'a>(
     board: &'a Board,
     lint: &ProgramLint,
     is_end: bool,
-    rails: &'a [&'a str],
+    rails: &'a str,
 ) -> Sentence<'a> {
     match lint {
         ProgramLint::OnAtFail { .. } => {
-            say!["the program fails here and may leave on: " {Names(rails)}]
+            say!["the program fails here and may leave on: " {Text(rails)}]
         }
         ProgramLint::BeforeVoltage { rail, .. } => say![
             "this may turn on rail " {Rail(board, *rail)} " before a voltage was written to it"
@@ -91,7 +91,7 @@ pub(crate) fn lint_remark(
     lint: &ProgramLint,
 ) -> Result<Remark> {
     let is_end = matches!(program.at(lint.place()), Some(Instr::End));
-    let rails = rail_names(alloc, board, rails_of(lint))?;
+    let rails = quoted_names(alloc, &rail_names(alloc, board, rails_of(lint))?)?;
     let message = message_of(board, lint, is_end, &rails);
     let help = allowing(mending(lint, is_end), lint.name(), meaning(lint));
     message.with_help(help).told(alloc)

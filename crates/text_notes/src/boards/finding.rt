@@ -12,7 +12,7 @@ use crate::boards::words::{
     bad_page, self_need, unknown_command, unknown_form, unknown_need, unknown_target,
 };
 use board::{At, FaultKind, Key, Place, Site};
-use sentences::Word::Count;
+use sentences::Figure::Count;
 use sentences::{Remark, say};
 use std::alloc::Global;
 use toml::{Table, Value};
@@ -28,11 +28,7 @@ pub(crate) struct Finding<'a> {
 
 /// What is said of a fault of which no more is known.
 fn bare(alloc: Global, kind: FaultKind) -> Result<Remark> {
-    let message = format!(in alloc; "{kind}")?;
-    Ok(Remark {
-        message,
-        help: None,
-    })
+    Ok(Remark::bare(format!(in alloc; "{kind}")?))
 }
 
 /// What is said of a board with too many tables.
@@ -40,11 +36,11 @@ fn too_many(alloc: Global, draft: &Draft<'_>, place: Place) -> Result<Remark> {
     let message = match place {
         Place::Rail(_) => {
             let count = Count(draft.rails.len());
-            say!["a board has at most 64 rails, and this one has " {count}]
+            say!["a board has at most 64 rails, and this one has "(count)]
         }
         _ => {
             let count = Count(draft.targets.len());
-            say!["a board has at most 16 targets, and this one has " {count}]
+            say!["a board has at most 16 targets, and this one has "(count)]
         }
     };
     message.alone().told(alloc)

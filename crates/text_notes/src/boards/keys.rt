@@ -6,15 +6,16 @@ use crate::boards::describe::shown;
 use crate::boards::key_words::{has_key, holds, key_names};
 use board::{Key, Place};
 use notes::lowercase_suggestion;
-use sentences::Word::{Name, Names, Text};
-use sentences::{Advice, Remark, Sentence, say};
+use sentences::Word::{Name, Text};
+use sentences::{Advice, Remark, Sentence, quoted_names, say};
 use std::alloc::Global;
 use toml::Value;
 
 /// What is said of a board without targets.
 fn no_target(alloc: Global) -> Result<Remark> {
     let names = key_names(alloc, Place::Target(0))?;
-    let help = say!["a target begins with a line [[target]]; its keys are " {Names(&names)}];
+    let names = quoted_names(alloc, &names)?;
+    let help = say!["a target begins with a line [[target]]; its keys are " {Text(&names)}];
     say!["the board has no target"].with_help(help).told(alloc)
 }
 
@@ -32,8 +33,9 @@ pub(crate) fn missing_key(alloc: Global, blamed: &Blamed<'_>, key: Key) -> Resul
 fn unknown_key(alloc: Global, blamed: &Blamed<'_>, key: &str) -> Result<Remark> {
     let names = key_names(alloc, blamed.place)?;
     let help = lowercase_suggestion(alloc, key, &names)?;
-    let names = Names(&names);
-    say!["unknown key " {Name(key)} " of " {blamed.word()} "; its keys are " {names}].helped_by(
+    let names = quoted_names(alloc, &names)?;
+    let keys = Text(&names);
+    say!["unknown key " {Name(key)} " of " {blamed.word()} "; its keys are " {keys}].helped_by(
         alloc, help,
     )
 }

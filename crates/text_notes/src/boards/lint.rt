@@ -3,7 +3,8 @@
 use crate::Result;
 use board::{Board, Place};
 use board_lints::{Lack, Lint};
-use sentences::Word::{Hex, Number, Rail, Target, Text, Voltage};
+use sentences::Figure::{Command, Hex, Number, Voltage};
+use sentences::Word::{Rail, Target, Text};
 use sentences::{Advice, Remark, Word, say};
 use std::alloc::Global;
 
@@ -53,7 +54,7 @@ pub(crate) fn site_of(lint: &Lint) -> (Place, &'static str) {
 fn of_pages(board: &Board, target: usize, read: u8) -> Advice<'_> {
     let message = say![
         "PAGE of " {Target(board, target)}
-        " may be 255 at the start, all pages, and the program reads " {Word::Command(read)}
+        " may be 255 at the start, all pages, and the program reads " (Command(read))
         ", which needs one"
     ];
     message.with_text(SELECT)
@@ -61,8 +62,8 @@ fn of_pages(board: &Board, target: usize, read: u8) -> Advice<'_> {
 
 fn of_protect(board: &Board, target: usize, protect: u8, written: u8) -> Advice<'_> {
     let message = say![
-        "WRITE_PROTECT of " {Target(board, target)} " may be 0x" {Hex(u16::from(protect), 2)}
-        " at the start, which forbids " {Word::Command(written)} ", and the program writes that"
+        "WRITE_PROTECT of " {Target(board, target)} " may be 0x" (Hex(u16::from(protect), 2))
+        " at the start, which forbids " (Command(written)) ", and the program writes that"
     ];
     message.with_text(UNPROTECT)
 }
@@ -119,15 +120,15 @@ fn of_limit(board: &Board, rail: usize, greatest: u16) -> Advice<'_> {
     let (limit, exponent) = limit_of(board, rail).unwrap_or((0, 0));
     let message = say![
         "no voltage that " {target_of(board, rail)} " takes is over the limit of rail "
-        {Rail(board, rail)} ", " {Number(u64::from(limit))} " uV: it takes up to "
-        {Voltage(u64::from(greatest), microvolts(greatest, exponent))}
+        {Rail(board, rail)} ", " (Number(u64::from(limit))) " uV: it takes up to "
+        (Voltage(u64::from(greatest), microvolts(greatest, exponent)))
     ];
     message.with_text(SAFE)
 }
 
 fn of_address(address: u8) -> Advice<'static> {
     let message = say![
-        "another controller's frame to 0x" {Hex(u16::from(address), 2)}
+        "another controller's frame to 0x" (Hex(u16::from(address), 2))
         " never wins over one of the program's"
     ];
     message.with_text(LOWER)
@@ -135,7 +136,7 @@ fn of_address(address: u8) -> Advice<'static> {
 
 fn of_contentions(contentions: u16) -> Advice<'static> {
     let message = say![
-        "other controllers may win " {Number(u64::from(contentions))}
+        "other controllers may win " (Number(u64::from(contentions)))
         " times, and the board has no `foreign`"
     ];
     message.with_text(NO_ONE_WINS)

@@ -19,15 +19,10 @@ fn line_after(text: &str) -> usize {
 /// What stands in a line of a text before a place, and the word there.
 fn word_at(text: &str, start: usize) -> Option<(&str, &str)> {
     let above = text.get(..start)?;
-    let before = match above.rsplit_once('\n') {
-        Some((_, before)) => before,
-        None => above,
-    };
+    let before = above.rsplit_once('\n').map_or(above, |(_, before)| before);
     let line = line_at(text.get(start..)?, 1)?;
-    match cut_at_space(line) {
-        Some((word, _)) => Some((before, word)),
-        None => Some((before, line)),
-    }
+    let word = cut_at_space(line).map_or(line, |(word, _)| word);
+    Some((before, word))
 }
 
 /// What may help on a line that TOML refuses.
@@ -77,20 +72,14 @@ fn cut_short(alloc: Global, number: usize, message: &str) -> Result<Finding<'sta
     let message = format!(in alloc; "no TOML document: {message}, behind the last line")?;
     Ok(Finding {
         number: number.saturating_sub(1),
-        remark: Remark {
-            message,
-            help: None,
-        },
+        remark: Remark::bare(message),
         at: None,
     })
 }
 
 /// What is said of a text that TOML refuses, at the place that it tells.
 pub(crate) fn not_toml<'a>(alloc: Global, text: &'a str, error: &Error) -> Result<Finding<'a>> {
-    let start = match error.span() {
-        Some(span) => span.start,
-        None => 0,
-    };
+    let start = error.span().map_or(0, |span| span.start);
     let line = line_after(text.get(..start).unwrap_or(""));
     let message = error.message();
     let Some(refused) = line_at(text, line) else {

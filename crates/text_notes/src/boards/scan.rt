@@ -7,13 +7,10 @@ use board::Place;
 /// How many inline tables begin on a line.
 fn opening_braces(line: &str) -> usize {
     let mut quotes = Quotes::none();
-    let mut count = 0usize;
-    for byte in without_comment(line).bytes() {
-        if !quotes.take_in(byte) && byte == b'{' {
-            count = count.saturating_add(1);
-        }
-    }
-    count
+    without_comment(line)
+        .bytes()
+        .filter(|byte| !quotes.take_in(*byte) && *byte == b'{')
+        .count()
 }
 
 /// What stands between the brackets of a header, `[[target]]` or `[target]`.
@@ -26,12 +23,15 @@ fn header_on(line: &str) -> Option<&str> {
     Some(name.trim().trim_matches('"'))
 }
 
-fn begins_table(line: &str) -> bool {
-    matches!(header_on(line), Some("target" | "rail"))
-}
+/// The headers of tables that stand by themselves.
+const TABLES: [&str; 2] = ["target", "rail"];
 
-fn begins_anything(line: &str) -> bool {
-    begins_table(line) || header_on(line) == Some("target.allow")
+/// All headers.
+const HEADERS: [&str; 3] = ["target", "rail", "target.allow"];
+
+/// Whether a line is a header with one of these names.
+fn is_header(line: &str, names: &[&str]) -> bool {
+    header_on(line).is_some_and(|name| names.contains(&name))
 }
 
 /// The key that a line begins with.
@@ -40,55 +40,40 @@ fn key_on(line: &str) -> Option<&str> {
     Some(key.trim().trim_matches('"'))
 }
 
-/// The place of a table's header.
+/// The place of the header of an index among those with this name.
 fn header_line(lines: &[SayingLine<'_>], name: &str, index: usize) -> Option<usize> {
-    let mut left = index;
-    for (place, line) in lines.iter().enumerate() {
-        if header_on(line.line) == Some(name) {
-            if left == 0 {
-                return Some(place);
-            }
-            left -= 1;
-        }
-    }
-    None
+    let mut headers = lines
+        .iter()
+        .enumerate()
+        .filter(|line| header_on(line.1.line) == Some(name));
+    Some(headers.nth(index)?.0)
+}
+
+/// The lines from the first on, before the next of these headers.
+fn own_lines<'a>(lines: &'a [SayingLine<'a>], headers: &[&str]) -> &'a [SayingLine<'a>] {
+    let mut behind = lines.iter().skip(1);
+    let below = behind.position(|line| is_header(line.line, headers));
+    let end = below.map_or(lines.len(), |below| below.saturating_add(1));
+    lines.get(..end).unwrap_or(lines)
 }
 
 /// The place of a key of the table whose lines begin here.
 fn key_line(lines: &[SayingLine<'_>], key: &str) -> Option<usize> {
-    for (place, line) in lines.iter().enumerate() {
-        if place > 0 && begins_anything(line.line) {
-            return None;
-        }
-        if key_on(line.line) == Some(key) {
-            return Some(place);
-        }
-    }
-    None
+    own_lines(lines, &HEADERS)
+        .iter()
+        .position(|line| key_on(line.line) == Some(key))
 }
 
 /// The place of the entry of an index that has a header, below the header of its target.
 fn entry_header(lines: &[SayingLine<'_>], index: usize) -> Option<usize> {
-    let mut left = index;
-    for (place, line) in lines.iter().enumerate() {
-        if place > 0 && begins_table(line.line) {
-            return None;
-        }
-        if header_on(line.line) == Some("target.allow") {
-            if left == 0 {
-                return Some(place);
-            }
-            left -= 1;
-        }
-    }
-    None
+    header_line(own_lines(lines, &TABLES), "target.allow", index)
 }
 
 /// The place of the entry of an index that stands in braces, in a list that begins here.
 fn entry_in_braces(lines: &[SayingLine<'_>], index: usize) -> Option<usize> {
     let mut above = 0usize;
     for (place, line) in lines.iter().enumerate() {
-        if begins_anything(line.line) {
+        if is_header(line.line, &HEADERS) {
             return None;
         }
         above = above.saturating_add(opening_braces(line.line));
@@ -116,10 +101,7 @@ fn entry_line(lines: &[SayingLine<'_>], index: usize) -> Option<usize> {
 
 /// The place of a target or a rail, or of the list of them.
 fn item_line(lines: &[SayingLine<'_>], name: &str, index: usize) -> Option<usize> {
-    match header_line(lines, name, index) {
-        Some(place) => Some(place),
-        None => key_line(lines, name),
-    }
+    header_line(lines, name, index).or(key_line(lines, name))
 }
 
 /// The place of a table, or of what it stands in.
@@ -139,13 +121,10 @@ fn table_line(lines: &[SayingLine<'_>], table: Place) -> Option<usize> {
 /// The place of a key of the board's own, or of the first table of that name.
 fn board_key_line(lines: &[SayingLine<'_>], key: &str) -> Option<usize> {
     let first = lines.first()?;
-    if begins_anything(first.line) {
+    if is_header(first.line, &HEADERS) {
         return header_line(lines, key, 0);
     }
-    match key_line(lines, key) {
-        Some(place) => Some(place),
-        None => header_line(lines, key, 0),
-    }
+    key_line(lines, key).or(header_line(lines, key, 0))
 }
 
 /// The place of a table, or of a key in it. Where that isn't found, it is one above, if any is.
@@ -164,11 +143,6 @@ pub(crate) fn place_of(lines: &[SayingLine<'_>], table: Place, key: Option<&str>
 /// The number of the line of a table, or of a key in it, counted from 1. Where that isn't found, it
 /// is a line above.
 pub(crate) fn number_of(lines: &[SayingLine<'_>], table: Place, key: Option<&str>) -> usize {
-    match place_of(lines, table, key) {
-        Some(place) => match lines.get(place) {
-            Some(line) => line.number,
-            None => 1,
-        },
-        None => 1,
-    }
+    let line = place_of(lines, table, key).and_then(|place| lines.get(place));
+    line.map_or(1, |line| line.number)
 }

@@ -6,7 +6,8 @@ use crate::boards::describe::name_of;
 use crate::boards::draft::Draft;
 use crate::boards::scan::number_of;
 use board::{Key, Place};
-use sentences::Word::{Count, Hex, Name, Text};
+use sentences::Figure::{Count, Hex};
+use sentences::Word::{Name, Text};
 use sentences::{Remark, say};
 use std::alloc::Global;
 use toml::Value;
@@ -84,7 +85,7 @@ fn same_word(alloc: Global, blamed: &Blamed<'_>, sort: &'static str) -> Result<R
     let help = name_help(alloc, blamed, sort)?;
     say![
         "two " {Text(sort)} "s have the name " {Name(blamed.text(Key::Name))} ": this is "
-        {Text(sort)} " " {Count(count_above(blamed.place).saturating_add(1))}
+        {Text(sort)} " " (Count(count_above(blamed.place).saturating_add(1)))
     ]
     .helped_by(alloc, help)
 }
@@ -116,7 +117,7 @@ pub(crate) fn same_name(alloc: Global, blamed: &Blamed<'_>) -> Result<Remark> {
 pub(crate) fn same_address(alloc: Global, blamed: &Blamed<'_>, value: &Value) -> Result<Remark> {
     let help = alike_help(alloc, blamed, &["address"], Some("address"))?;
     let address = u16::try_from(value.as_integer().unwrap_or(0)).unwrap_or(0);
-    say![{blamed.word()} " has the address 0x" {Hex(address, 2)} " of another target"].helped_by(
+    say![{blamed.word()} " has the address 0x" (Hex(address, 2)) " of another target"].helped_by(
         alloc, help,
     )
 }

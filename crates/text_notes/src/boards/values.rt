@@ -5,7 +5,8 @@ use crate::boards::blamed::Blamed;
 use crate::boards::describe::shown;
 use crate::boards::keys::bad_value;
 use board::{Key, full_values, is_target_address};
-use sentences::Word::{Hex, Name, Number, Text};
+use sentences::Figure::{Hex, Number};
+use sentences::Word::{Name, Text};
 use sentences::{Advice, Remark, Sentence, say};
 use smbus::form_named;
 use std::alloc::Global;
@@ -24,9 +25,10 @@ fn shifted_address(value: &Value) -> Option<u8> {
 /// What is said of an address that no target may have.
 pub(crate) fn bad_address(alloc: Global, blamed: &Blamed<'_>, value: &Value) -> Result<Remark> {
     let help = match shifted_address(value) {
-        Some(address) => Some(say![
-            "without the direction bit, the last of eight, it is 0x" {Hex(u16::from(address), 2)}
-        ]),
+        Some(address) => Some(say!["without the direction bit, the last of eight, it is 0x"(Hex(
+            u16::from(address),
+            2
+        ))]),
         None => blamed.key_help(Key::Address),
     };
     bad_value(alloc, blamed, Key::Address, value, help)
@@ -74,7 +76,7 @@ fn range_help<'a>(blamed: &'a Blamed<'_>, key: Key) -> Sentence<'a> {
     } else {
         say![
             {Name(form)} " takes [LOW, HIGH], two numbers from 0 to "
-            {Number(u64::from(most_carried(form)))} ", the first not above the second"
+            (Number(u64::from(most_carried(form)))) ", the first not above the second"
         ]
     }
 }

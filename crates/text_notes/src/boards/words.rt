@@ -9,8 +9,9 @@ use crate::program::unknown_command::{command_help, forms_help};
 use board::Key;
 use notes::lowercase_suggestion;
 use pmbus_table::{Command, by_name};
-use sentences::Word::{Name, Names, Number, Text};
-use sentences::{Advice, Remark, Sentence, Word, say};
+use sentences::Figure::Number;
+use sentences::Word::{Name, Text};
+use sentences::{Advice, Figure, Remark, Sentence, quoted_names, say};
 use smbus::form_named;
 use std::alloc::Global;
 use toml::Value;
@@ -27,7 +28,10 @@ fn names_help(
     names: &[&str],
 ) -> Result<Option<String>> {
     match lowercase_suggestion(alloc, word, names)? {
-        None => Ok(Some(say!["the " {Text(sort)} " are " {Names(names)}].told(alloc)?)),
+        None => {
+            let names = quoted_names(alloc, names)?;
+            Ok(Some(say!["the " {Text(sort)} " are " {Text(&names)}].told(alloc)?))
+        }
         help => Ok(help),
     }
 }
@@ -46,7 +50,7 @@ pub(crate) fn unknown_form(alloc: Global, blamed: &Blamed<'_>) -> Result<Remark>
 fn other_form<'a>(blamed: &'a Blamed<'_>, command: Command) -> Advice<'a> {
     Advice {
         message: say![
-            {Name(blamed.text(Key::Form))} " doesn't take \"" {Word::Command(command.code())}
+            {Name(blamed.text(Key::Form))} " doesn't take \"" (Figure::Command(command.code()))
             "\" in " {blamed.word()}
         ],
         help: forms_help(command),
@@ -114,7 +118,7 @@ fn pages_help<'a>(blamed: &'a Blamed<'_>) -> Option<Sentence<'a>> {
     let word = blamed.text(Key::Target);
     let pages = pages_of(blamed.draft.targets, word)?;
     Some(say![
-        "the \"pages\" of target " {Name(word)} " is " {Number(pages)} ", and its first page is 0"
+        "the \"pages\" of target " {Name(word)} " is " (Number(pages)) ", and its first page is 0"
     ])
 }
 

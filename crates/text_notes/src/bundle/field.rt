@@ -5,8 +5,8 @@ use crate::bundle::flawed::Flawed;
 use crate::form::form_help;
 use bundles::Key;
 use notes::lowercase_suggestion;
-use sentences::Word::{Listed, Name, Text};
-use sentences::{Advice, Remark, Sentence, say};
+use sentences::Word::{Name, Text};
+use sentences::{Remark, Sentence, say};
 use std::alloc::Global;
 use texts::pair_of;
 
@@ -65,7 +65,10 @@ fn unknown_help(alloc: Global, fields: FieldLine, word: &str) -> Result<String> 
     match lowercase_suggestion(alloc, &typed, &keys)? {
         Some(help) => Ok(help),
         None if word == "-" => String::from_str(alloc, "\"-\" stands alone on its line"),
-        None => say!["the fields here are " {Listed(&keys)}].told(alloc),
+        None => {
+            let keys = keys.join(alloc, ", ")?;
+            say!["the fields here are " {Text(&keys)}].told(alloc)
+        }
     }
 }
 
@@ -77,8 +80,8 @@ fn unknown_field(alloc: Global, fields: FieldLine, word: &str) -> Result<Remark>
 
 /// What is said of a field that stands too late, or twice.
 fn late_field(alloc: Global, fields: FieldLine, key: Key) -> Result<Remark> {
-    let keys = fields.key_texts(alloc)?;
-    let help = say!["each field stands once, in this order: " {Listed(&keys)}];
+    let keys = fields.key_texts(alloc)?.join(alloc, ", ")?;
+    let help = say!["each field stands once, in this order: " {Text(&keys)}];
     say![{Name(key.text())} " stands behind a later field"]
         .with_help(help)
         .told(alloc)

@@ -3,7 +3,7 @@
 use crate::Result;
 use bundles::{COMMANDS, Command, Header};
 use notes::{line_at, lowercase_suggestion};
-use sentences::Word::{Listed, Name, Text};
+use sentences::Word::{Name, Text};
 use sentences::{Remark, say, told};
 use std::alloc::Global;
 use texts::first_line;
@@ -16,11 +16,14 @@ pub(crate) fn unknown_command(alloc: Global, line: &str) -> Result<Remark> {
         .collect(alloc)?;
     let help = match lowercase_suggestion(alloc, line, &commands)? {
         Some(help) => help,
-        None => say![
-            "the first line is a command alone, one of " {Listed(&commands)}
-            ", and its sections follow"
-        ]
-        .told(alloc)?,
+        None => {
+            let commands = commands.join(alloc, ", ")?;
+            say![
+                "the first line is a command alone, one of " {Text(&commands)}
+                ", and its sections follow"
+            ]
+            .told(alloc)?
+        }
     };
     say!["unknown command " {Name(line)}].helped_by(alloc, Some(help))
 }
@@ -38,8 +41,11 @@ fn sections_help(alloc: Global, text: &str) -> Result<Option<String>> {
     };
     let headers = command.headers().iter();
     let names: Vec<&str> = headers.map(|header| header.text()).collect(alloc)?;
-    let sentence = say!["the sections here are " {Listed(&names)} ", in this order"];
-    told(alloc, Some(sentence))
+    let names = names.join(alloc, ", ")?;
+    told(
+        alloc,
+        Some(say!["the sections here are " {Text(&names)} ", in this order"]),
+    )
 }
 
 /// What is said of a header that is missing.
@@ -93,9 +99,7 @@ pub(crate) fn unexpected_line(alloc: Global, text: &str, number: usize) -> Resul
         let help = sections_help(alloc, text)?;
         return say!["only blank lines stand above the first section"].helped_by(alloc, help);
     }
-    let next = match command_in(text) {
-        Some(command) => command.headers().get(headers_above(text, number)).copied(),
-        None => None,
-    };
+    let above = headers_above(text, number);
+    let next = command_in(text).and_then(|command| command.headers().get(above).copied());
     other_header(alloc, line, next)
 }

@@ -3,7 +3,8 @@
 use crate::program::habit::habit_in;
 use crate::program::units::{mantissa_help, ticks_help};
 use board::Board;
-use sentences::Word::{Name, Number, Text};
+use sentences::Figure::Number;
+use sentences::Word::{Name, Text};
 use sentences::{Advice, Sentence, say};
 use seq_program::number_within;
 
@@ -80,8 +81,8 @@ pub(crate) fn bad_number<'a>(
 ) -> Advice<'a> {
     Advice {
         message: say![
-            "expected a number from " {Number(u64::from(misplaced.low))} " to "
-            {Number(u64::from(misplaced.high))} ", found " {Name(misplaced.word)}
+            "expected a number from " (Number(u64::from(misplaced.low))) " to "
+            (Number(u64::from(misplaced.high))) ", found " {Name(misplaced.word)}
         ],
         help: number_help(board, words, misplaced),
     }

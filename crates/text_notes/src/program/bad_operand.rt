@@ -3,7 +3,8 @@
 use crate::program::habit::habit_in;
 use crate::program::usage::usage_of;
 use pmbus_table::by_name;
-use sentences::Word::{Count, Name, Text};
+use sentences::Figure::Count;
+use sentences::Word::{Name, Text};
 use sentences::{Advice, Sentence, say};
 use seq_program::{Misfit, Operand};
 use smbus::Form;
@@ -17,7 +18,7 @@ fn misplaced(operand: Operand, found: &str) -> Sentence<'_> {
         Operand::Counter => "a counter, c0 to c3",
         Operand::Bytes(most) => {
             return say![
-                "expected 1 to " {Count(most)}
+                "expected 1 to " (Count(most))
                 " bytes of two digits, 0 to 9 or A to F, found " {found}
             ];
         }

@@ -1,7 +1,8 @@
 //! Programs that don't end, or are too long.
 
 use crate::Result;
-use sentences::Word::{Count, Name};
+use sentences::Figure::Count;
+use sentences::Word::Name;
 use sentences::{Remark, say};
 use seq_program::{MOST_PLACES, label_in};
 use std::alloc::Global;
@@ -45,12 +46,12 @@ pub(crate) fn no_end(alloc: Global, text: &str) -> Result<Remark> {
     let number = Count(number);
     let message = match label_in(&words) {
         Some(label) => say![
-            "the program doesn't end: the label " {Name(label)} " in line " {number}
+            "the program doesn't end: the label " {Name(label)} " in line " (number)
             " has no instruction"
         ],
         None => say![
             "the program doesn't end: its last instruction is "
-            {Name(words.first().copied().unwrap_or(""))} " in line " {number}
+            {Name(words.first().copied().unwrap_or(""))} " in line " (number)
         ],
     };
     message.with_text(help).told(alloc)
@@ -71,7 +72,7 @@ fn instruction_count(alloc: Global, text: &str) -> Result<usize> {
 /// What is said of the first instruction that is too many.
 pub(crate) fn too_long(alloc: Global, text: &str) -> Result<Remark> {
     let (most, count) = (Count(MOST_PLACES), Count(instruction_count(alloc, text)?));
-    say!["a program has at most " {most} " instructions, and this one has " {count}]
+    say!["a program has at most " (most) " instructions, and this one has " (count)]
         .alone()
         .told(alloc)
 }

@@ -3,7 +3,8 @@
 use crate::Result;
 use indexmap::IndexMap;
 use notes::lowercase_suggestion;
-use sentences::Word::{Count, Name};
+use sentences::Figure::Count;
+use sentences::Word::Name;
 use sentences::{Advice, Remark, say};
 use seq_program::{ProgramFault, label_in};
 use std::alloc::Global;
@@ -88,7 +89,7 @@ pub(crate) fn unknown_label(
 pub(crate) fn same_label(alloc: Global, labels: &LabelLines<'_>, words: &[&str]) -> Result<Remark> {
     let label = label_in(words).unwrap_or("");
     let first = labels.get(label).copied();
-    let help = first.map(|line| say!["it stands first in line " {Count(line)}]);
+    let help = first.map(|line| say!["it stands first in line "(Count(line))]);
     let message = say!["the label " {Name(label)} " stands twice"];
     Advice { message, help }.told(alloc)
 }

@@ -1,6 +1,8 @@
 //! Numbers with a unit, as engineers write them and programs don't have them.
 
-use sentences::Word::{Number, Text};
+use pmbus_table::mantissas_in_volt;
+use sentences::Figure::Number;
+use sentences::Word::Text;
 use sentences::{Sentence, say};
 use texts::decimal_within;
 
@@ -46,7 +48,7 @@ pub(crate) fn ticks_help(word: &str) -> Option<Sentence<'_>> {
         _ => return None,
     };
     let ticks = Number(micros.div_ceil(TICK));
-    Some(say![{Text(word)} " is " {ticks} " ticks of 5 us"])
+    Some(say![{Text(word)} " is " (ticks) " ticks of 5 us"])
 }
 
 /// The microvolts of a word that is a voltage: it has a point or a unit.
@@ -62,14 +64,11 @@ fn microvolts(word: &str) -> Option<u64> {
 
 /// The mantissa of a voltage at an exponent, where a word is one.
 pub(crate) fn mantissa_help(word: &str, exponent: i8) -> Option<Sentence<'_>> {
-    let microvolts = microvolts(word)?;
-    let digits = u32::from(exponent.unsigned_abs());
-    if exponent > 0 {
-        return None;
-    }
-    let mantissa = microvolts.checked_mul(1u64.checked_shl(digits)?)? / 1_000_000;
+    let in_volt = mantissas_in_volt(exponent)?;
+    let mantissa = microvolts(word)?.checked_mul(in_volt)? / 1_000_000;
+    let digits = u64::from(exponent.unsigned_abs());
     Some(say![
-        {Text(word)} " is the mantissa " {Number(mantissa)} " here, volts times 2 to the "
-        {Number(u64::from(digits))}
+        {Text(word)} " is the mantissa " (Number(mantissa)) " here, volts times 2 to the "
+        (Number(digits))
     ])
 }

@@ -4,7 +4,7 @@ use crate::Result;
 use notes::suggestion;
 use pmbus_table::{Command, by_code, by_name, name_of};
 use sentences::Word::{Name, Text};
-use sentences::{Advice, Remark, Sentence, Word, say, told};
+use sentences::{Advice, Figure, Remark, Sentence, say, told};
 use smbus::Form;
 use std::alloc::Global;
 use texts::pair_of;
@@ -52,15 +52,15 @@ fn use_of(form: Form) -> &'static str {
 
 /// The forms of a named command.
 pub(crate) fn forms_help(command: Command) -> Option<Sentence<'static>> {
-    let name = Word::Command(command.code());
+    let name = Figure::Command(command.code());
     match (command.form_written(), command.form_read()) {
         (Some(written), Some(read)) => {
             let (written, read) = (Text(use_of(written)), Text(use_of(read)));
-            Some(say!["\"" {name} "\" can be " {written} " and " {read}])
+            Some(say!["\"" (name) "\" can be " {written} " and " {read}])
         }
         (Some(form), None) | (None, Some(form)) => {
             let form = Text(use_of(form));
-            Some(say!["\"" {name} "\" can only be " {form}])
+            Some(say!["\"" (name) "\" can only be " {form}])
         }
         (None, None) => None,
     }
@@ -126,7 +126,7 @@ pub(crate) fn command_help(
     }
     match code_of(word) {
         Some(code) => {
-            let sentence = say!["did you mean \"" {Word::Command(code)} "\"?"];
+            let sentence = say!["did you mean \"" (Figure::Command(code)) "\"?"];
             told(alloc, Some(sentence))
         }
         None => command_suggestion(alloc, word, forms),

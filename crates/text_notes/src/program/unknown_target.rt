@@ -3,15 +3,16 @@
 use crate::Result;
 use board::Board;
 use notes::lowercase_suggestion;
-use sentences::Word::{Name, Names, Number, Target, Text};
-use sentences::{Remark, Sentence, say};
+use sentences::Figure::Number;
+use sentences::Word::{Name, Target, Text};
+use sentences::{Remark, Sentence, quoted_names, say};
 use std::alloc::Global;
 
 /// The target and the page of a rail, where a word names one.
 fn rail_help<'a>(board: &'a Board, word: &'a str) -> Option<Sentence<'a>> {
     let rail = board.rail(board.rail_named(word)?)?;
     Some(say![
-        {Name(word)} " is a rail: it is at page " {Number(u64::from(rail.page()))} " of the target "
+        {Name(word)} " is a rail: it is at page " (Number(u64::from(rail.page()))) " of the target "
         {Target(board, rail.target())}
     ])
 }
@@ -24,7 +25,8 @@ pub(crate) fn unnamed(
     names: &[&str],
     help: Option<String>,
 ) -> Result<Remark> {
-    say!["unknown " {Text(kind)} " " {Name(word)} ": the board has " {Names(names)}].helped_by(
+    let names = quoted_names(alloc, names)?;
+    say!["unknown " {Text(kind)} " " {Name(word)} ": the board has " {Text(&names)}].helped_by(
         alloc, help,
     )
 }

@@ -9,7 +9,7 @@ returns c =
     let number = c.number_within-number.result in
     let lines = lines_by_feed c.args.text.now in
     let on = c.in_ok-marked.ensures.line Error (codes "%board") number (line_at number lines)
-    c.in_ok-note.ensures in
+    c.in_ok-note.ensures.line in
     record {
       memory = λ is. absurd (c.in_default.not-Memory is);
       line = λ not. (number, (c.number_within-number.ensures, on));

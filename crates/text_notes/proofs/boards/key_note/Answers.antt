@@ -18,4 +18,4 @@ returns c =
         subst (λ (line : Option (List ℕ)).
             IsQuoting c.args.level (codes "%board") number line note) there.line quotes,
       ),
-    )) c.note_on.ensures
+    )) c.note_on.ensures.line

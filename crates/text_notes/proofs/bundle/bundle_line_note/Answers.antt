@@ -12,7 +12,7 @@ pub returns : goal.returns
 returns c =
     let lines = lines_by_feed c.args.text.now in
     let on = subst (λ (line : ℕ). IsOn Error (codes "bundle") line lines c.in_ok-note.note)
-    c.line_in.ensures c.in_ok-note.ensures in
+    c.line_in.ensures c.in_ok-note.ensures.line in
     IfOk-weaker c.marked.result _ _
     (λ note stays. stays Error (codes "bundle") (line_in c.args.fault)
     (line_at (line_in c.args.fault) lines) on) c.marked.ensures.line

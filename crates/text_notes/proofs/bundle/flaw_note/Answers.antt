@@ -12,7 +12,7 @@ returns c =
     let lines = lines_by_feed c.args.text.now in
     let number = c.args.number in
     let on = subst (λ (h : List ℕ). IsOn Error h number lines c.in_ok-note.note) c.text.ensures
-    c.in_ok-note.ensures in
+    c.in_ok-note.ensures.line in
     IfOk-weaker c.marked.result _ _
     (λ note stays. stays Error (header_text c.args.header) number (line_at number lines) on)
     c.marked.ensures.line

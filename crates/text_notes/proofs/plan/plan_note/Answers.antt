@@ -9,5 +9,5 @@ pub returns : goal.returns
 returns c =
     let line = line_at c.args.fault.line (lines_by_feed c.args.plan.now) in
     IfOk-weaker c.marked.result _ _
-    (λ note stays. stays Error (codes "%plan") c.args.fault.line line c.in_ok-note.ensures)
+    (λ note stays. stays Error (codes "%plan") c.args.fault.line line c.in_ok-note.ensures.line)
     c.marked.ensures.line

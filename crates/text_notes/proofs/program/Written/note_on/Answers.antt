@@ -7,4 +7,4 @@ pub returns : goal.returns
 returns c =
     IfOk-weaker c.marked.result _ _
     (λ note stays. stays Error (codes "%program") c.args.number (option_copied c.args.line)
-    c.in_ok-note.ensures) c.marked.ensures.line
+    c.in_ok-note.ensures.line) c.marked.ensures.line
