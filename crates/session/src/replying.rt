@@ -21,7 +21,6 @@ use crate::fault::InputFault;
 use crate::outcome::{
     Case, Checked, Drafted, Framed, Outcome, Played, Ran, Refuted, Searched, Verified,
 };
-use crate::planned::Planned;
 use crate::reply::{Reply, Status, refused};
 use crate::sequence::Sequence;
 use crate::unread::Unread;
@@ -90,8 +89,8 @@ fn verdict_reply(alloc: Global, verdict: Verdict) -> Result<Reply, AllocError>
     })
 }
 
-// An outcome is given up variant by variant: a function that gave up all of them would be dear to
-// prove, since its proof goes through the parts of each.
+// An outcome is given up variant by variant, and what isn't told of it by a call of `drop`: where a
+// struct goes out of scope by itself, the proof goes through all of its parts.
 
 fn unread_reply(alloc: Global, unread: Unread) -> Result<Reply, AllocError>
     ensures whole { IfOk result (λ reply. reply.status ≢ Status.DeviceFault) }
@@ -105,7 +104,8 @@ fn framed_reply(alloc: Global, framed: Framed) -> Result<Reply, AllocError>
     ensures replies { IfOk result
         (λ reply. reply_view reply ≡ told_reply faults.Frame framed.told) }
 {
-    let Framed { told, .. } = framed;
+    let Framed { exchange, told } = framed;
+    drop(exchange);
     match told {
         Ok(text) => Ok(text_reply(text)),
         Err(fault) => refused(alloc, InputFault::Frame(fault)),
@@ -117,7 +117,8 @@ fn ran_reply(alloc: Global, ran: Ran<'_>) -> Result<Reply, AllocError>
     ensures replies { IfOk result
         (λ reply. reply_view reply ≡ told_reply faults.Run ran.entry.told) }
 {
-    let Ran { told, .. } = ran;
+    let Ran { scenario, told, .. } = ran;
+    drop(scenario);
     match told {
         Ok(text) => Ok(text_reply(text)),
         Err(fault) => refused(alloc, InputFault::Run(fault)),
@@ -129,10 +130,25 @@ fn checked_reply(alloc: Global, checked: Checked) -> Result<Reply, AllocError>
     ensures replies { IfOk result
         (λ reply. reply_view reply ≡ checked_reply checked.judged) }
 {
-    let Checked { judged, .. } = checked;
-    match judged {
+    let reply = match &checked.judged {
         Ok(judged) => verdict_reply(alloc, judged.judgement.verdict()),
-        Err(line) => refused(alloc, InputFault::Table(TableFault::BadLine(line))),
+        Err(line) => refused(alloc, InputFault::Table(TableFault::BadLine(*line))),
+    };
+    drop(checked);
+    reply
+}
+
+/// The reply to a search.
+fn found_reply(alloc: Global, searched: &Searched) -> Result<Reply, AllocError>
+    requires { IsSearched searched.now.sequence searched.now.found }
+    ensures whole { IfOk result (λ reply. reply.status ≢ Status.DeviceFault) }
+    ensures status { IfOk result (λ reply. reply.status ≡ searched_status searched.now.found) }
+    ensures replies { IfOk result
+        (λ reply. IsFindReply searched.now.sequence (reply_view reply)) }
+{
+    match &searched.found {
+        Ok(table) => table_reply(alloc, &searched.sequence, table),
+        Err(place) => gave_up_reply(alloc, *place),
     }
 }
 
@@ -142,11 +158,9 @@ fn searched_reply(alloc: Global, searched: Searched) -> Result<Reply, AllocError
     ensures status { IfOk result (λ reply. reply.status ≡ searched_status searched.found) }
     ensures replies { IfOk result (λ reply. IsFindReply searched.sequence (reply_view reply)) }
 {
-    let Searched { sequence, found } = searched;
-    match found {
-        Ok(table) => table_reply(alloc, &sequence, &table),
-        Err(place) => gave_up_reply(alloc, place),
-    }
+    let reply = found_reply(alloc, &searched);
+    drop(searched);
+    reply
 }
 
 fn verified_reply(alloc: Global, verified: Verified) -> Result<Reply, AllocError>
@@ -154,18 +168,20 @@ fn verified_reply(alloc: Global, verified: Verified) -> Result<Reply, AllocError
     ensures replies { IfOk result
         (λ reply. reply_view reply ≡ verified_reply verified.judged) }
 {
-    let Verified { judged, .. } = verified;
-    match judged {
+    let reply = match &verified.judged {
         Ok(judged) => verdict_reply(alloc, judged.judgement.verdict()),
-        Err(place) => gave_up_reply(alloc, place),
-    }
+        Err(place) => gave_up_reply(alloc, *place),
+    };
+    drop(verified);
+    reply
 }
 
 fn played_reply(played: Played) -> Reply
     ensures whole { result.status ≢ Status.DeviceFault }
     ensures replies { reply_view result ≡ text_reply (string_bytes played.text) }
 {
-    let Played { text, .. } = played;
+    let Played { sequence, text, .. } = played;
+    drop(sequence);
     text_reply(text)
 }
 
@@ -173,7 +189,8 @@ fn refuted_reply(alloc: Global, refuted: Refuted) -> Result<Reply, AllocError>
     ensures whole { IfOk result (λ reply. reply.status ≢ Status.DeviceFault) }
     ensures replies { IfOk result (λ reply. reply_view reply ≡ refuted_reply refuted.found) }
 {
-    let Refuted { found, .. } = refuted;
+    let Refuted { sequence, found } = refuted;
+    drop(sequence);
     match found {
         Some(refutation) => Ok(text_reply(refutation.text)),
         None => Ok(Reply {
@@ -189,11 +206,10 @@ fn drafted_reply(alloc: Global, drafted: Drafted) -> Result<Reply, AllocError>
         (λ reply. reply_view reply ≡ drafted_reply drafted.planned.board drafted.told) }
 {
     let Drafted { planned, told } = drafted;
-    let Planned { board, .. } = planned;
     match told {
         Ok(text) => Ok(text_reply(text)),
         Err(fault) => {
-            let line = draft_fault_line(alloc, &board, fault)?;
+            let line = draft_fault_line(alloc, &planned.board, fault)?;
             Ok(Reply {
                 status: Status::InputFault,
                 text: line.into_bytes(),
