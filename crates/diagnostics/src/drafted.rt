@@ -10,8 +10,8 @@ use bundles::{Section, form_word};
 use facts::Rule;
 use notes::Note;
 use sentences::Figure::{Command, Count, Entry, Limit};
-use sentences::Word::{Rail, Target, Text};
-use sentences::{Advice, Sentence, say};
+use sentences::Word::Text;
+use sentences::{Advice, Sentence, Word, say};
 use session::{DraftFault, Planned, section_of};
 use smbus::Form;
 use std::alloc::Global;
@@ -29,7 +29,7 @@ const FEWER: &str =
 
 /// What is said of an entry that is missing.
 fn no_entry(board: &Board, target: usize, form: Form, code: u8) -> Advice<'_> {
-    let target = Target(board, target);
+    let target = Word::target(board, target);
     let entry = Entry(form_word(form), Some(code));
     say![
         "the program would send " (Command(code)) " to " {target}
@@ -44,7 +44,7 @@ fn over_limit(board: &Board, index: usize) -> Option<Sentence<'_>> {
     let device = board.target(rail.target())?;
     let limit = Limit(rail.limit_uv(), device.exponent());
     Some(say![
-        "the voltage that the plan wishes for " {Rail(board, index)}
+        "the voltage that the plan wishes for " {Word::rail(board, index)}
         " is over its limit: it takes up to " (limit)
     ])
 }
@@ -73,7 +73,7 @@ fn advice_on(board: &Board, fault: DraftFault) -> Advice<'_> {
         DraftFault::BadPlan(fault) =>
             say!["line " (Count(fault.line)) " of the plan is no wish"].alone(),
         DraftFault::Circle(rail) => say![
-            "no order can place " {Rail(board, rail)}
+            "no order can place " {Word::rail(board, rail)}
             ": it waits for rails that wait for one another"
         ]
         .with_text(ALL_TOGETHER),

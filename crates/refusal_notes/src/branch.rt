@@ -117,7 +117,7 @@ fn kept_start<'a>(
     if starts.len() < 2 || known != 1 {
         return None;
     }
-    let (command, name) = (Text(kept.command()), Word::Target(board, index));
+    let (command, name) = (Text(kept.command()), Word::target(board, index));
     Some(say!["; " {command} " of " {name} " is " {kept_values(row, kept, index)?} " at the start"])
 }
 

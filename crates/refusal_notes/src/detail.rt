@@ -10,7 +10,6 @@ use crate::table_detail::{length_detail, shape_detail, start_detail};
 use board::{Allow, Board, Target};
 use facts::{PageSet, Row, Violation, violation};
 use sentences::Figure::{Command, Hex, Limit, Number, Permitting};
-use sentences::Word::Rail;
 use sentences::{Advice, Remark, Sentence, Word, say, told};
 use seq_program::{Content, Instr, Request, Transaction};
 use std::alloc::Global;
@@ -63,7 +62,7 @@ fn limit_advice<'a>(
     Some(Advice {
         message: say![
             "up to " (Number(u64::from(most))) " may be written to " (Command(code)) ", and "
-            {Rail(board, rail)} " takes up to " (limit)
+            {Word::rail(board, rail)} " takes up to " (limit)
         ],
         help: limit_help(pages),
     })
@@ -86,7 +85,7 @@ fn advice_on<'a>(
 ) -> Option<Advice<'a>> {
     let (target, transaction) = (request.target, &request.transaction);
     let (device, code) = (board.target(target)?, transaction.code());
-    let name = Word::Target(board, target);
+    let name = Word::target(board, target);
     match violation {
         Violation::NoEntry => {
             let name = board.target_name(target).unwrap_or("");
@@ -100,7 +99,7 @@ fn advice_on<'a>(
             limit_advice(board, device, row.pages.get(target), code, rail, most)
         }
         Violation::NotGood { rail, need } => {
-            let (rail, need) = (Rail(board, rail), Rail(board, need));
+            let (rail, need) = (Word::rail(board, rail), Word::rail(board, need));
             Some(say![{rail} " needs " {need}].alone())
         }
         _ => {

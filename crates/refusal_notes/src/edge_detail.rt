@@ -6,8 +6,8 @@ use crate::roads::{Edge, Judged};
 use board::Board;
 use facts::{Row, RowPart, Source, Span};
 use sentences::Figure::Count;
-use sentences::Word::{Rail, Target, Text};
-use sentences::{Figure, Kept, Sentence, say};
+use sentences::Word::Text;
+use sentences::{Figure, Kept, Sentence, Word, say};
 use std::alloc::Global;
 use table_check::{Breach, Spot};
 
@@ -20,7 +20,7 @@ fn kept_detail<'a>(
     target: usize,
 ) -> Option<Sentence<'a>> {
     Some(say![
-        {Text(kept.command())} " of " {Target(board, target)} " may be "
+        {Text(kept.command())} " of " {Word::target(board, target)} " may be "
         {kept_values(known, kept, target)?} ", and there the row has only "
         {kept_values(claimed, kept, target)?}
     ])
@@ -28,7 +28,7 @@ fn kept_detail<'a>(
 
 /// That a rail isn't known to be good.
 fn good_detail(board: &Board, rail: usize) -> Sentence<'_> {
-    say![{Rail(board, rail)} " isn't known to be good, and there the row has it for good"]
+    say![{Word::rail(board, rail)} " isn't known to be good, and there the row has it for good"]
 }
 
 /// The numbers of a register, or a counter, beside those that the row has.
@@ -54,9 +54,9 @@ fn source_detail(board: &Board, register: usize, source: Source) -> Sentence<'_>
                 " was read from nothing, as there the row has it"
             ];
         }
-        Source::Status(rail) => ("STATUS_WORD", Rail(board, rail)),
-        Source::Page(target) => ("PAGE", Target(board, target)),
-        Source::Protect(target) => ("WRITE_PROTECT", Target(board, target)),
+        Source::Status(rail) => ("STATUS_WORD", Word::rail(board, rail)),
+        Source::Page(target) => ("PAGE", Word::target(board, target)),
+        Source::Protect(target) => ("WRITE_PROTECT", Word::target(board, target)),
     };
     say![
         "it isn't known that r" (Count(register)) " was read from " {Text(command)} " of " {name}

@@ -4,8 +4,8 @@ use crate::Result;
 use crate::kept::kept_values;
 use board::Board;
 use facts::{GoodSet, PageSet, Row, Rule};
-use sentences::Word::{Pages, Target, Text};
-use sentences::{Kept, Sentence, quoted_names, rail_names, say, told};
+use sentences::Word::{Pages, Text};
+use sentences::{Kept, Sentence, Word, quoted_names, rail_names, say, told};
 use std::alloc::Global;
 
 /// Whether a rail is in a set.
@@ -20,7 +20,7 @@ fn kept_known<'a>(
     kept: Kept,
     target: usize,
 ) -> Option<Sentence<'a>> {
-    let (name, values) = (Target(board, target), kept_values(row, kept, target)?);
+    let (name, values) = (Word::target(board, target), kept_values(row, kept, target)?);
     Some(say![{Text(kept.command())} " of " {name} " may be " {values} " here"])
 }
 
@@ -32,7 +32,7 @@ fn order_text(
     pages: &PageSet,
     good: &[&str],
 ) -> Result<String> {
-    let (name, pages) = (Target(board, target), Pages(pages));
+    let (name, pages) = (Word::target(board, target), Pages(pages));
     if good.is_empty() {
         say!["PAGE of " {name} " may be " {pages} " here, and no rail is known to be good"].told(
             alloc,

@@ -10,8 +10,8 @@ use facts::{PageSet, Row, Violation, violation};
 use notes::Quoted;
 use pmbus_table::code::{ALL_PAGES, STATUS_WORD};
 use sentences::Figure::{Count, Hex};
-use sentences::Word::{Pages, Target};
-use sentences::{Kept, say};
+use sentences::Word::Pages;
+use sentences::{Kept, Word, say};
 use seq_program::Instr;
 use smbus::Form;
 use std::alloc::Global;
@@ -95,9 +95,9 @@ impl<'a> BadWay<'a> {
         let line = Count(self.judged.line(step.place));
         let report = match step.row.pages.get(need.target()) {
             Some(pages) if !is_only(pages, need.page()) => say![
-                "line " (line) " reads STATUS_WORD of " {Target(self.judged.board, need.target())}
-                " where PAGE may be " {Pages(pages)} ", and this rail is page "
-                (Hex(u16::from(need.page()), 2))
+                "line " (line) " reads STATUS_WORD of "
+                {Word::target(self.judged.board, need.target())} " where PAGE may be "
+                {Pages(pages)} ", and this rail is page " (Hex(u16::from(need.page()), 2))
             ],
             _ => say![
                 "line " (line) " reads its STATUS_WORD, and no test of that word on this way shows \

@@ -7,8 +7,8 @@ use crate::roads::Judged;
 use board::Board;
 use facts::Rule;
 use sentences::Figure::{Count, Hex};
-use sentences::Word::{Target, Text};
-use sentences::{Kept, Sentence, say, told};
+use sentences::Word::Text;
+use sentences::{Kept, Sentence, Word, say, told};
 use seq_program::Program;
 use session::Shown;
 use simulator::Entry;
@@ -105,7 +105,7 @@ fn sentence_of<'a>(judged: Judged<'a>, happened: &Happened<Happening>) -> Senten
         .at(happened.place)
         .and_then(|instr| instr.request())
     {
-        Some(request) => Target(judged.board, request.target),
+        Some(request) => Word::target(judged.board, request.target),
         None => Text("the bus"),
     };
     match happened.what {
@@ -141,7 +141,7 @@ fn start_of<'a>(board: &'a Board, shown: &Shown, kept: Kept, index: usize) -> Op
     if kept.starts(board.target(index)?).len() < 2 {
         return None;
     }
-    let (command, name) = (Text(kept.command()), Target(board, index));
+    let (command, name) = (Text(kept.command()), Word::target(board, index));
     Some(say!["  " {command} " of " {name} " starts as " (Hex(u16::from(*value), 2))])
 }
 

@@ -6,8 +6,8 @@ use crate::roads::Judged;
 use board::Board;
 use facts::{Misfit, Row, Span, Unheld};
 use sentences::Figure::{Count, Hex, Number};
-use sentences::Word::{Rail, Target, Text};
-use sentences::{Figure, Kept, Sentence, say, told};
+use sentences::Word::Text;
+use sentences::{Figure, Kept, Sentence, Word, say, told};
 use seq_program::MOST_TURNS;
 use simulator::MOST_TICKS;
 use std::alloc::Global;
@@ -25,7 +25,7 @@ fn empty_span(letter: &'static str, spans: &[Span], index: usize) -> Option<Sent
 fn foreign_page<'a>(board: &'a Board, row: &Row, target: usize) -> Option<Sentence<'a>> {
     let (count, pages) = (board.target(target)?.pages(), row.pages.get(target)?);
     let page = (count..32).find(|page| pages.contains(*page))?;
-    let name = Target(board, target);
+    let name = Word::target(board, target);
     Some(say![{name} " has no page " (Hex(u16::from(page), 2))])
 }
 
@@ -106,7 +106,7 @@ fn kept_start<'a>(
         .find(|value| !may_keep(row, kept, target, **value))?;
     let value = Hex(u16::from(*value), 2);
     Some(say![
-        {Text(kept.command())} " of " {Target(board, target)} " may be " (value)
+        {Text(kept.command())} " of " {Word::target(board, target)} " may be " (value)
         " at the start, and row 0 has " {kept_values(row, kept, target)?}
     ])
 }
@@ -131,7 +131,7 @@ fn row_start<'a>(board: &'a Board, row: &'a Row, unheld: Unheld) -> Option<Sente
     match unheld {
         Unheld::Target(target) => target_start(board, row, target),
         Unheld::Good(rail) => Some(say![
-            "no rail is known to be good at the start, and row 0 has " {Rail(board, rail)}
+            "no rail is known to be good at the start, and row 0 has " {Word::rail(board, rail)}
         ]),
         Unheld::Register(index) => span_start("r", &row.regs, index),
         Unheld::Source(index) => Some(say![

@@ -3,8 +3,8 @@
 use crate::Result;
 use board::Board;
 use sentences::Figure::{Count, Hex};
-use sentences::Word::{Name, Target, Text};
-use sentences::{Advice, Kept, Remark, listed_bytes, say};
+use sentences::Word::{Name, Text};
+use sentences::{Advice, Kept, Remark, Word, listed_bytes, say};
 use session::Scenario;
 use std::alloc::Global;
 
@@ -38,7 +38,7 @@ fn bad_value(alloc: Global, board: &Board, kept: Kept, index: usize, value: u8) 
         .target(index)
         .map_or(&[][..], |target| kept.starts(target));
     let starts = listed_bytes(alloc, starts)?;
-    let (target, value) = (Target(board, index), Hex(u16::from(value), 2));
+    let (target, value) = (Word::target(board, index), Hex(u16::from(value), 2));
     say![{target} " doesn't start with " {Text(kept.command())} " " (value)]
         .with_help(say!["its " {Name(kept.key())} " on the board: " {Text(&starts)}])
         .told(alloc)

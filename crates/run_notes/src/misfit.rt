@@ -138,31 +138,23 @@ pub(crate) fn refuse_misfit(message: &Message, answer: &Answer) -> Sentence<'sta
 }
 
 /// What is wrong with the bytes of a message, those that are refused or those that come back.
-fn bytes_misfit<'a>(alloc: Global, step: &Step<'a>, message: &Message, part: Part) -> Sentence<'a> {
+fn bytes_misfit(alloc: Global, step: &Step, message: &Message, part: Part) -> Result<String> {
     match (message.form, part) {
-        (Form::Alert, _) => alert_misfit(alloc, step),
-        (_, Part::Refuse) => {
-            let answer = step.answer;
-            refuse_misfit(message, answer)
-        }
+        (Form::Alert, _) => alert_misfit(alloc, step).told(alloc),
+        (_, Part::Refuse) => refuse_misfit(message, step.answer).told(alloc),
         _ => returned_misfit(alloc, step, message),
     }
 }
 
 /// What is wrong with an answer to a message.
-fn message_misfit<'a>(
-    alloc: Global,
-    step: &Step<'a>,
-    message: &Message,
-    part: Part,
-) -> Sentence<'a> {
+fn message_misfit(alloc: Global, step: &Step, message: &Message, part: Part) -> Result<String> {
     let (board, answer) = (step.board, step.answer);
     match part {
-        Part::Alerts => alerts_misfit(board, answer.alerts),
-        Part::Holds => holds_misfit(board, message, answer),
+        Part::Alerts => alerts_misfit(board, answer.alerts).told(alloc),
+        Part::Holds => holds_misfit(board, message, answer).told(alloc),
         Part::Refuse | Part::Returned => bytes_misfit(alloc, step, message, part),
-        Part::Took => return say!["took=1"],
-        Part::Contender(clash) => contended_misfit(step, message, clash),
+        Part::Took => say!["took=1"].told(alloc),
+        Part::Contender(clash) => contended_misfit(step, message, clash).told(alloc),
     }
 }
 
@@ -189,7 +181,7 @@ pub(crate) fn misfit<'a>(
     bus: &'a BusState,
     message: Option<&'a Message>,
     answer: &'a Answer,
-) -> Result<Sentence<'a>> {
+) -> Result<String> {
     let step = Step {
         board,
         bus,
@@ -201,7 +193,7 @@ pub(crate) fn misfit<'a>(
         None => part_of(alloc, &step)?,
     };
     match message {
-        Some(message) => Ok(message_misfit(alloc, &step, message, part)),
-        None => Ok(silent_misfit(&step, part)),
+        Some(message) => message_misfit(alloc, &step, message, part),
+        None => silent_misfit(&step, part).told(alloc),
     }
 }

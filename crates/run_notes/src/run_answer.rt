@@ -36,8 +36,7 @@ fn step_misfit(alloc: Global, scenario: &Scenario<'_>, stop: &Stop) -> Result<St
         return String::from_str(alloc, "no step is left");
     };
     let message = message_of(alloc, board, instr, &machine.regs)?;
-    let misfit = misfit(alloc, board, &machine.bus, message.as_ref(), &stop.answer)?;
-    misfit.told(alloc)
+    misfit(alloc, board, &machine.bus, message.as_ref(), &stop.answer)
 }
 
 /// What is said of an answer that doesn't fit where a run stops.

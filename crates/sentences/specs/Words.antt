@@ -3,7 +3,7 @@ use Rattle.std.specs.Prelude.{◌==◌, ◌&&◌, ◌++◌, ◌∷◌, ℕ, List
 use Rattle.std.specs.Prelude.{None, codes, if◌then◌else◌, nat_lt, option_map, slice_get, true}
 use Rattle.std.specs.Prelude.{ℤ, ◌*◌, ◌/◌, unwrap_or}
 use Rattle.std.specs.Borrow.{Bor}
-use Rattle.std.specs.Fmt.{decimal, digits, ◌++?◌}
+use Rattle.std.specs.Fmt.{decimal, digits}
 use Rattle.std.specs.List.{filter, join_by, range_with_len}
 use Rattle.texts.specs.Hex as hex
 use Rattle.pmbus_table.specs.Commands.{command_at, name_text}
@@ -55,11 +55,6 @@ permitting code = filter (λ value. unwrap_or (permits value code) false) protec
 abbrev pub command_text : ℕ → List ℕ
 command_text code = unwrap_or (option_map name_text (command_at code)) []
 
--- what is read by a command from a target, or what that sends by itself
-abbrev pub read_text : Option ℕ → List ℕ → Option (List ℕ)
-read_text None name = Some (codes "what ") ++? (quoted name ++? Some (codes " sends"))
-read_text (Some code) name = Some (command_text code ++ codes " of ") ++? quoted name
-
 -- an entry of `allow`, as a board file has it
 abbrev pub entry_text : List ℕ → Option ℕ → List ℕ
 entry_text form None = codes "{form = \"" ++ (form ++ codes "\"}")
@@ -94,9 +89,6 @@ abbrev pub said : Word → Option (List ℕ)
 said words.Nothing = Some []
 said (words.Text text) = Some text.now
 said (words.Name name) = quoted name.now
-said (words.Target board index) = quoted (name_at index board.now.target_names)
-said (words.Rail board index) = quoted (name_at index board.now.rail_names)
-said (words.Read code name) = read_text code name.now
 said (words.Pages pages) =
     Some (bytes_text [] (codes ", ") (page_values (pages_in pages.now)))
 said (words.Protects protects) =

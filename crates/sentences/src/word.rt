@@ -8,8 +8,8 @@ ghost use Rattle.pmbus_table.specs.Protect.{protections};
 ghost use Rattle.facts.specs.domain.Sets.{pages_in, protects_in};
 ghost use Rattle.notes.specs.ShownLines.{quoted};
 ghost use Rattle.sentences.specs.Words.{bytes_text, command_text, entry_text, figure_text};
-ghost use Rattle.sentences.specs.Words.{hex_text, limit_text, names_text, page_values};
-ghost use Rattle.sentences.specs.Words.{permitting, read_text, said, span_text};
+ghost use Rattle.sentences.specs.Words.{hex_text, limit_text, name_at, names_text, page_values};
+ghost use Rattle.sentences.specs.Words.{permitting, said, span_text};
 
 use crate::Result;
 use board::Board;
@@ -30,19 +30,38 @@ pub enum Word<'a> {
     Text(&'a str),
     /// A name in quotes, the beginning of a long one.
     Name(&'a str),
-    /// The name of a board's target, by its index.
-    Target(&'a Board, usize),
-    /// The name of a board's rail, by its index.
-    Rail(&'a Board, usize),
-    /// What is read by the command with a code from the target of this name, or what that sends by
-    /// itself.
-    Read(Option<u8>, &'a str),
     /// The values of PAGE in a set.
     Pages(&'a PageSet),
     /// The values of WRITE_PROTECT in a set.
     Protects(&'a ProtectSet),
     /// A number, or what is said by numbers.
     Figure(Figure),
+}
+
+/// A name, or the empty text where there is none.
+fn name_or_none(name: Option<&str>) -> &str
+    ensures { result.now ≡ unwrap_or (option_map (λ n. n.now) name.entry) [] }
+{
+    match name {
+        Some(name) => name,
+        None => "",
+    }
+}
+
+impl<'a> Word<'a> {
+    /// The name of a board's target, by its index.
+    pub fn target(board: &'a Board, index: usize) -> Word<'a>
+        ensures { said result ≡ quoted (name_at index board.now.target_names) }
+    {
+        Word::Name(name_or_none(board.target_name(index)))
+    }
+
+    /// The name of a board's rail, by its index.
+    pub fn rail(board: &'a Board, index: usize) -> Word<'a>
+        ensures { said result ≡ quoted (name_at index board.now.rail_names) }
+    {
+        Word::Name(name_or_none(board.rail_name(index)))
+    }
 }
 
 /// A number, or what is said by numbers.
@@ -67,16 +86,6 @@ pub enum Figure {
     /// A limit in microvolts, and before it the greatest voltage within it at an exponent, by its
     /// mantissa.
     Limit(u32, i8),
-}
-
-/// A name, or the empty text where there is none.
-fn name_or_none(name: Option<&str>) -> &str
-    ensures { result.now ≡ unwrap_or (option_map (λ n. n.now) name.entry) [] }
-{
-    match name {
-        Some(name) => name,
-        None => "",
-    }
 }
 
 /// Adds a name in quotes.
@@ -210,20 +219,6 @@ fn permitting(alloc: Global, code: u8) -> Result<Vec<u8>>
         .collect(alloc)
 }
 
-/// Adds what is read by a command from a target, or what that sends by itself.
-fn push_read(alloc: Global, text: &mut String, code: Option<u8>, name: &str) -> Result<()>
-    ensures { OnOk result (IfSome (read_text code name.now)
-        (λ told. string_bytes text.new ≡ string_bytes text.old ++ told)) }
-{
-    match code {
-        Some(code) => {
-            push_command(alloc, text, code)?;
-            write!(text, " of {}", Quoted(name))
-        }
-        None => write!(text, "what {} sends", Quoted(name)),
-    }
-}
-
 /// Adds an entry of `allow`.
 fn push_entry(alloc: Global, text: &mut String, form: &str, code: Option<u8>) -> Result<()>
     ensures { OnOk result
@@ -276,9 +271,6 @@ pub(crate) fn push_word(alloc: Global, text: &mut String, word: Word) -> Result<
         Word::Nothing => Ok(()),
         Word::Text(word) => text.push_str(word),
         Word::Name(name) => push_name(text, name),
-        Word::Target(board, index) => push_name(text, name_or_none(board.target_name(index))),
-        Word::Rail(board, index) => push_name(text, name_or_none(board.rail_name(index))),
-        Word::Read(code, name) => push_read(alloc, text, code, name),
         Word::Pages(pages) => push_bytes(text, &pages_of(alloc, pages)?, "", ", "),
         Word::Protects(protects) => push_bytes(text, &protects_of(alloc, protects)?, "", ", "),
         Word::Figure(figure) => push_figure(alloc, text, figure),

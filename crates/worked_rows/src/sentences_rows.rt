@@ -31,8 +31,6 @@ fn words(rt: HostRuntime) {
         (Word::Nothing, "<>"),
         (Word::Text("a\tb"), "<a\tb>"),
         (Word::Name("a\tb"), "<\"a\\tb\">"),
-        (Word::Read(Some(0x79), "vr"), "<STATUS_WORD of \"vr\">"),
-        (Word::Read(None, "vr"), "<what \"vr\" sends>"),
         (Word::Figure(Figure::Count(7)), "<7>"),
     ];
     each_says(&rt, rt.alloc(), &rows);
@@ -84,7 +82,7 @@ fn board_words(alloc: Global, board: &Board) -> Result<String, AllocError> {
         return String::from_str(alloc, "no sets");
     };
     let first = say![
-        {Word::Target(board, 1)} {Word::Rail(board, 0)} {Word::Target(board, 2)}
+        {Word::target(board, 1)} {Word::rail(board, 0)} {Word::target(board, 2)}
         {Word::Pages(&pages)}
     ]
     .told(alloc)?;

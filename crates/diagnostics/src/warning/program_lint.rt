@@ -5,8 +5,8 @@ use crate::warning::allowed::allowing;
 use board::Board;
 use facts::GoodSet;
 use program_lints::ProgramLint;
-use sentences::Word::{Rail, Target, Text};
-use sentences::{Remark, Sentence, quoted_names, rail_names, say};
+use sentences::Word::Text;
+use sentences::{Remark, Sentence, Word, quoted_names, rail_names, say};
 use seq_program::{Instr, Program};
 use std::alloc::Global;
 
@@ -34,7 +34,7 @@ fn meaning(lint: &ProgramLint) -> &'static str {
 
 /// That a rail may be turned off too soon, or isn't known to be good at the end.
 fn need_lost(board: &Board, is_end: bool, need: usize, rail: usize) -> Sentence<'_> {
-    let (need, rail) = (Rail(board, need), Rail(board, rail));
+    let (need, rail) = (Word::rail(board, need), Word::rail(board, rail));
     if is_end {
         say![
             "the program ends here, and " {need} " isn't known to be good while " {rail}
@@ -57,16 +57,17 @@ fn message_of<'a>(
             say!["the program fails here and may leave on: " {Text(rails)}]
         }
         ProgramLint::BeforeVoltage { rail, .. } => say![
-            "this may turn on rail " {Rail(board, *rail)} " before a voltage was written to it"
+            "this may turn on rail " {Word::rail(board, *rail)}
+            " before a voltage was written to it"
         ],
         ProgramLint::NeedLost { need, rail, .. } => need_lost(board, is_end, *need, *rail),
         ProgramLint::Unreached { .. } => say!["nothing leads here"],
         ProgramLint::ProtectLeft { target, .. } => say![
-            "the program ends here and may leave WRITE_PROTECT of " {Target(board, *target)}
+            "the program ends here and may leave WRITE_PROTECT of " {Word::target(board, *target)}
             " otherwise than it began"
         ],
         ProgramLint::NoRail { target, .. } => say![
-            "this may reach a page of " {Target(board, *target)}
+            "this may reach a page of " {Word::target(board, *target)}
             " that has no [[rail]], so no limit and no need is known of it"
         ],
         ProgramLint::UnservedAlert { .. } => {

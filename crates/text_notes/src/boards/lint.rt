@@ -3,8 +3,9 @@
 use crate::Result;
 use board::{Board, Place};
 use board_lints::{Lack, Lint};
+use pmbus_table::mantissas_in_volt;
 use sentences::Figure::{Command, Hex, Number, Voltage};
-use sentences::Word::{Rail, Target, Text};
+use sentences::Word::Text;
 use sentences::{Advice, Remark, Word, say};
 use std::alloc::Global;
 
@@ -53,7 +54,7 @@ pub(crate) fn site_of(lint: &Lint) -> (Place, &'static str) {
 
 fn of_pages(board: &Board, target: usize, read: u8) -> Advice<'_> {
     let message = say![
-        "PAGE of " {Target(board, target)}
+        "PAGE of " {Word::target(board, target)}
         " may be 255 at the start, all pages, and the program reads " (Command(read))
         ", which needs one"
     ];
@@ -62,7 +63,7 @@ fn of_pages(board: &Board, target: usize, read: u8) -> Advice<'_> {
 
 fn of_protect(board: &Board, target: usize, protect: u8, written: u8) -> Advice<'_> {
     let message = say![
-        "WRITE_PROTECT of " {Target(board, target)} " may be 0x" (Hex(u16::from(protect), 2))
+        "WRITE_PROTECT of " {Word::target(board, target)} " may be 0x" (Hex(u16::from(protect), 2))
         " at the start, which forbids " (Command(written)) ", and the program writes that"
     ];
     message.with_text(UNPROTECT)
@@ -85,13 +86,13 @@ fn of_circle(alloc: Global, board: &Board, circle: &[usize]) -> Result<Remark> {
 /// The target of a rail in a sentence.
 fn target_of(board: &Board, rail: usize) -> Word<'_> {
     match board.rail(rail) {
-        Some(rail) => Target(board, rail.target()),
+        Some(rail) => Word::target(board, rail.target()),
         None => Word::Nothing,
     }
 }
 
 fn of_idle(board: &Board, rail: usize, lacks: Lack) -> Advice<'_> {
-    let (target, name) = (target_of(board, rail), Rail(board, rail));
+    let (target, name) = (target_of(board, rail), Word::rail(board, rail));
     let message = say!["no entry of " {target} " can turn on rail " {name}];
     let help = match lacks {
         Lack::Entry => NO_ENTRY,
@@ -101,12 +102,11 @@ fn of_idle(board: &Board, rail: usize, lacks: Lack) -> Advice<'_> {
     message.with_text(help)
 }
 
-/// A voltage in microvolts, rounded down: its mantissa times two to the exponent.
+/// A voltage in microvolts, rounded down.
 fn microvolts(mantissa: u16, exponent: i8) -> u64 {
+    let in_volt = mantissas_in_volt(exponent).unwrap_or(1);
     let scaled = u64::from(mantissa) * 1_000_000;
-    scaled
-        .checked_shr(u32::from(exponent.unsigned_abs()))
-        .unwrap_or(0)
+    scaled.checked_div(in_volt).unwrap_or(0)
 }
 
 /// The limit of a rail, and the exponent of its target's voltages.
@@ -120,7 +120,7 @@ fn of_limit(board: &Board, rail: usize, greatest: u16) -> Advice<'_> {
     let (limit, exponent) = limit_of(board, rail).unwrap_or((0, 0));
     let message = say![
         "no voltage that " {target_of(board, rail)} " takes is over the limit of rail "
-        {Rail(board, rail)} ", " (Number(u64::from(limit))) " uV: it takes up to "
+        {Word::rail(board, rail)} ", " (Number(u64::from(limit))) " uV: it takes up to "
         (Voltage(u64::from(greatest), microvolts(greatest, exponent)))
     ];
     message.with_text(SAFE)

@@ -4,8 +4,8 @@ use crate::Result;
 use board::Board;
 use notes::lowercase_suggestion;
 use sentences::Figure::Number;
-use sentences::Word::{Name, Target, Text};
-use sentences::{Remark, Sentence, quoted_names, say};
+use sentences::Word::{Name, Text};
+use sentences::{Remark, Sentence, Word, quoted_names, say};
 use std::alloc::Global;
 
 /// The target and the page of a rail, where a word names one.
@@ -13,7 +13,7 @@ fn rail_help<'a>(board: &'a Board, word: &'a str) -> Option<Sentence<'a>> {
     let rail = board.rail(board.rail_named(word)?)?;
     Some(say![
         {Name(word)} " is a rail: it is at page " (Number(u64::from(rail.page()))) " of the target "
-        {Target(board, rail.target())}
+        {Word::target(board, rail.target())}
     ])
 }
 
