@@ -1,35 +1,43 @@
-//! The names of forms in messages.
+//! The words of forms.
 
 use crate::Result;
+use bundles::form_word;
 use notes::lowercase_suggestion;
 use sentences::Word::Text;
 use sentences::say;
+use smbus::Form;
 use std::alloc::Global;
 
-/// The words of all forms, the last that of alert responses.
-pub(crate) const NAMES: [&str; 13] = [
-    "quickwrite",
-    "quickread",
-    "send",
-    "receive",
-    "writebyte",
-    "writeword",
-    "readbyte",
-    "readword",
-    "call",
-    "blockwrite",
-    "blockread",
-    "blockcall",
-    "alert",
+/// The forms that an entry of `allow` may have.
+const FORMS: [Form; 12] = [
+    Form::Quick(false),
+    Form::Quick(true),
+    Form::SendByte,
+    Form::ReceiveByte,
+    Form::WriteByte,
+    Form::WriteWord,
+    Form::ReadByte,
+    Form::ReadWord,
+    Form::ProcessCall,
+    Form::BlockWrite,
+    Form::BlockRead,
+    Form::BlockProcessCall,
 ];
 
-/// What may help where a word is no form.
+/// The words of these forms.
+pub(crate) fn form_words(alloc: Global) -> Result<Vec<&'static str>> {
+    FORMS.iter().map(|form| form_word(*form)).collect(alloc)
+}
+
+/// What may help where a word is no form of a message.
 pub(crate) fn form_help(alloc: Global, word: &str) -> Result<String> {
-    match lowercase_suggestion(alloc, word, &NAMES)? {
+    let mut words = form_words(alloc)?;
+    words.push(form_word(Form::Alert))?;
+    match lowercase_suggestion(alloc, word, &words)? {
         Some(help) => Ok(help),
         None => {
-            let forms = NAMES.join(alloc, ", ")?;
+            let forms = words.join(alloc, ", ")?;
             say!["the forms are " {Text(&forms)}].told(alloc)
-        },
+        }
     }
 }

@@ -101,7 +101,10 @@ fn entry_line(lines: &[SayingLine<'_>], index: usize) -> Option<usize> {
 
 /// The place of a target or a rail, or of the list of them.
 fn item_line(lines: &[SayingLine<'_>], name: &str, index: usize) -> Option<usize> {
-    header_line(lines, name, index).or(key_line(lines, name))
+    match header_line(lines, name, index) {
+        None => key_line(lines, name),
+        found => found,
+    }
 }
 
 /// The place of a table, or of what it stands in.

@@ -4,7 +4,7 @@ use crate::Result;
 use crate::boards::blamed::Blamed;
 use crate::boards::describe::shown;
 use crate::boards::twice::{first_alike, same_page};
-use crate::form::NAMES;
+use crate::form::form_words;
 use crate::program::unknown_command::{command_help, forms_help};
 use board::Key;
 use notes::lowercase_suggestion;
@@ -39,10 +39,7 @@ fn names_help(
 /// What is said of an entry whose form isn't known.
 pub(crate) fn unknown_form(alloc: Global, blamed: &Blamed<'_>) -> Result<Remark> {
     let word = blamed.text(Key::Form);
-    let names = NAMES.as_slice();
-    // (the last is that of alert responses, which no entry has)
-    let forms = names.get(..12).unwrap_or(names);
-    let help = names_help(alloc, word, "forms", forms)?;
+    let help = names_help(alloc, word, "forms", &form_words(alloc)?)?;
     say!["unknown form " {Name(word)} " of " {blamed.word()}].helped_by(alloc, help)
 }
 
