@@ -1,5 +1,5 @@
 ghost use Rattle.std.specs.Prelude.{◌≡◌, IfOk, string_bytes};
-ghost use Rattle.session.specs.Faults.{detail_of, counted_text, fault_text};
+ghost use Rattle.session.specs.Faults.{detail_of, counted_text, fault_text, line_text};
 
 use board::BoardFault;
 use bundles::BundleFault;
@@ -55,44 +55,42 @@ fn counted_text(alloc: Global, number: Option<usize>) -> Result<String, AllocErr
     }
 }
 
+/// The line of a fault with this number and name in a part of an input.
+fn line_of(
+    alloc: Global,
+    place: &str,
+    number: u8,
+    name: &str,
+    detail: &str,
+) -> Result<String, AllocError>
+    ensures { IfOk result
+        (λ text. string_bytes text ≡ line_text place.now number name.now detail.now) }
+{
+    format!(in alloc; "fault {place} {number} {name}{detail}\n")
+}
+
 /// The line that is printed for a fault.
 pub fn fault_line(alloc: Global, fault: InputFault) -> Result<String, AllocError>
     ensures { IfOk result (λ text. string_bytes text ≡ fault_text fault) }
 {
     match fault {
         InputFault::Bundle(fault) => {
-            let number = fault.number();
-            let name = fault.name();
             let detail = detail_of(alloc, fault)?;
-            format!(in alloc; "fault bundle {number} {name}{detail}\n")
+            line_of(alloc, "bundle", fault.number(), fault.name(), &detail)
         }
-        InputFault::Frame(fault) => {
-            let number = fault.number();
-            let name = fault.name();
-            format!(in alloc; "fault frame {number} {name}\n")
-        }
-        InputFault::Board(fault) => {
-            let number = fault.number();
-            let name = fault.name();
-            format!(in alloc; "fault board {number} {name}\n")
-        }
+        InputFault::Frame(fault) => line_of(alloc, "frame", fault.number(), fault.name(), ""),
+        InputFault::Board(fault) => line_of(alloc, "board", fault.number(), fault.name(), ""),
         InputFault::Program(fault) => {
-            let number = fault.number();
-            let name = fault.name();
             let line = counted_text(alloc, fault.line())?;
-            format!(in alloc; "fault program {number} {name}{line}\n")
+            line_of(alloc, "program", fault.number(), fault.name(), &line)
         }
         InputFault::Run(fault) => {
-            let number = fault.number();
-            let name = fault.name();
             let index = counted_text(alloc, fault.index())?;
-            format!(in alloc; "fault run {number} {name}{index}\n")
+            line_of(alloc, "run", fault.number(), fault.name(), &index)
         }
         InputFault::Table(fault) => {
-            let number = fault.number();
-            let name = fault.name();
             let line = counted_text(alloc, fault.line())?;
-            format!(in alloc; "fault table {number} {name}{line}\n")
+            line_of(alloc, "table", fault.number(), fault.name(), &line)
         }
     }
 }

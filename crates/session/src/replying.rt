@@ -207,12 +207,16 @@ fn drafted_reply(alloc: Global, drafted: Drafted) -> Result<Reply, AllocError>
 {
     let Drafted { planned, told } = drafted;
     match told {
-        Ok(text) => Ok(text_reply(text)),
+        Ok(text) => {
+            drop(planned);
+            Ok(text_reply(text))
+        }
         Err(fault) => {
-            let line = draft_fault_line(alloc, &planned.board, fault)?;
+            let line = draft_fault_line(alloc, &planned.board, fault);
+            drop(planned);
             Ok(Reply {
                 status: Status::InputFault,
-                text: line.into_bytes(),
+                text: line?.into_bytes(),
             })
         }
     }
