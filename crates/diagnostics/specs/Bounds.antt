@@ -1,7 +1,6 @@
 -- The note on the bound of a program that is accepted.
 use Rattle.std.specs.Prelude.{◌≡◌, List, Option, None, MatchResult}
 use Rattle.bundles.specs.Bundles.{Section}
-use Rattle.notes.specs.declared.level.Level.TheVariants.{Info}
 use Rattle.notes.specs.declared.note.Note.{Note}
 use Rattle.session.specs.declared.outcome.Outcome.{Outcome}
 use Rattle.session.specs.declared.outcome.Outcome.TheVariants as outcomes
@@ -10,12 +9,12 @@ use Rattle.table_check.specs.declared.checker.breach.Judgement.TheVariants as ju
 use Rattle.diagnostics.specs.declared.bound.Beside.{Beside}
 use Rattle.diagnostics.specs.declared.bound.Beside.TheVariants as beside
 use Rattle.diagnostics.specs.ProgramPlaces.{program_lines}
-use Rattle.refusal_notes.specs.Places.{IsOnPlace}
+use Rattle.refusal_notes.specs.Bounds.{IsBoundNote}
 
--- on the line of the first instruction, where it accepts
+-- on the line of the first instruction, where it accepts, and it tells that bound
 abbrev pub IsBoundOfJudgement : List Section → Judgement → Option Note → Type 0
 IsBoundOfJudgement sections (judgements.Accepted bound) note =
-    IsOnPlace Info (program_lines sections) 0 note
+    IsBoundNote (program_lines sections) bound note
 IsBoundOfJudgement sections (judgements.Refused refusal) note = note ≡ None
 
 -- only of a program that was to be verified

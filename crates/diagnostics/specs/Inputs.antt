@@ -21,7 +21,7 @@ use Rattle.run_notes.specs.Messages.{message_line}
 use Rattle.text_notes.specs.Boards.{IsOnSomeLine}
 use Rattle.diagnostics.specs.DraftPlaces.{IsOnDraftFault}
 use Rattle.diagnostics.specs.BundlePlaces.{IsOnFault}
-use Rattle.diagnostics.specs.ProgramPlaces.{program_lines, IsOnRefusal}
+use Rattle.diagnostics.specs.ProgramPlaces.{program_lines, IsOnRefusal, IsOnStop}
 
 -- on a line of a program, if there is one to name
 abbrev pub IsOnLine : List Section → Option ℕ → Option Note → Type 0
@@ -61,7 +61,7 @@ IsOnRunFault sections fault note =
 abbrev pub IsOnJudgement : List Section → Judgement → Option Note → Type 0
 IsOnJudgement sections (judgements.Accepted bound) note = note ≡ None
 IsOnJudgement sections (judgements.Refused refusal) note =
-    IsOnRefusal sections refusal.place note
+    IsOnRefusal sections refusal note
 
 -- what was asked for has no note, and a fault or a refusal is told on its own line
 abbrev pub IsErrorOf : List ℕ → List Section → Outcome → Option Note → Type 0
@@ -75,10 +75,10 @@ IsErrorOf text sections (outcomes.Checked x) note =
     (λ number. IsSomeAnd note
     (IsOn Error (codes "%table") number (lines_by_feed (string_bytes x.trial.table))))
 IsErrorOf text sections (outcomes.Searched x) note =
-    MatchResult x.found (λ _. note ≡ None) (λ place. IsOnRefusal sections place note)
+    MatchResult x.found (λ _. note ≡ None) (λ place. IsOnStop sections place note)
 IsErrorOf text sections (outcomes.Verified x) note =
     MatchResult x.judged (λ judged. IsOnJudgement sections judged.judgement note)
-    (λ place. IsOnRefusal sections place note)
+    (λ place. IsOnStop sections place note)
 IsErrorOf text sections (outcomes.Played x) note = note ≡ None
 IsErrorOf text sections (outcomes.Refuted x) note = note ≡ None
 IsErrorOf text sections (outcomes.Drafted x) note =

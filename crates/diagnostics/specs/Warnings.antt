@@ -17,7 +17,7 @@ use Rattle.session.specs.SectionTexts.{section_text}
 use Rattle.texts.specs.Words.{lines_by_feed}
 use Rattle.diagnostics.specs.LabelWarnings.{WarnsOfLabels}
 use Rattle.diagnostics.specs.ProgramPlaces.{program_lines}
-use Rattle.refusal_notes.specs.Places.{IsWarningAt}
+use Rattle.refusal_notes.specs.Refusals.{IsBreachNote}
 use Rattle.text_notes.specs.Boards.{IsOnBoardLine}
 use Rattle.diagnostics.specs.ProgramWarnings.{WarnsOfJudged}
 use Rattle.diagnostics.specs.declared.warning.Warnings.{Warnings}
@@ -35,11 +35,12 @@ pub record WarnsOfBoard (sections : List Section) (b : Board) (p : List Instr)
   pub are_lints : AreLints b p lints
   pub each : length warnings ≡ length lints
 
--- a breach has a warning on the line of its place, and without one there is none
+-- a breach has a warning on the line of its place, which names its rule, and without one there is
+-- none
 abbrev pub WarnsOfBreach : List Section → Option Breach → Option Note → Type 0
 WarnsOfBreach sections found note =
     MatchOption found (note ≡ None)
-    (λ x. IsSomeAnd note (IsWarningAt (program_lines sections) x.place))
+    (λ x. IsSomeAnd note (IsBreachNote (program_lines sections) x.place x.rule))
 
 -- what is warned of a board, a program on it, the judgement on that, and a run that breaks a rule
 pub record WarnsOf (sections : List Section) (b : Board) (p : List Instr) (judged : Option Judged)

@@ -12,7 +12,7 @@ ghost use Rattle.texts.specs.Words.{lines_by_feed};
 ghost use Rattle.diagnostics.specs.DraftPlaces.{IsOnDraftFault};
 ghost use Rattle.diagnostics.specs.Inputs.{IsOnLine, IsOnUnread, IsOnJudgement, IsErrorOf};
 ghost use Rattle.diagnostics.specs.Inputs.{IsOnMessage, IsOnRunFault};
-ghost use Rattle.diagnostics.specs.ProgramPlaces.{program_lines, IsOnRefusal};
+ghost use Rattle.diagnostics.specs.ProgramPlaces.{program_lines, IsOnStop};
 
 use crate::Result;
 use crate::bundle::bundle_note;
@@ -203,7 +203,7 @@ fn stopped_note(
     sequence: &Sequence,
     place: usize,
 ) -> Result<Option<Note>>
-    ensures { IfOk result (IsOnRefusal (sections_view sections.now) place) }
+    ensures { IfOk result (IsOnStop (sections_view sections.now) place) }
 {
     let text = program_text(alloc, sections)?;
     gave_up_note(alloc, &text, &sequence.program, place)
@@ -216,7 +216,7 @@ fn searched_note(
     searched: &Searched,
 ) -> Result<Option<Note>>
     ensures { IfOk result (λ note. MatchResult searched.now.found (λ _. note ≡ None)
-        (λ place. IsOnRefusal (sections_view sections.now) place note)) }
+        (λ place. IsOnStop (sections_view sections.now) place note)) }
 {
     match &searched.found {
         Ok(_) => Ok(None),
@@ -250,7 +250,7 @@ fn verified_note(
 ) -> Result<Option<Note>>
     ensures { IfOk result (λ note. MatchResult verified.now.judged
         (λ judged. IsOnJudgement (sections_view sections.now) judged.judgement note)
-        (λ place. IsOnRefusal (sections_view sections.now) place note)) }
+        (λ place. IsOnStop (sections_view sections.now) place note)) }
 {
     match &verified.judged {
         Ok(judged) => found_note(alloc, sections, verified, judged),

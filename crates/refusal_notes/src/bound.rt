@@ -1,8 +1,8 @@
 //! Where the ticks of an accepted program's bound go.
 
-ghost use Rattle.std.specs.Prelude.{IfOk};
+ghost use Rattle.std.specs.Prelude.{◌≡◌, ◌++◌, IfOk, OnOk, string_bytes};
 ghost use Rattle.texts.specs.Words.{lines_by_feed};
-ghost use Rattle.refusal_notes.specs.Places.{IsOnPlace};
+ghost use Rattle.refusal_notes.specs.Bounds.{IsBoundNote, bound_text, tenths_text, time_text};
 
 mod dearest;
 
@@ -14,19 +14,25 @@ use sentences::{Remark, note_in};
 use session::{Judged as Found, Sequence, place_line, place_lines};
 use std::alloc::Global;
 
-/// Ticks in milliseconds, or in seconds where they are many; few as they are.
-fn push_time(text: &mut String, ticks: u64) -> Result<()> {
-    if ticks < 20 {
-        let unit = if ticks == 1 { "tick" } else { "ticks" };
-        return write!(text, "{ticks} {unit}");
-    }
-    let (tenths, unit) = if ticks < 2_000_000 {
-        (ticks / 20, "ms")
-    } else {
-        (ticks / 20_000, "s")
-    };
+/// Adds a number of tenths with its unit.
+fn push_tenths(text: &mut String, tenths: u64, unit: &str) -> Result<()>
+    ensures { OnOk result
+        (string_bytes text.new ≡ string_bytes text.old ++ tenths_text tenths unit.now) }
+{
     let (whole, tenth) = (tenths / 10, tenths % 10);
     write!(text, "{whole}.{tenth} {unit}")
+}
+
+/// Adds ticks in milliseconds, or in seconds where they are many; few as they are.
+fn push_time(text: &mut String, ticks: u64) -> Result<()>
+    ensures { OnOk result (string_bytes text.new ≡ string_bytes text.old ++ time_text ticks) }
+{
+    match ticks {
+        1 => text.push_str("1 tick"),
+        0..20 => write!(text, "{ticks} ticks"),
+        20..2_000_000 => push_tenths(text, ticks / 20, "ms"),
+        _ => push_tenths(text, ticks / 20_000, "s"),
+    }
 }
 
 /// Turns of a loop in words.
@@ -81,13 +87,15 @@ fn facts_on(
 }
 
 /// What is said of a bound.
-fn remark_on(alloc: Global, bound: u64) -> Result<Remark> {
-    let mut message = String::from_str(alloc, "every run ends within ")?;
+fn bound_text(alloc: Global, bound: u64) -> Result<String>
+    ensures { IfOk result (λ text. string_bytes text ≡ bound_text bound) }
+{
+    let mut text = String::from_str(alloc, "every run ends within ")?;
     if bound >= 20 {
-        write!(message, "{bound} ticks, ")?;
+        write!(text, "{bound} ticks, ")?;
     }
-    push_time(&mut message, bound)?;
-    Ok(Remark::bare(message))
+    push_time(&mut text, bound)?;
+    Ok(text)
 }
 
 /// What is told of the dearest way, if one was found.
@@ -108,14 +116,14 @@ pub fn bound_note(
     found: &Found,
     bound: u64,
 ) -> Result<Option<Note>>
-    ensures { IfOk result (IsOnPlace Level.Info (lines_by_feed text.now) 0) }
+    ensures { IfOk result (IsBoundNote (lines_by_feed text.now) bound) }
 {
     let Some(number) = place_line(alloc, text, 0)? else {
         return Ok(None);
     };
     let lines = place_lines(alloc, text)?;
     let judged = Judged::found(sequence, &lines, found);
-    let remark = remark_on(alloc, bound)?;
+    let remark = Remark::bare(bound_text(alloc, bound)?);
     let note = note_in(alloc, Level::Info, "%program", text, number, remark)?;
     let facts = way_facts(alloc, judged, bound)?;
     Ok(Some(Note { facts, ..note }))

@@ -2,7 +2,7 @@
 
 ghost use Rattle.std.specs.Prelude.{IfOk};
 ghost use Rattle.texts.specs.Words.{lines_by_feed};
-ghost use Rattle.refusal_notes.specs.Places.{IsWarningAt};
+ghost use Rattle.refusal_notes.specs.Refusals.{IsBreachNote};
 
 use crate::Result;
 use crate::cause::Cause;
@@ -70,7 +70,8 @@ pub fn breach_note(
     program: &Program,
     reached: &Reached,
 ) -> Result<Note>
-    ensures { IfOk result (IsWarningAt (lines_by_feed text.now) reached.now.breach.place) }
+    ensures { IfOk result (IsBreachNote (lines_by_feed text.now) reached.now.breach.place
+        reached.now.breach.rule) }
 {
     let Reached { breach, row } = reached;
     let number = place_line(alloc, text, breach.place)?.unwrap_or(1);

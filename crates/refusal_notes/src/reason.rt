@@ -1,5 +1,10 @@
 //! Why a program is refused, or why no facts were found for it.
 
+ghost use Rattle.std.specs.Prelude.{◌≡◌, IfOk, Some};
+ghost use Rattle.facts.specs.duties.RuleNames.{rule_name};
+ghost use Rattle.refusal_notes.specs.Refusals.{rule_in};
+ghost use Rattle.table_check.specs.checker.Breaches.{rule_of};
+
 use crate::Result;
 use crate::branch::{push_branches, push_start};
 use crate::cause::Cause;
@@ -148,7 +153,9 @@ fn unbounded_cause(
     alloc: Global,
     judged: Judged<'_>,
     uncounted: Option<String>,
-) -> Result<(RefusalKind, Cause)> {
+) -> Result<(RefusalKind, Cause)>
+    ensures { IfOk result (λ r. rule_in r.0 ≡ Some (rule_name Rule.K7)) }
+{
     let kind = match &uncounted {
         Some(_) => RefusalKind::Uncounted,
         None if is_full(judged.table) => RefusalKind::TooLong,
@@ -171,7 +178,9 @@ pub(crate) fn cause_of(
     alloc: Global,
     judged: Judged<'_>,
     refusal: Refusal,
-) -> Result<(RefusalKind, Cause)> {
+) -> Result<(RefusalKind, Cause)>
+    ensures { IfOk result (λ r. rule_in r.0 ≡ Some (rule_name (rule_of refusal.breach))) }
+{
     let cause = blame_of(alloc, judged, refusal)?;
     Ok((RefusalKind::Breaks(refusal.breach.rule()), cause))
 }
@@ -183,7 +192,9 @@ pub(crate) fn unverified_cause(
     judged: Judged<'_>,
     refusal: Refusal,
     shown: Option<&Shown>,
-) -> Result<(RefusalKind, Cause)> {
+) -> Result<(RefusalKind, Cause)>
+    ensures { IfOk result (λ r. rule_in r.0 ≡ Some (rule_name (rule_of refusal.breach))) }
+{
     let uncounted = uncounted_text(alloc, judged.program, Roads::Kept(judged), judged.lines)?;
     let rule = refusal.breach.rule();
     if rule == Rule::K7 {

@@ -1,8 +1,10 @@
 //! Notes on programs that are refused.
 
-ghost use Rattle.std.specs.Prelude.{IfOk};
+ghost use Rattle.std.specs.Prelude.{◌≡◌, IfOk, None, Some, option_copied};
+ghost use Rattle.facts.specs.duties.RuleNames.{rule_name};
+ghost use Rattle.table_check.specs.checker.Breaches.{rule_of};
 ghost use Rattle.texts.specs.Words.{lines_by_feed};
-ghost use Rattle.refusal_notes.specs.Places.{IsOnPlace};
+ghost use Rattle.refusal_notes.specs.Refusals.{IsRefusalNote, rule_in};
 
 use crate::Result;
 use crate::cause::Cause;
@@ -123,10 +125,14 @@ pub(crate) fn blaming(
 }
 
 /// The page of the rule that is broken.
-pub(crate) fn page_of(kind: RefusalKind) -> Option<&'static str> {
+pub(crate) fn page_of(kind: RefusalKind) -> Option<&'static str>
+    ensures { option_copied result ≡ rule_in kind }
+{
     match kind {
         RefusalKind::Breaks(rule) => Some(rule.name()),
-        RefusalKind::Uncounted | RefusalKind::TooLong | RefusalKind::Unbounded => Some("K7"),
+        RefusalKind::Uncounted | RefusalKind::TooLong | RefusalKind::Unbounded => {
+            Some(Rule::K7.name())
+        }
         RefusalKind::GaveUp => None,
     }
 }
@@ -139,7 +145,7 @@ fn detailed_note(
     kind: RefusalKind,
     cause: Cause,
 ) -> Result<Option<Note>>
-    ensures { IfOk result (IsOnPlace Level.Error (lines_by_feed text.now) place) }
+    ensures { IfOk result (IsRefusalNote (lines_by_feed text.now) place (rule_in kind)) }
 {
     let Some(number) = place_line(alloc, text, place)? else {
         return Ok(None);
@@ -163,15 +169,15 @@ fn detailed_note(
 }
 
 /// What a person needs to mend a program that is refused at a place: the place's line with its
-/// number, the rule in a sentence, and what may help. `None` where the text has no such place.
-/// Fails only for want of memory.
+/// number, the rule in a sentence and by its name, and what may help. `None` where the text has no
+/// such place. Fails only for want of memory.
 pub fn refusal_note(
     alloc: Global,
     text: &str,
     place: usize,
     kind: RefusalKind,
 ) -> Result<Option<Note>>
-    ensures { IfOk result (IsOnPlace Level.Error (lines_by_feed text.now) place) }
+    ensures { IfOk result (IsRefusalNote (lines_by_feed text.now) place (rule_in kind)) }
 {
     detailed_note(alloc, text, place, kind, Cause::none(alloc))
 }
@@ -186,7 +192,8 @@ pub fn check_note(
     found: &Found,
     refusal: Refusal,
 ) -> Result<Option<Note>>
-    ensures { IfOk result (IsOnPlace Level.Error (lines_by_feed text.now) refusal.place) }
+    ensures { IfOk result (IsRefusalNote (lines_by_feed text.now) refusal.place
+        (Some (rule_name (rule_of refusal.breach)))) }
 {
     let lines = place_lines(alloc, text)?;
     let judged = Judged {
@@ -209,7 +216,8 @@ pub fn verify_note(
     found: &Found,
     refusal: Refusal,
 ) -> Result<Option<Note>>
-    ensures { IfOk result (IsOnPlace Level.Error (lines_by_feed text.now) refusal.place) }
+    ensures { IfOk result (IsRefusalNote (lines_by_feed text.now) refusal.place
+        (Some (rule_name (rule_of refusal.breach)))) }
 {
     let lines = place_lines(alloc, text)?;
     let judged = Judged::found(&verified.sequence, &lines, found);
@@ -225,7 +233,7 @@ pub fn gave_up_note(
     program: &Program,
     place: usize,
 ) -> Result<Option<Note>>
-    ensures { IfOk result (IsOnPlace Level.Error (lines_by_feed text.now) place) }
+    ensures { IfOk result (IsRefusalNote (lines_by_feed text.now) place None) }
 {
     let cause = loop_cause(alloc, program, text, place)?;
     detailed_note(alloc, text, place, RefusalKind::GaveUp, cause)
