@@ -120,7 +120,7 @@ fn note_of(alloc: Global, command: &str, text: &str, sections: &str) -> Noted {
 const LATE: &str = "write b OPERATION 0x80 else bad\nend\nbad:\nfail\n";
 
 /// A command, a program, the sections below, and the beginning of the note.
-static NOTED: [(&str, &str, &str, &str); 5] = [
+static NOTED: [(&str, &str, &str, &str); 7] = [
     (
         "verify",
         LATE,
@@ -139,6 +139,18 @@ static NOTED: [(&str, &str, &str, &str); 5] = [
         "# done\nend\n",
         "",
         "%program:2: note: every run ends within 1 tick\n    end\n",
+    ),
+    (
+        "verify",
+        "wait 1000\nend\n",
+        "",
+        "%program:1: note: every run ends within 1002 ticks, 5.0 ms\n",
+    ),
+    (
+        "verify",
+        "wait 4000000\nend\n",
+        "",
+        "%program:1: note: every run ends within 4000002 ticks, 20.0 s\n",
     ),
     (
         "check",

@@ -91,8 +91,6 @@ pub(crate) type Counted = ((u16, u16), u64, u64);
 /// The first pages, no protection, nothing good, and a register of 0.
 pub(crate) const NOTHING: Known = (&[0], &[0], &[], (0, 0), Source::None);
 
-const ZERO: Span = Span { lo: 0, hi: 0 };
-
 fn span_of(ends: (u16, u16)) -> Span {
     Span {
         lo: ends.0,
@@ -100,28 +98,40 @@ fn span_of(ends: (u16, u16)) -> Span {
     }
 }
 
+/// What both targets may store in PAGE; the second has its only page.
+fn pages_of(alloc: Global, pages: &[u8]) -> Option<Vec<PageSet>> {
+    let (first, second) = (
+        PageSet::of(alloc, pages).ok()??,
+        PageSet::of(alloc, &[0]).ok()??,
+    );
+    Vec::from_array(alloc, [first, second]).ok()
+}
+
+/// What both targets may store in WRITE_PROTECT; the second stores 00h.
+fn protects_of(alloc: Global, protects: &[u8]) -> Option<Vec<ProtectSet>> {
+    let (first, second) = (
+        ProtectSet::of(alloc, protects).ok()??,
+        ProtectSet::of(alloc, &[0]).ok()??,
+    );
+    Vec::from_array(alloc, [first, second]).ok()
+}
+
 /// A row for two targets, of which the second stores 00h in both. Its r7 equals what the second
 /// stores in PAGE, and c1 has a coefficient.
 pub(crate) fn row_of(alloc: Global, known: Known, counted: Counted) -> Option<Row> {
     let (pages, protects, good, span, source) = known;
     let (counter, base, coeff) = counted;
-    let none = Source::None;
-    let pages = PageSet::of(alloc, pages).ok()??;
-    let page = PageSet::of(alloc, &[0]).ok()??;
-    let protects = ProtectSet::of(alloc, protects).ok()??;
-    let protect = ProtectSet::of(alloc, &[0]).ok()??;
-    Some(Row {
-        pages: Vec::from_array(alloc, [pages, page]).ok()?,
-        protects: Vec::from_array(alloc, [protects, protect]).ok()?,
-        good: GoodSet::of(alloc, good).ok()??,
-        regs: [span_of(span), ZERO, ZERO, ZERO, ZERO, ZERO, ZERO, ZERO],
-        sources: [source, none, none, none, none, none, none, Source::Page(1)],
-        counters: [span_of(counter), ZERO, ZERO, ZERO],
-        lost: ZERO,
-        base,
-        coeffs: [coeff, 5, 0, 0],
-        lost_coeff: 0,
-    })
+    let good = GoodSet::of(alloc, good).ok()??;
+    let pages = pages_of(alloc, pages)?;
+    let mut row = Row::at_start(pages, protects_of(alloc, protects)?);
+    row.good = good;
+    row.regs[0] = span_of(span);
+    row.sources[0] = source;
+    row.sources[7] = Source::Page(1);
+    row.counters[0] = span_of(counter);
+    row.base = base;
+    row.coeffs = [coeff, 5, 0, 0];
+    Some(row)
 }
 
 /// A program that begins with the line, and the row before it.
