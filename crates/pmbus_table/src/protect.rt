@@ -1,5 +1,5 @@
 ghost use Rattle.std.specs.Prelude.{◌≡◌, ◌↔◌, IsTrue, IsSome};
-ghost use Rattle.pmbus_table.specs.Protect.{permits, is_protection};
+ghost use Rattle.pmbus_table.specs.Protect.{permits, is_one_of, is_protection, protections};
 
 use crate::code::{ON_OFF_CONFIG, OPERATION, PAGE, VOUT_COMMAND, WRITE_PROTECT};
 
@@ -26,7 +26,8 @@ pub fn permits(protect: u8, code: u8) -> Option<bool>
 
 /// Whether a WRITE_PROTECT value is one of 00h, 20h, 40h and 80h.
 pub fn is_protection(protect: u8) -> bool
-    ensures { result ≡ is_protection protect }
+    ensures value { result ≡ is_protection protect }
+    ensures listed { result ≡ is_one_of protections protect }
 {
     permits(protect, WRITE_PROTECT).is_some()
 }
