@@ -24,7 +24,7 @@ pub use law::{
     contenders_have_one_frame, lower_address_wins, messages_have_one_frame, pieces_join,
     slots_are_one_frame,
 };
-pub use message::{Answer, Form, Message};
+pub use message::{Answer, FORMS, Form, Message};
 pub use observer::Observer;
 pub use observing::observe;
 pub use single::{only_frame, only_frame_in};

@@ -5,24 +5,8 @@ use bundles::form_word;
 use notes::lowercase_suggestion;
 use sentences::Word::Text;
 use sentences::say;
-use smbus::Form;
+use smbus::{FORMS, Form};
 use std::alloc::Global;
-
-/// The forms that an entry of `allow` may have.
-const FORMS: [Form; 12] = [
-    Form::Quick(false),
-    Form::Quick(true),
-    Form::SendByte,
-    Form::ReceiveByte,
-    Form::WriteByte,
-    Form::WriteWord,
-    Form::ReadByte,
-    Form::ReadWord,
-    Form::ProcessCall,
-    Form::BlockWrite,
-    Form::BlockRead,
-    Form::BlockProcessCall,
-];
 
 /// The words of these forms.
 pub(crate) fn form_words(alloc: Global) -> Result<Vec<&'static str>> {
