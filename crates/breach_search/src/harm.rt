@@ -15,7 +15,7 @@ use board::{Board, board_is_valid};
 use bundles::can_be_said;
 use run_monitor::{Breach, Monitor, accepted_runs_keep_rules};
 use seq_program::{Program, program_is_valid};
-use simulator::{RunFault, Stage, runs_go_on, start, steps_are_seen};
+use simulator::{RunFault, Stage, Trace, runs_go_on, start, steps_are_seen};
 use smbus::Answer;
 use std::alloc::{AllocError, Global};
 use table_check::accepted_runs_are_admitted;
@@ -29,6 +29,13 @@ pub struct Harm {
     pub protects: Vec<u8>,
     pub answers: Vec<Answer>,
     pub breach: Breach,
+}
+
+/// A run in which a program breaks a rule with its last instruction, and its steps.
+#[derive(Drop)]
+pub struct Shown {
+    pub harm: Harm,
+    pub trace: Trace,
 }
 
 /// The stage before the first step, if the targets may start so.

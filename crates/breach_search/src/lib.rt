@@ -13,5 +13,5 @@ mod states;
 mod trail;
 mod values;
 
-pub use harm::Harm;
+pub use harm::{Harm, Shown};
 pub use searching::{MOST_STATES, find_breach};

@@ -18,7 +18,7 @@ use Rattle.notes.specs.Lines.{line_at}
 use Rattle.notes.specs.Notes.{IsOn}
 use Rattle.notes.specs.declared.level.Level.TheVariants.{Warning}
 use Rattle.notes.specs.declared.note.Note.{Note}
-use Rattle.session.specs.Places.{place_line}
+use Rattle.seq_program.specs.Places.{place_line}
 use Rattle.session.specs.declared.outcome.Judged.{Judged}
 use Rattle.diagnostics.specs.ProgramPlaces.{program_lines}
 

@@ -5,7 +5,7 @@ ghost use Rattle.diagnostics.specs.Bounds.{IsBoundOf, IsBoundOfJudgement};
 ghost use Rattle.session.specs.Parts.{sections_view};
 
 use crate::Result;
-use crate::input::program_text;
+use crate::input::{found_on, program_text};
 use bundles::Section;
 use notes::Note;
 use refusal_notes::bound_note;
@@ -35,7 +35,7 @@ fn judgement_note(
         return Ok(None);
     };
     let text = program_text(alloc, sections)?;
-    bound_note(alloc, &text, sequence, judged, bound)
+    bound_note(alloc, &text, found_on(sequence, judged), bound)
 }
 
 /// Where the ticks of the bound go of a program that was verified, if that is asked for: the

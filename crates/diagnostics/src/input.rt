@@ -20,7 +20,7 @@ use crate::drafted::draft_fault_note;
 use board::{Board, BoardFault};
 use bundles::{Exchange, Section};
 use notes::{Level, Note};
-use refusal_notes::{check_note, gave_up_note, verify_note};
+use refusal_notes::{Tried, check_note, gave_up_note, verify_note};
 use run_notes::{answer_note, frame_note};
 use sentences::{note_in, say};
 use seq_program::ProgramFault;
@@ -103,7 +103,12 @@ fn verdict_note(
         Judgement::Accepted { .. } => Ok(None),
         Judgement::Refused(refusal) => {
             let text = program_text(alloc, sections)?;
-            check_note(alloc, &text, trial, judged, refusal)
+            let tried = Tried {
+                board: &trial.board,
+                program: &trial.program,
+                table: &judged.table,
+            };
+            check_note(alloc, &text, tried, refusal)
         }
     }
 }
@@ -224,6 +229,15 @@ fn searched_note(
     }
 }
 
+/// A program with the facts that were found for it.
+pub(crate) fn found_on<'a>(sequence: &'a Sequence, judged: &'a Judged) -> Tried<'a> {
+    Tried {
+        board: &sequence.board,
+        program: &sequence.program,
+        table: &judged.table,
+    }
+}
+
 /// The note on a program that was to be verified, with the judgement on the facts that were found.
 fn found_note(
     alloc: Global,
@@ -237,7 +251,8 @@ fn found_note(
         Judgement::Accepted { .. } => Ok(None),
         Judgement::Refused(refusal) => {
             let text = program_text(alloc, sections)?;
-            verify_note(alloc, &text, verified, judged, refusal)
+            let tried = found_on(&verified.sequence, judged);
+            verify_note(alloc, &text, tried, verified.shown.as_ref(), refusal)
         }
     }
 }

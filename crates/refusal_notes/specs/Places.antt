@@ -4,7 +4,7 @@ use Rattle.notes.specs.declared.level.Level.{Level}
 use Rattle.notes.specs.declared.level.Level.TheVariants.{Warning}
 use Rattle.notes.specs.declared.note.Note.{Note}
 use Rattle.notes.specs.Notes.{IsOn}
-use Rattle.session.specs.Places.{place_line}
+use Rattle.seq_program.specs.Places.{place_line}
 
 -- a note of a level is on the line of a program's place, if it has one
 abbrev pub IsOnPlace : Level → List (List ℕ) → ℕ → Option Note → Type 0

@@ -8,10 +8,10 @@ mod dearest;
 
 use crate::Result;
 use crate::bound::dearest::{Dearest, Turns, dearest_way};
-use crate::roads::Judged;
+use crate::roads::{Judged, Tried};
 use notes::{Level, Note};
 use sentences::{Remark, note_in};
-use session::{Judged as Found, Sequence, place_line, place_lines};
+use seq_program::{place_line, place_lines};
 use std::alloc::Global;
 
 /// Adds a number of tenths with its unit.
@@ -109,20 +109,14 @@ fn way_facts(alloc: Global, judged: Judged<'_>, bound: u64) -> Result<Vec<String
 /// Where the ticks of the bound go of a program with this text that is accepted with the facts that
 /// were found for it: the dearest way, loop by loop, on the line of its first instruction. Fails
 /// only for want of memory.
-pub fn bound_note(
-    alloc: Global,
-    text: &str,
-    sequence: &Sequence,
-    found: &Found,
-    bound: u64,
-) -> Result<Option<Note>>
+pub fn bound_note(alloc: Global, text: &str, tried: Tried<'_>, bound: u64) -> Result<Option<Note>>
     ensures { IfOk result (IsBoundNote (lines_by_feed text.now) bound) }
 {
     let Some(number) = place_line(alloc, text, 0)? else {
         return Ok(None);
     };
     let lines = place_lines(alloc, text)?;
-    let judged = Judged::found(sequence, &lines, found);
+    let judged = Judged::of(tried, &lines);
     let remark = Remark::bare(bound_text(alloc, bound)?);
     let note = note_in(alloc, Level::Info, "%program", text, number, remark)?;
     let facts = way_facts(alloc, judged, bound)?;

@@ -13,8 +13,7 @@ use facts::{Row, Rule};
 use notes::{Level, Note};
 use run_monitor::{Breach, Reached};
 use sentences::{Remark, note_in};
-use seq_program::Program;
-use session::place_line;
+use seq_program::{Program, place_line};
 use std::alloc::Global;
 
 /// What breaks a rule, in a sentence.

@@ -28,6 +28,7 @@ mod widened;
 pub use bound::bound_note;
 pub use breach::breach_note;
 pub use refusal::{RefusalKind, check_note, gave_up_note, refusal_note, verify_note};
+pub use roads::Tried;
 use std::alloc::AllocError;
 
 /// What can fail for want of memory.

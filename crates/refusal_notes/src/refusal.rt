@@ -9,12 +9,12 @@ ghost use Rattle.refusal_notes.specs.Refusals.{IsRefusalNote, rule_in};
 use crate::Result;
 use crate::cause::Cause;
 use crate::reason::{cause_of, loop_cause, unverified_cause};
-use crate::roads::Judged;
+use crate::roads::{Judged, Tried};
+use breach_search::Shown;
 use facts::Rule;
 use notes::{Level, Note};
 use sentences::Remark;
-use seq_program::Program;
-use session::{Judged as Found, Trial, Verified, place_line, place_lines};
+use seq_program::{Program, place_line, place_lines};
 use std::alloc::Global;
 use table_check::Refusal;
 
@@ -188,21 +188,14 @@ pub fn refusal_note(
 pub fn check_note(
     alloc: Global,
     text: &str,
-    trial: &Trial,
-    found: &Found,
+    tried: Tried<'_>,
     refusal: Refusal,
 ) -> Result<Option<Note>>
     ensures { IfOk result (IsRefusalNote (lines_by_feed text.now) refusal.place
         (Some (rule_name (rule_of refusal.breach)))) }
 {
     let lines = place_lines(alloc, text)?;
-    let judged = Judged {
-        board: &trial.board,
-        program: &trial.program,
-        lines: &lines,
-        table: &found.table,
-    };
-    let (kind, cause) = cause_of(alloc, judged, refusal)?;
+    let (kind, cause) = cause_of(alloc, Judged::of(tried, &lines), refusal)?;
     detailed_note(alloc, text, refusal.place, kind, cause)
 }
 
@@ -212,16 +205,15 @@ pub fn check_note(
 pub fn verify_note(
     alloc: Global,
     text: &str,
-    verified: &Verified,
-    found: &Found,
+    tried: Tried<'_>,
+    shown: Option<&Shown>,
     refusal: Refusal,
 ) -> Result<Option<Note>>
     ensures { IfOk result (IsRefusalNote (lines_by_feed text.now) refusal.place
         (Some (rule_name (rule_of refusal.breach)))) }
 {
     let lines = place_lines(alloc, text)?;
-    let judged = Judged::found(&verified.sequence, &lines, found);
-    let (kind, cause) = unverified_cause(alloc, judged, refusal, verified.shown.as_ref())?;
+    let (kind, cause) = unverified_cause(alloc, Judged::of(tried, &lines), refusal, shown)?;
     detailed_note(alloc, text, refusal.place, kind, cause)
 }
 

@@ -9,12 +9,19 @@ use crate::Result;
 use board::Board;
 use facts::{Row, Rule, duty, edges};
 use seq_program::{Instr, Program};
-use session::{Judged as Found, Sequence};
 use std::alloc::Global;
 use table_check::{Table, row_at};
 
 /// An edge of a place: where it leads, the row there, and the most ticks on the way.
 pub(crate) type Edge = (usize, Row, u64);
+
+/// A program on its board, and the table of facts that was judged.
+#[derive(Clone, Copy)]
+pub struct Tried<'a> {
+    pub board: &'a Board,
+    pub program: &'a Program,
+    pub table: &'a Table,
+}
 
 /// A board, a program on it with the lines of its places, and a table of what is known there.
 #[derive(Clone, Copy)]
@@ -34,17 +41,18 @@ fn may_be_sent(board: &Board, instr: &Instr, row: &Row) -> bool
 }
 
 impl<'a> Judged<'a> {
-    /// A table that was found, with its board and its program, whose places have these lines.
-    pub(crate) fn found(
-        sequence: &'a Sequence,
-        lines: &'a [usize],
-        found: &'a Found,
-    ) -> Judged<'a> {
+    /// What was tried, with the lines of the program's places.
+    pub(crate) fn of(tried: Tried<'a>, lines: &'a [usize]) -> Judged<'a> {
+        let Tried {
+            board,
+            program,
+            table,
+        } = tried;
         Judged {
-            board: &sequence.board,
-            program: &sequence.program,
+            board,
+            program,
             lines,
-            table: &found.table,
+            table,
         }
     }
 

@@ -21,7 +21,6 @@ pub mod Sessions
 pub mod Promises
 pub mod Devices
 pub mod Parts
-pub mod Places
 pub mod Runs
 pub mod Breaches
 pub mod Unreads

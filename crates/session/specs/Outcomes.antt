@@ -24,7 +24,6 @@ use Rattle.session.specs.declared.fault.InputFault.{InputFault as Fault}
 use Rattle.session.specs.declared.fault.InputFault.TheVariants as faults
 use Rattle.session.specs.declared.outcome.Judged.{Judged}
 use Rattle.session.specs.declared.outcome.Refutation.{Refutation}
-use Rattle.session.specs.declared.outcome.Shown.{Shown}
 use Rattle.session.specs.declared.outcome.Outcome.{Outcome}
 use Rattle.session.specs.declared.outcome.Outcome.TheVariants as outcomes
 use Rattle.session.specs.declared.reply.Status.{Status}
@@ -32,6 +31,7 @@ use Rattle.session.specs.declared.reply.Status.TheVariants.{Accepted, Refused, I
 use Rattle.session.specs.declared.report.Telling.{Telling}
 use Rattle.session.specs.declared.scenario.Scenario.{Scenario}
 use Rattle.session.specs.declared.sequence.Sequence.{Sequence}
+use Rattle.breach_search.specs.declared.harm.Shown.{Shown}
 use Rattle.breach_search.specs.Harms.{IsHarm}
 use Rattle.breach_search.specs.declared.harm.Harm.{Harm}
 use Rattle.session.specs.Breaches.{IsFoundIn}

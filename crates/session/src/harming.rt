@@ -5,9 +5,9 @@ ghost use Rattle.breach_search.specs.Harms.{IsHarm};
 ghost use Rattle.seq_program.specs.Valid.{IsOnBoard};
 ghost use Rattle.session.specs.Outcomes.{IsRunOfHarm, IsShown};
 
-use crate::outcome::{Judged, Shown};
+use crate::outcome::Judged;
 use crate::sequence::Sequence;
-use breach_search::{Harm, find_breach};
+use breach_search::{Harm, Shown, find_breach};
 use facts::Rule;
 use seq_program::program_is_valid;
 use simulator::{Machine, RunFault, Trace, run, start};

@@ -12,7 +12,6 @@ mod harming;
 mod intake;
 mod judging;
 mod outcome;
-mod place;
 mod planned;
 mod playing;
 mod refuting;
@@ -37,9 +36,8 @@ pub use intake::{Input, ReadFault, read_input, text_of};
 pub use judging::{judge, text_front};
 pub use outcome::{
     Case, Checked, Drafted, Framed, Judged, Outcome, Played, Ran, Refutation, Refuted, Searched,
-    Shown, Verified,
+    Verified,
 };
-pub use place::{place_line, place_lines};
 pub use planned::Planned;
 pub use reply::{Reply, Status};
 pub use replying::reply_of;

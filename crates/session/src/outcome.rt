@@ -8,10 +8,10 @@ use crate::sequence::Sequence;
 use crate::stop::Stop;
 use crate::trial::Trial;
 use crate::unread::Unread;
-use breach_search::Harm;
+use breach_search::Shown;
 use bundles::{Exchange, Section};
 use run_monitor::{Breach, Reached};
-use simulator::{RunFault, Trace};
+use simulator::RunFault;
 use smbus::SmbusFault;
 use table_check::{Judgement, Table};
 
@@ -54,13 +54,6 @@ pub struct Checked {
 pub struct Searched {
     pub sequence: Sequence,
     pub found: Result<Table, usize>,
-}
-
-/// A run in which a program breaks a rule with its last instruction, and its steps.
-#[derive(Drop)]
-pub struct Shown {
-    pub harm: Harm,
-    pub trace: Trace,
 }
 
 /// A program that was to be verified: the verdict on the table that was found, or the place at

@@ -6,9 +6,10 @@ use crate::session_rows::input_of;
 use facts::Rule;
 use notes::Note;
 use refusal_notes::{
-    RefusalKind, bound_note, breach_note, check_note, gave_up_note, refusal_note, verify_note,
+    RefusalKind, Tried, bound_note, breach_note, check_note, gave_up_note, refusal_note,
+    verify_note,
 };
-use session::{Checked, Outcome, Ran, Scenario, Verified, judge};
+use session::{Checked, Judged, Outcome, Ran, Scenario, Sequence, Trial, Verified, judge};
 use std::alloc::{AllocError, Global};
 use std::process::Abort;
 use std::test::*;
@@ -68,13 +69,27 @@ fn refusals(rt: HostRuntime) {
     notes(&rt, note_at(rt.alloc(), 3, RefusalKind::GaveUp), None);
 }
 
+fn tried_by<'a>(sequence: &'a Sequence, judged: &'a Judged) -> Tried<'a> {
+    let (board, program, table) = (&sequence.board, &sequence.program, &judged.table);
+    Tried {
+        board,
+        program,
+        table,
+    }
+}
+
 /// The note on a program that was to be verified, or on its bound.
 fn on_verified(alloc: Global, text: &str, verified: &Verified) -> Result<Option<Note>, AllocError> {
     let sequence = &verified.sequence;
     match &verified.judged {
         Ok(judged) => match judged.judgement {
-            Judgement::Accepted { bound } => bound_note(alloc, text, sequence, judged, bound),
-            Judgement::Refused(refusal) => verify_note(alloc, text, verified, judged, refusal),
+            Judgement::Accepted { bound } => {
+                bound_note(alloc, text, tried_by(sequence, judged), bound)
+            }
+            Judgement::Refused(refusal) => {
+                let shown = verified.shown.as_ref();
+                verify_note(alloc, text, tried_by(sequence, judged), shown, refusal)
+            }
         },
         Err(place) => gave_up_note(alloc, text, &sequence.program, *place),
     }
@@ -86,7 +101,14 @@ fn on_checked(alloc: Global, text: &str, checked: &Checked) -> Result<Option<Not
         Ok(judged) => match judged.judgement {
             Judgement::Accepted { .. } => Ok(None),
             Judgement::Refused(refusal) => {
-                check_note(alloc, text, &checked.trial, judged, refusal)
+                let Trial { board, program, .. } = &checked.trial;
+                let table = &judged.table;
+                let tried = Tried {
+                    board,
+                    program,
+                    table,
+                };
+                check_note(alloc, text, tried, refusal)
             }
         },
         Err(_) => Ok(None),

@@ -17,8 +17,8 @@ use bundles::Section;
 use notes::{Level, LineFinder, Note};
 use program_lints::{ProgramLint, program_lints};
 use sentences::note_on;
-use seq_program::Program;
-use session::{Judged, place_lines};
+use seq_program::{Program, place_lines};
+use session::Judged;
 use std::alloc::Global;
 use table_check::Judgement;
 

@@ -8,7 +8,7 @@ use Rattle.notes.specs.Lines.{line_at}
 use Rattle.notes.specs.Notes.{IsQuoting}
 use Rattle.program_lints.specs.declared.lint.ProgramLint.{ProgramLint}
 use Rattle.program_lints.specs.LintNames.{lint_name}
-use Rattle.session.specs.Places.{place_line}
+use Rattle.seq_program.specs.Places.{place_line}
 use Rattle.texts.specs.Words.{lines_by_feed}
 use Rattle.diagnostics.specs.ProgramWarnings.{is_allowed, warned_line, warned_number}
 use Rattle.diagnostics.proofs.ToldLines.{AreNoted, IsNoteOn, next_is, noted_unless, none_noted}

@@ -2,9 +2,9 @@
 
 ghost use Rattle.std.specs.Prelude.{◌≡◌, IfOk};
 ghost use Rattle.texts.specs.Words.{lines_by_feed};
-ghost use Rattle.session.specs.Places.{has_instruction, place_line, place_lines};
+ghost use Rattle.seq_program.specs.Places.{has_instruction, place_line, place_lines};
 
-use seq_program::label_in;
+use crate::labels::label_in;
 use std::alloc::{AllocError, Global};
 use texts::{first_by_feed, without_comment, words_of};
 

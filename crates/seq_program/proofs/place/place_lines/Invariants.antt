@@ -3,8 +3,8 @@ use denote.Shadow.{shadow}
 use denote.Text.{Utf8}
 use Rattle.std.specs.List.{enumerate_from}
 use Rattle.texts.specs.Words.{lines_by_feed}
-use Rattle.session.specs.Places.{has_instruction, place_lines}
-use Rattle.session.proofs.place.place_lines.Given as goal
+use Rattle.seq_program.specs.Places.{has_instruction, place_lines}
+use Rattle.seq_program.proofs.place.place_lines.Given as goal
 
 -- the lines so far, and those of what is left, are all
 abbrev pub invariant-loop-line : goal.invariant-loop-line
