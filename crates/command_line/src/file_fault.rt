@@ -18,7 +18,7 @@ const MOST_BYTES: usize = 16_777_216;
 const BYTE_ORDER_MARK: [u8; 3] = [0xEF, 0xBB, 0xBF];
 
 /// Why a file isn't taken. Lines and bytes are counted from 1.
-#[derive(Clone, Copy, Debug, PartialEq, Eq)]
+#[derive(Clone, Copy)]
 pub(crate) enum FileFault {
     /// It has more than 16 MiB.
     TooLarge,

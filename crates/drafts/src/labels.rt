@@ -14,7 +14,7 @@ const LONGEST_RAIL: usize = 23;
 const LONGEST_TARGET: usize = 22;
 
 /// What stands for a rail or a target in labels.
-#[derive(Clone, Copy, Debug, PartialEq, Eq)]
+#[derive(Clone, Copy)]
 pub(crate) enum Labels {
     Names,
     /// Some name is too long, or begins as a label does that is made.

@@ -7,7 +7,7 @@ use board::{Allow, Board};
 use smbus::Form;
 
 /// A message to a target: its form, its command code, and what it writes, if it writes something.
-#[derive(Clone, Copy, Debug, PartialEq, Eq)]
+#[derive(Clone, Copy)]
 pub(crate) struct Request {
     pub(crate) target: usize,
     pub(crate) form: Form,

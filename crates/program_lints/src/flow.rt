@@ -9,7 +9,7 @@ ghost use Rattle.program_lints.specs.PowerStates.{sets_in};
 use facts::GoodSet;
 
 /// What becomes of the rails of which something is sure, on the way from a place to another.
-#[derive(Clone, Copy, Debug)]
+#[derive(Clone, Copy)]
 pub(crate) struct Flow {
     pub(crate) from: usize,
     pub(crate) to: usize,

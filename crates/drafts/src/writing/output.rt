@@ -10,7 +10,7 @@ use smbus::Form;
 use std::alloc::{AllocError, Global};
 
 /// How the page of a rail is selected.
-#[derive(Clone, Copy, Debug, PartialEq, Eq)]
+#[derive(Clone, Copy, PartialEq, Eq)]
 pub(crate) enum Paging {
     /// It is the only one.
     Fixed,
