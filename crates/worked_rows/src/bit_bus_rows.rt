@@ -1,15 +1,15 @@
-use crate::expected::{holds, same};
+use crate::expected::{found, holds, made, same};
 use bit_bus::{Driven, Plan, Slot, drive, drive_onto, is_cut};
-use std::alloc::{AllocError, Global};
+use std::alloc::Global;
 use std::process::Abort;
 use std::test::*;
 use wires::{Event, Runs, Sample, events_of};
 
-fn plan_of(alloc: Global, bits: usize, holds: &[u16]) -> Result<Option<Plan>, AllocError> {
+fn plan_of(rt: &impl Abort, alloc: Global, bits: usize, holds: &[u16]) -> Option<Plan> {
     let mut slots = Vec::new(alloc);
-    slots.resize(bits, Slot::Bit(true))?;
-    slots.push(Slot::End)?;
-    Ok(Plan::new(slots, holds.to_vec(alloc)?))
+    made(rt, slots.resize(bits, Slot::Bit(true)));
+    made(rt, slots.push(Slot::End));
+    Plan::new(slots, made(rt, holds.to_vec(alloc)))
 }
 
 /// Numbers of bits, holds, and whether they are a plan.
@@ -21,23 +21,12 @@ static LIMITS: [(usize, &[u16], bool); 5] = [
     (1, &[0, 0, 7000], true),
 ];
 
-/// Tries whether slots and holds are a plan.
-fn is_plan(rt: &impl Abort, plan: Result<Option<Plan>, AllocError>, want: bool) {
-    match plan {
-        Ok(plan) => same(rt, plan.is_some(), want),
-        Err(_) => panic!(rt; "no memory"),
-    }
-}
-
-fn each_is_plan(rt: &impl Abort, alloc: Global, rows: &[(usize, &[u16], bool)]) {
-    for (bits, holds, want) in rows {
-        is_plan(rt, plan_of(alloc, *bits, holds), *want);
-    }
-}
-
 #[test]
 fn limits_of_a_plan(rt: HostRuntime) {
-    each_is_plan(&rt, rt.alloc(), &LIMITS);
+    for (bits, holds, want) in &LIMITS {
+        let plan = plan_of(&rt, rt.alloc(), *bits, holds);
+        same(&rt, (*bits, *holds, plan.is_some()), (*bits, *holds, *want));
+    }
 }
 
 /// With a hold of 4999 ticks SCL is low for 5000, which is no timeout.
@@ -46,19 +35,17 @@ fn cut_holds(rt: HostRuntime) {
     same(&rt, (is_cut(4999), is_cut(5000)), (false, true));
 }
 
-fn without_holds(alloc: Global, slots: &[Slot]) -> Result<Option<Plan>, AllocError> {
-    Ok(Plan::new(slots.to_vec(alloc)?, Vec::new(alloc)))
+fn is_plan(rt: &impl Abort, alloc: Global, slots: &[Slot]) -> bool {
+    let slots = made(rt, slots.to_vec(alloc));
+    Plan::new(slots, Vec::new(alloc)).is_some()
 }
 
 #[test]
 fn plans_end_once(rt: HostRuntime) {
-    is_plan(&rt, without_holds(rt.alloc(), &[]), false);
-    is_plan(&rt, without_holds(rt.alloc(), &[Slot::Again]), false);
-    is_plan(
-        &rt,
-        without_holds(rt.alloc(), &[Slot::End, Slot::End]),
-        false,
-    );
+    let alloc = rt.alloc();
+    same(&rt, is_plan(&rt, alloc, &[]), false);
+    same(&rt, is_plan(&rt, alloc, &[Slot::Again]), false);
+    same(&rt, is_plan(&rt, alloc, &[Slot::End, Slot::End]), false);
 }
 
 const HIGH: Sample = Sample {
@@ -68,17 +55,17 @@ const HIGH: Sample = Sample {
 };
 
 /// A frame without bytes whose STOP is held so long.
-fn stop_held(alloc: Global, hold: u16) -> Option<Driven> {
-    let plan = plan_of(alloc, 0, &[hold]).ok()??;
-    drive(alloc, &plan, false).ok()
+fn stop_held(rt: &impl Abort, alloc: Global, hold: u16) -> Driven {
+    let plan = found(rt, plan_of(rt, alloc, 0, &[hold]));
+    made(rt, drive(alloc, &plan, false))
 }
 
 /// The samples of a short frame, after an idle one.
-fn behind_idle(rt: &impl Abort, alloc: Global, samples: &Runs) -> Result<Runs, AllocError> {
+fn behind_idle(rt: &impl Abort, alloc: Global, samples: &Runs) -> Runs {
     let mut before = Runs::new(alloc);
-    before.push(HIGH, 1)?;
-    assert!(rt; samples.total() < 10_000);
-    Runs::joined(alloc, &before, samples)
+    made(rt, before.push(HIGH, 1));
+    assert!(rt; before.total().max(samples.total()) < 10_000);
+    made(rt, Runs::joined(alloc, &before, samples))
 }
 
 /// The hold of a STOP, the number of samples, and the slot that is cut.
@@ -107,39 +94,23 @@ fn is_bare(rt: &impl Abort, alloc: Global, samples: &Runs, count: u64) {
     none_alerts(rt, samples);
 }
 
-fn ends_high(
-    rt: &impl Abort,
-    alloc: Global,
-    driven: &Driven,
-    held: Held,
-) -> Result<(), AllocError> {
-    let (hold, count, cut) = held;
-    same(rt, (hold, driven.cut), (hold, cut));
-    is_bare(rt, alloc, &behind_idle(rt, alloc, &driven.samples)?, count);
-    Ok(())
-}
-
-fn all_end_high(rt: &impl Abort, alloc: Global, rows: &[Held]) -> Option<()> {
-    for held in rows {
-        ends_high(rt, alloc, &stop_held(alloc, held.0)?, *held).ok()?;
-    }
-    Some(())
-}
-
 #[test]
 fn at_the_timeout(rt: HostRuntime) {
-    same(&rt, all_end_high(&rt, rt.alloc(), &HOLDS), Some(()));
+    let alloc = rt.alloc();
+    for (hold, count, cut) in &HOLDS {
+        let driven = stop_held(&rt, alloc, *hold);
+        same(&rt, (*hold, driven.cut), (*hold, *cut));
+        let samples = behind_idle(&rt, alloc, &driven.samples);
+        is_bare(&rt, alloc, &samples, *count);
+    }
 }
 
-/// How many samples nine bits and a STOP take, and the slot that is cut.
-fn driven_onto(alloc: Global) -> Option<(u64, Option<usize>)> {
-    let plan = plan_of(alloc, 9, &[]).ok()??;
-    let mut samples = Runs::new(alloc);
-    let cut = drive_onto(&mut samples, &plan, false).ok()?;
-    Some((samples.total(), cut))
-}
-
+/// Nine bits and a STOP take 22 samples.
 #[test]
 fn a_byte_is_driven_onto_samples(rt: HostRuntime) {
-    same(&rt, driven_onto(rt.alloc()), Some((22, None)));
+    let alloc = rt.alloc();
+    let plan = found(&rt, plan_of(&rt, alloc, 9, &[]));
+    let mut samples = Runs::new(alloc);
+    let cut = made(&rt, drive_onto(&mut samples, &plan, false));
+    same(&rt, (samples.total(), cut), (22, None));
 }

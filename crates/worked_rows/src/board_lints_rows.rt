@@ -1,27 +1,22 @@
 //! Lints of boards.
 
 use crate::boards::TWO;
-use crate::expected::holds;
-use board::{Board, read_board};
+use crate::expected::{holds, made};
+use board::read_board;
 use board_lints::{Lint, lints_on};
 use seq_program::read_program;
-use std::alloc::{AllocError, Global};
+use std::alloc::Global;
+use std::process::Abort;
 use std::test::*;
 
-/// The lints of a board, and a program that does nothing.
-fn lints_of(alloc: Global, board: &Board) -> Result<Vec<Lint>, AllocError> {
-    match read_program(alloc, board, "end") {
-        Ok(program) => lints_on(alloc, board, &program),
-        Err(_) => Err(AllocError),
-    }
-}
-
-/// The lints of TWO with a text in place of another.
-fn lints_where(alloc: Global, old: &str, new: &str) -> Result<Vec<Lint>, AllocError> {
-    match read_board(alloc, &TWO.replace(alloc, old, new)?) {
-        Ok(board) => lints_of(alloc, &board),
-        Err(_) => Err(AllocError),
-    }
+/// Tries the lints of TWO with a text in place of another, and a program that does nothing.
+fn has_lints(rt: &impl Abort, alloc: Global, old: &str, new: &str, want: &[Lint]) {
+    let text = made(rt, TWO.replace(alloc, old, new));
+    let board = made(rt, read_board(alloc, &text));
+    let program = made(rt, read_program(alloc, &board, "end"));
+    let lints = lints_on(alloc, &board, &program);
+    drop((board, program));
+    holds(rt, lints, want);
 }
 
 /// No voltage is over this limit.
@@ -32,10 +27,6 @@ const LOOSE: Lint = Lint::LooseLimit {
 
 #[test]
 fn lints(rt: HostRuntime) {
-    holds(&rt, lints_where(rt.alloc(), "", ""), &[]);
-    holds(
-        &rt,
-        lints_where(rt.alloc(), "3300000", "4294967295"),
-        &[LOOSE],
-    );
+    has_lints(&rt, rt.alloc(), "", "", &[]);
+    has_lints(&rt, rt.alloc(), "3300000", "4294967295", &[LOOSE]);
 }

@@ -1,5 +1,5 @@
-use crate::boards::{TWO, alert_board, two_board};
-use crate::expected::{same, says};
+use crate::boards::{TWO, alert_board, boxed, two_board};
+use crate::expected::{found, made, same, says};
 use board::{
     At, Board, BoardFault, FaultKind, Key, Place, Range, Site, full_length, full_values,
     is_page_value, is_target_address, read_board,
@@ -25,33 +25,30 @@ fn compare_targets(rt: &impl Abort, board: &Board) {
 }
 
 /// The address, the pages, the exponent, the stretch, and whether it alerts.
-fn numbers_of(board: &Board, index: usize) -> Option<(u8, u8, i8, u16, bool)> {
-    let target = board.target(index)?;
-    Some((
+fn numbers_of(rt: &impl Abort, board: &Board, index: usize) -> (u8, u8, i8, u16, bool) {
+    let target = found(rt, board.target(index));
+    (
         target.address(),
         target.pages(),
         target.exponent(),
         target.stretch(),
         target.alerts(),
-    ))
+    )
 }
 
 /// The start values of a target, and how many entries it has.
-fn starts_of(board: &Board, index: usize) -> Option<(&[u8], &[u8], usize)> {
-    let target = board.target(index)?;
+fn starts_of<'a>(rt: &impl Abort, board: &'a Board, index: usize) -> (&'a [u8], &'a [u8], usize) {
+    let target = found(rt, board.target(index));
     let entries = target.allow().len();
-    Some((target.start_pages(), target.start_protects(), entries))
+    (target.start_pages(), target.start_protects(), entries)
 }
 
 fn compare_target(rt: &impl Abort, board: &Board) {
-    same(rt, numbers_of(board, 1), Some((0x41, 1, -12, 0, false)));
-    let starts = Some(([0].as_slice(), [0].as_slice(), 6));
-    same(
-        rt,
-        (starts_of(board, 0), starts_of(board, 1)),
-        (starts, starts),
-    );
-    same(rt, numbers_of(board, 2), None);
+    same(rt, numbers_of(rt, board, 1), (0x41, 1, -12, 0, false));
+    let starts = ([0].as_slice(), [0].as_slice(), 6);
+    same(rt, starts_of(rt, board, 0), starts);
+    same(rt, starts_of(rt, board, 1), starts);
+    same(rt, board.target(2).is_some(), false);
 }
 
 type EntryFacts = (Form, Option<Command>, Range, Range);
@@ -72,33 +69,28 @@ fn values_of(board: &Board, message: &Message) -> Option<Range> {
     Some(board.entry_for(message)?.values())
 }
 
-/// A read of STATUS_WORD at the address of the first target.
-fn status_read(alloc: Global) -> Message {
+/// A read of STATUS_WORD.
+fn status_read(alloc: Global, address: u8) -> Message {
     Message {
-        address: 0x40,
+        address: address % 128,
         form: Form::ReadWord,
         code: 0x79,
         out: Vec::new(alloc),
     }
 }
 
-/// The same at an address that no target has.
-fn stray_read(alloc: Global) -> Message {
-    Message {
-        address: 0x42,
-        form: Form::ReadWord,
-        code: 0x79,
-        out: Vec::new(alloc),
-    }
-}
-
+/// No target has the second address.
 fn compare_messages(rt: &impl Abort, alloc: Global, board: &Board) {
     let values = Range {
         low: 0,
         high: 65535,
     };
-    same(rt, values_of(board, &status_read(alloc)), Some(values));
-    same(rt, values_of(board, &stray_read(alloc)), None);
+    same(
+        rt,
+        values_of(board, &status_read(alloc, 0x40)),
+        Some(values),
+    );
+    same(rt, values_of(board, &status_read(alloc, 0x42)), None);
 }
 
 fn compare_entries(rt: &impl Abort, board: &Board) {
@@ -136,19 +128,15 @@ fn compare_rails(rt: &impl Abort, board: &Board) {
     );
 }
 
-fn compare_two(rt: &impl Abort, alloc: Global) -> Result<(), BoardFault> {
-    let board = two_board(alloc)?;
-    compare_targets(rt, &board);
-    compare_target(rt, &board);
-    compare_entries(rt, &board);
-    compare_messages(rt, alloc, &board);
-    compare_rails(rt, &board);
-    Ok(())
-}
-
 #[test]
 fn two_targets_and_two_rails(rt: HostRuntime) {
-    same(&rt, compare_two(&rt, rt.alloc()), Ok(()));
+    let alloc = rt.alloc();
+    let board = boxed(&rt, alloc, two_board(alloc));
+    compare_targets(&rt, &board);
+    compare_target(&rt, &board);
+    compare_entries(&rt, &board);
+    compare_messages(&rt, alloc, &board);
+    compare_rails(&rt, &board);
 }
 
 const LATER_NEED: &str = "1100000\nneeds = [\"vb\"]";
@@ -156,43 +144,30 @@ const LATER_NEED: &str = "1100000\nneeds = [\"vb\"]";
 const THIRD: &str = "[[rail]]\nname = \"vc\"\ntarget = \"a\"\npage = 1\nlimit_uv = 1100000\n";
 
 /// TWO where a has two pages, the first rail needs the second, and a third is on the second page.
-fn pages_board(alloc: Global) -> Result<Board, BoardFault> {
-    let text = TWO.replace(alloc, "0x40\npages = 1", "0x40\npages = 2")?;
-    let text = text.replace(alloc, "1100000", LATER_NEED)?;
-    let text = text.replace(alloc, "needs = [\"va\"]\n", THIRD)?;
-    read_board(alloc, &text)
-}
-
-fn compare_pages(rt: &impl Abort, alloc: Global) -> Result<(), BoardFault> {
-    let board = pages_board(alloc)?;
-    same(rt, board.rails().len(), 3);
-    let first = Some((0, 0, 1_100_000, [1].as_slice()));
-    let third = Some((0, 1, 1_100_000, [].as_slice()));
-    same(
-        rt,
-        (rail_facts(&board, 0), rail_facts(&board, 2)),
-        (first, third),
-    );
-    Ok(())
+fn pages_board(rt: &impl Abort, alloc: Global) -> Box<Board> {
+    let text = made(rt, TWO.replace(alloc, "0x40\npages = 1", "0x40\npages = 2"));
+    let text = made(rt, text.replace(alloc, "1100000", LATER_NEED));
+    let text = made(rt, text.replace(alloc, "needs = [\"va\"]\n", THIRD));
+    boxed(rt, alloc, read_board(alloc, &text))
 }
 
 /// A rail may need a later one.
 #[test]
 fn pages(rt: HostRuntime) {
-    same(&rt, compare_pages(&rt, rt.alloc()), Ok(()));
-}
-
-fn compare_alerts(rt: &impl Abort, alloc: Global) -> Result<(), BoardFault> {
-    let board = alert_board(alloc)?;
-    same(rt, board.target_at(0x21), Some(1));
-    same(rt, numbers_of(&board, 0), Some((0x40, 1, -12, 0, true)));
-    same(rt, numbers_of(&board, 1), Some((0x21, 1, -12, 0, true)));
-    Ok(())
+    let board = pages_board(&rt, rt.alloc());
+    same(&rt, board.rails().len(), 3);
+    let first = Some((0, 0, 1_100_000, [1].as_slice()));
+    let third = Some((0, 1, 1_100_000, [].as_slice()));
+    same(&rt, rail_facts(&board, 0), first);
+    same(&rt, rail_facts(&board, 2), third);
 }
 
 #[test]
 fn alerts(rt: HostRuntime) {
-    same(&rt, compare_alerts(&rt, rt.alloc()), Ok(()));
+    let board = boxed(&rt, rt.alloc(), alert_board(rt.alloc()));
+    same(&rt, board.target_at(0x21), Some(1));
+    same(&rt, numbers_of(&rt, &board, 0), (0x40, 1, -12, 0, true));
+    same(&rt, numbers_of(&rt, &board, 1), (0x21, 1, -12, 0, true));
 }
 
 /// The example of docs/BOARD.md.
@@ -239,41 +214,32 @@ limit_uv = 3300000
 needs = ["va"]
 "#;
 
-fn compare_whole(rt: &impl Abort, alloc: Global) -> Result<(), BoardFault> {
-    let board = read_board(alloc, WHOLE)?;
+fn compare_whole(rt: &impl Abort, board: &Board) {
     same(rt, board.largest_stretch(), 200);
-    let first = Some(([0, 255].as_slice(), [0].as_slice(), 7));
-    let second = Some(([0].as_slice(), [0, 0x80].as_slice(), 0));
-    same(
-        rt,
-        (starts_of(&board, 0), starts_of(&board, 1)),
-        (first, second),
-    );
+    let first = ([0, 255].as_slice(), [0].as_slice(), 7);
+    let second = ([0].as_slice(), [0, 0x80].as_slice(), 0);
+    same(rt, starts_of(rt, board, 0), first);
+    same(rt, starts_of(rt, board, 1), second);
     let command = by_name("MFR_ID");
     let values = Range { low: 0, high: 255 };
     let length = Range { low: 1, high: 16 };
     let want = Some((Form::BlockRead, command, values, length));
-    same(rt, entry_of(&board, 0, Form::BlockRead, 0x99), want);
-    Ok(())
+    same(rt, entry_of(board, 0, Form::BlockRead, 0x99), want);
 }
 
 #[test]
 fn a_whole_board(rt: HostRuntime) {
-    same(&rt, compare_whole(&rt, rt.alloc()), Ok(()));
+    compare_whole(&rt, &boxed(&rt, rt.alloc(), read_board(rt.alloc(), WHOLE)));
 }
 
 /// Of a target with two pages.
 static PAGE_VALUES: [(u8, bool); 4] = [(1, true), (2, false), (0xFE, false), (0xFF, true)];
 
-fn each_is_page_value(rt: &impl Abort, rows: &[(u8, bool)]) {
-    for row in rows {
-        same(rt, (row.0, is_page_value(2, row.0)), *row);
-    }
-}
-
 #[test]
 fn page_values(rt: HostRuntime) {
-    each_is_page_value(&rt, &PAGE_VALUES);
+    for row in &PAGE_VALUES {
+        same(&rt, (row.0, is_page_value(2, row.0)), *row);
+    }
 }
 
 #[test]
@@ -285,14 +251,15 @@ fn full_ranges(rt: HostRuntime) {
 
 #[test]
 fn numbers_and_names_of_faults(rt: HostRuntime) {
+    let alloc = rt.alloc();
     same(&rt, FaultKind::Memory.number(), 1);
     same(&rt, FaultKind::UnknownCommand.number(), 10);
     same(&rt, FaultKind::BadKey.number(), 16);
     same(&rt, FaultKind::SelfNeed.name(), "SelfNeed");
     let fault = fault_at(FaultKind::Toml, Place::Board, At::Table);
     same(&rt, (fault.number(), fault.name()), (2, "Toml"));
-    says(&rt, format!(in rt.alloc(); "{fault}"), "no TOML document");
-    same(&rt, read_board(rt.alloc(), "[[target").err(), Some(fault));
+    says(&rt, format!(in alloc; "{fault}"), "no TOML document");
+    same(&rt, read_board(alloc, "[[target").err(), Some(fault));
     same(&rt, Key::LimitUv.name(), "limit_uv");
     same(&rt, is_target_address(0x61), false);
 }
@@ -378,19 +345,15 @@ static MISPLACED: [Misplaced; 9] = [
 ];
 
 /// The fault of TWO with a text in place of another.
-fn fault_where(alloc: Global, old: &str, new: &str) -> Option<BoardFault> {
-    let text = TWO.replace(alloc, old, new).ok()?;
+fn fault_where(rt: &impl Abort, alloc: Global, old: &str, new: &str) -> Option<BoardFault> {
+    let text = made(rt, TWO.replace(alloc, old, new));
     read_board(alloc, &text).err()
-}
-
-fn all_are_sited(rt: &impl Abort, alloc: Global, rows: &[Misplaced]) {
-    for (old, new, kind, table, at) in rows {
-        let want = fault_at(*kind, *table, *at);
-        same(rt, fault_where(alloc, old, new), Some(want));
-    }
 }
 
 #[test]
 fn faults_have_sites(rt: HostRuntime) {
-    all_are_sited(&rt, rt.alloc(), &MISPLACED);
+    for (old, new, kind, table, at) in &MISPLACED {
+        let fault = fault_where(&rt, rt.alloc(), old, new);
+        same(&rt, fault, Some(fault_at(*kind, *table, *at)));
+    }
 }

@@ -1,7 +1,18 @@
 //! Boards that the rows of several layers need.
 
+use crate::expected::made;
 use board::{Board, BoardFault, read_board};
 use std::alloc::Global;
+use std::process::Abort;
+
+/// A board on the heap. What owns it so is proved more cheaply than what owns all its parts.
+pub(crate) fn boxed(
+    rt: &impl Abort,
+    alloc: Global,
+    tried: Result<Board, BoardFault>,
+) -> Box<Board> {
+    made(rt, Box::new(alloc, made(rt, tried)))
+}
 
 /// Two targets with a rail each; the second rail needs the first.
 pub(crate) const TWO: &str = r#"

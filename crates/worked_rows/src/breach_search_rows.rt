@@ -3,28 +3,51 @@
 ghost use Rattle.std.specs.Prelude.{length, All};
 ghost use Rattle.seq_program.specs.Valid.{IsOnBoard};
 
-use crate::boards::two_board;
-use crate::expected::same;
+use crate::boards::{boxed, two_board};
+use crate::expected::{made, same};
 use board::Board;
 use breach_search::{MOST_STATES, find_breach};
 use facts::Rule;
 use run_monitor::Breach;
 use seq_program::{Program, read_program};
 use std::alloc::Global;
+use std::process::Abort;
 use std::test::*;
 
-fn breach_on(alloc: Global, board: &Board, program: &Program, most: usize) -> Option<Breach>
+fn breach_of(
+    rt: &impl Abort,
+    alloc: Global,
+    board: &Board,
+    program: &Program,
+    most: usize,
+) -> Option<Breach>
     requires { All (λ i. IsOnBoard (length board.now.targets) i) program.now }
 {
-    let harm = find_breach(alloc, board, program, 5, most).ok()??;
-    Some(harm.breach)
+    match made(rt, find_breach(alloc, board, program, 5, most)) {
+        Some(harm) => Some(harm.breach),
+        None => None,
+    }
+}
+
+fn breach_on(
+    rt: &impl Abort,
+    alloc: Global,
+    board: &Board,
+    program: &str,
+    most: usize,
+) -> Option<Breach> {
+    match read_program(alloc, board, program) {
+        Ok(program) => breach_of(rt, alloc, board, &program, most),
+        Err(fault) => panic!(rt; "{fault:?}"),
+    }
 }
 
 /// Where a program on TWO is found to break a rule, by at most so many states.
-fn breach_in(alloc: Global, program: &str, most: usize) -> Option<Option<Breach>> {
-    let board = two_board(alloc).ok()?;
-    let program = read_program(alloc, &board, program).ok()?;
-    Some(breach_on(alloc, &board, &program, most))
+fn breach_in(rt: &impl Abort, alloc: Global, program: &str, most: usize) -> Option<Breach> {
+    let board = boxed(rt, alloc, two_board(alloc));
+    let breach = breach_on(rt, alloc, &board, program, most);
+    drop(board);
+    breach
 }
 
 /// The first rail reports good, and is turned off before the second is turned on, which needs it.
@@ -47,11 +70,9 @@ fn a_need_that_is_turned_off(rt: HostRuntime) {
         place: 5,
         rule: Rule::K5,
     };
-    same(
-        &rt,
-        breach_in(rt.alloc(), OFF_AGAIN, MOST_STATES),
-        Some(Some(breach)),
-    );
-    same(&rt, breach_in(rt.alloc(), OFF_AGAIN, 1), Some(None));
-    same(&rt, breach_in(rt.alloc(), "end\n", MOST_STATES), Some(None));
+    let alloc = rt.alloc();
+    let most = MOST_STATES;
+    same(&rt, breach_in(&rt, alloc, OFF_AGAIN, most), Some(breach));
+    same(&rt, breach_in(&rt, alloc, OFF_AGAIN, 1), None);
+    same(&rt, breach_in(&rt, alloc, "end\n", most), None);
 }

@@ -5,13 +5,13 @@ mod forms;
 mod said;
 mod seeds;
 
-use crate::expected::{holds, same};
+use crate::expected::{found, holds, made, same};
 use bundles::{
     Answers, BundleFault, Command, Flaw, Header, Key, Section, answer_line_of, answers_in, compose,
     end_last_line, exchange_in, is_counted, read_bundle,
 };
 use session::section_text;
-use std::alloc::{AllocError, Global};
+use std::alloc::Global;
 use std::process::Abort;
 use std::test::*;
 use texts::ReadError;
@@ -53,9 +53,9 @@ static LINES: [AnswerRow; 16] = [
     ),
 ];
 
-fn says(rt: &impl Abort, alloc: Global, row: AnswerRow) -> Result<(), ReadError<BundleFault>> {
+fn says(rt: &impl Abort, alloc: Global, row: AnswerRow) {
     let (line, holds, want) = row;
-    let answer = answer_line_of(alloc, 7, line)?;
+    let answer = made(rt, answer_line_of(alloc, 7, line));
     same(rt, (line, answer.holds.as_slice()), (line, holds));
     let bytes = answer.bytes.as_slice();
     let seen = (
@@ -66,23 +66,14 @@ fn says(rt: &impl Abort, alloc: Global, row: AnswerRow) -> Result<(), ReadError<
         answer.alerts,
     );
     same(rt, (line, seen), (line, want));
-    Ok(())
-}
-
-fn all_say(
-    rt: &impl Abort,
-    alloc: Global,
-    rows: &[AnswerRow],
-) -> Result<(), ReadError<BundleFault>> {
-    for row in rows {
-        says(rt, alloc, *row)?;
-    }
-    Ok(())
+    drop(answer);
 }
 
 #[test]
 fn answer_lines(rt: HostRuntime) {
-    same(&rt, all_say(&rt, rt.alloc(), &LINES), Ok(()));
+    for row in &LINES {
+        says(&rt, rt.alloc(), *row);
+    }
 }
 
 #[test]
@@ -94,38 +85,35 @@ fn lines_that_count(rt: HostRuntime) {
     same(&rt, is_counted(""), false);
 }
 
-/// How many slots a line tells of, and what is held in the last.
-fn last_slot(alloc: Global, line: &str) -> Option<(usize, Option<u16>)> {
-    let answer = answer_line_of(alloc, 7, line).ok()?;
-    Some((answer.holds.len(), answer.holds.last().copied()))
-}
-
 #[test]
 fn the_last_slot(rt: HostRuntime) {
-    let seen = last_slot(rt.alloc(), "holds=4095:1");
-    same(&rt, seen, Some((4096, Some(1))));
+    let answer = made(&rt, answer_line_of(rt.alloc(), 7, "holds=4095:1"));
+    let last = answer.holds.last().copied();
+    same(&rt, (answer.holds.len(), last), (4096, Some(1)));
+    drop(answer);
 }
 
 /// The answers of a bundle for a run.
-pub(crate) fn answers_of(alloc: Global, text: &str) -> Result<Answers<'_>, ReadError<BundleFault>> {
-    let bundle = read_bundle(alloc, text)?;
-    match bundle.sections.last() {
-        Some(section) => answers_in(alloc, section),
-        None => Err(BundleFault::NoCommand.error()),
-    }
+fn answers_of<'a>(
+    rt: &impl Abort,
+    alloc: Global,
+    text: &'a str,
+) -> Result<Answers<'a>, ReadError<BundleFault>> {
+    let bundle = made(rt, read_bundle(alloc, text));
+    answers_in(alloc, found(rt, bundle.sections.last()))
 }
 
 /// Whether a write took, and the value, of each of four answers at most.
-fn said_in(alloc: Global, run: &Answers<'_>) -> Result<Vec<(bool, u16)>, AllocError> {
+fn said_in(rt: &impl Abort, alloc: Global, run: &Answers<'_>) -> Vec<(bool, u16)> {
     let mut said = Vec::new(alloc);
     let mut answers = run.answers();
     for _ in 0..4 {
-        let Some(answer) = answers.next(alloc)? else {
+        let Some(answer) = made(rt, answers.next(alloc)) else {
             break;
         };
-        said.push((answer.took, answer.value))?;
+        made(rt, said.push((answer.took, answer.value)));
     }
-    Ok(said)
+    said
 }
 
 /// The text of a bundle, with what pages and protections its run starts, and what is answered.
@@ -156,36 +144,24 @@ start 00,FF 00,80
     ),
 ];
 
-fn is_started(
-    rt: &impl Abort,
-    alloc: Global,
-    started: Started,
-) -> Result<(), ReadError<BundleFault>> {
+fn is_started(rt: &impl Abort, alloc: Global, started: Started) {
     let (text, pages, protects, said) = started;
-    let run = answers_of(alloc, text)?;
+    let run = made(rt, answers_of(rt, alloc, text));
     same(
         rt,
         (run.pages.as_slice(), run.protects.as_slice()),
         (pages, protects),
     );
-    holds(rt, said_in(alloc, &run), said);
-    Ok(())
-}
-
-fn all_are_started(
-    rt: &impl Abort,
-    alloc: Global,
-    rows: &[Started],
-) -> Result<(), ReadError<BundleFault>> {
-    for started in rows {
-        is_started(rt, alloc, *started)?;
-    }
-    Ok(())
+    let seen = said_in(rt, alloc, &run);
+    drop(run);
+    same(rt, seen.as_slice(), said);
 }
 
 #[test]
 fn sections(rt: HostRuntime) {
-    same(&rt, all_are_started(&rt, rt.alloc(), &STARTED), Ok(()));
+    for started in &STARTED {
+        is_started(&rt, rt.alloc(), *started);
+    }
 }
 
 /// What stands below `%answers` on the fourth line, and the line of its fault with its flaw.
@@ -217,34 +193,22 @@ static BAD_SECTIONS: [(&str, usize, Flaw); 17] = [
     ("\nstart 0G 00\nvalue=4G\n", 5, Flaw::Whole),
 ];
 
-fn has_fault(
-    rt: &impl Abort,
-    alloc: Global,
-    below: &str,
-    line: usize,
-    flaw: Flaw,
-) -> Result<(), AllocError> {
-    let text = format!(in alloc; "%run\n%board\n%program\n%answers{below}")?;
-    let fault = answers_of(alloc, &text).err();
-    let want = Some(BundleFault::BadAnswer(line, flaw).error());
-    same(rt, (below, fault), (below, want));
-    Ok(())
-}
-
-fn all_have_faults(
-    rt: &impl Abort,
-    alloc: Global,
-    rows: &[(&str, usize, Flaw)],
-) -> Result<(), AllocError> {
-    for (below, line, flaw) in rows {
-        has_fault(rt, alloc, below, *line, *flaw)?;
-    }
-    Ok(())
+/// Why a run has no answers.
+fn fault_below(rt: &impl Abort, alloc: Global, below: &str) -> Option<ReadError<BundleFault>> {
+    let text = made(
+        rt,
+        format!(in alloc; "%run\n%board\n%program\n%answers{below}"),
+    );
+    answers_of(rt, alloc, &text).err()
 }
 
 #[test]
 fn bad_sections(rt: HostRuntime) {
-    same(&rt, all_have_faults(&rt, rt.alloc(), &BAD_SECTIONS), Ok(()));
+    for (below, line, flaw) in &BAD_SECTIONS {
+        let fault = fault_below(&rt, rt.alloc(), below);
+        let want = Some(BundleFault::BadAnswer(*line, *flaw).error());
+        same(&rt, (*below, fault), (*below, want));
+    }
 }
 
 fn headers_of(line: &str) -> Option<&'static [Header]> {
@@ -262,36 +226,26 @@ fn sections_of_a_command(rt: HostRuntime) {
 const SEND: &str = "%frame\n%message\n# faults\nform=send address=40 code=03\n";
 
 /// The address and the code of a section's message.
-fn message_in(alloc: Global, section: &Section<'_>) -> Option<(u8, u8)> {
-    let exchange = exchange_in(alloc, section).ok()?;
-    Some((exchange.message.address, exchange.message.code))
-}
-
-fn sent(alloc: Global) -> Option<(u8, u8)> {
-    let bundle = read_bundle(alloc, SEND).ok()?;
-    message_in(alloc, bundle.sections.first()?)
+fn message_in(rt: &impl Abort, alloc: Global, section: &Section<'_>) -> (u8, u8) {
+    let exchange = made(rt, exchange_in(alloc, section));
+    let sent = (exchange.message.address, exchange.message.code);
+    drop(exchange);
+    sent
 }
 
 /// The text of a section behind its first line.
-fn text_below(alloc: Global, section: &Section<'_>) -> Option<String> {
-    let (_, below) = section.split_first()?;
-    section_text(alloc, &below).ok()
-}
-
-fn sent_below(alloc: Global) -> Option<String> {
-    let bundle = read_bundle(alloc, SEND).ok()?;
-    text_below(alloc, bundle.sections.first()?)
+fn text_below(rt: &impl Abort, alloc: Global, section: &Section<'_>) -> String {
+    let (_, below) = found(rt, section.split_first());
+    made(rt, section_text(alloc, &below))
 }
 
 #[test]
 fn a_section_of_a_message(rt: HostRuntime) {
-    same(&rt, sent(rt.alloc()), Some((0x40, 0x03)));
-    let below = sent_below(rt.alloc());
-    same(
-        &rt,
-        below.as_deref(),
-        Some("form=send address=40 code=03\n"),
-    );
+    let bundle = made(&rt, read_bundle(rt.alloc(), SEND));
+    let section = found(&rt, bundle.sections.first());
+    same(&rt, message_in(&rt, rt.alloc(), section), (0x40, 0x03));
+    let below = text_below(&rt, rt.alloc(), section);
+    same(&rt, below.as_str(), "form=send address=40 code=03\n");
 }
 
 /// A file, and the same with its last line ended.
@@ -302,33 +256,27 @@ static FILES: [(&[u8], &[u8]); 4] = [
     (b"set r0 1\r\nend\n", b"set r0 1\r\nend\n"),
 ];
 
-fn ended(alloc: Global, file: &[u8]) -> Result<Vec<u8>, AllocError> {
-    let mut file = file.to_vec(alloc)?;
-    end_last_line(&mut file)?;
-    Ok(file)
-}
-
-fn all_end(rt: &impl Abort, alloc: Global, files: &[(&[u8], &[u8])]) {
-    for (file, want) in files {
-        holds(rt, ended(alloc, file), want);
+#[test]
+fn files_end_with_a_line_feed(rt: HostRuntime) {
+    for (file, want) in &FILES {
+        let mut ended = made(&rt, file.to_vec(rt.alloc()));
+        made(&rt, end_last_line(&mut ended));
+        same(&rt, ended.as_slice(), *want);
     }
 }
 
-#[test]
-fn files_end_with_a_line_feed(rt: HostRuntime) {
-    all_end(&rt, rt.alloc(), &FILES);
-}
-
-fn composed(alloc: Global) -> Result<Vec<u8>, AllocError> {
+/// A board and a program, as they are read from their files.
+fn two_files(rt: &impl Abort, alloc: Global) -> Vec<Vec<u8>> {
     let mut files = Vec::new(alloc);
-    files.push(b"[[target]]\n".to_vec(alloc)?)?;
-    files.push(b"end\n".to_vec(alloc)?)?;
-    compose(alloc, Command::Verify, &files)
+    made(rt, files.push(made(rt, b"[[target]]\n".to_vec(alloc))));
+    made(rt, files.push(made(rt, b"end\n".to_vec(alloc))));
+    files
 }
 
 #[test]
 fn files_make_a_bundle(rt: HostRuntime) {
+    let files = two_files(&rt, rt.alloc());
     let want = b"%verify\n%board\n[[target]]\n%program\nend\n".as_slice();
-    holds(&rt, composed(rt.alloc()), want);
+    holds(&rt, compose(rt.alloc(), Command::Verify, &files), want);
     same(&rt, Command::Frame.text(), "%frame");
 }

@@ -5,12 +5,12 @@ mod answering;
 mod inputs;
 mod warnings;
 
-use crate::expected::{says, text_of};
+use crate::expected::{made, same, text_of};
 use crate::session_rows::input_of;
 use bundles::{BundleFault, Flaw, Header};
 use diagnostics::bundle_note;
 use session::judge;
-use std::alloc::{AllocError, Global};
+use std::alloc::Global;
 use std::process::Abort;
 use std::test::*;
 
@@ -47,21 +47,18 @@ static BUNDLES: [(&str, BundleFault, &str); 3] = [
 ];
 
 /// The note on a bundle, as it is printed.
-fn bundle_text(alloc: Global, text: &str, fault: BundleFault) -> Result<String, AllocError> {
-    let input = input_of(alloc, text)?;
-    let case = judge(alloc, &input)?;
+fn bundle_text(rt: &impl Abort, alloc: Global, text: &str, fault: BundleFault) -> String {
+    let input = input_of(rt, alloc, text);
+    let case = made(rt, judge(alloc, &input));
     let note = bundle_note(alloc, text, &case.sections, fault);
     drop(case);
-    text_of(alloc, &note?)
-}
-
-fn all_bundles_are_noted(rt: &impl Abort, alloc: Global, rows: &[(&str, BundleFault, &str)]) {
-    for (text, fault, want) in rows {
-        says(rt, bundle_text(alloc, text, *fault), want);
-    }
+    text_of(rt, alloc, &made(rt, note))
 }
 
 #[test]
 fn bundles(rt: HostRuntime) {
-    all_bundles_are_noted(&rt, rt.alloc(), &BUNDLES);
+    for (text, fault, want) in &BUNDLES {
+        let seen = bundle_text(&rt, rt.alloc(), text, *fault);
+        same(&rt, seen.as_str(), *want);
+    }
 }

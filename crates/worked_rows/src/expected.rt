@@ -11,6 +11,22 @@ pub(crate) fn same<T: Debug + Drop + PartialEq>(rt: &impl Abort, seen: T, want: 
     assert_eq!(rt; seen, want);
 }
 
+/// What could be made; the test ends where an error came.
+pub(crate) fn made<T: Drop, E: Debug + Drop>(rt: &impl Abort, tried: Result<T, E>) -> T {
+    match tried {
+        Ok(made) => made,
+        Err(error) => panic!(rt; "{error:?}"),
+    }
+}
+
+/// What is there; the test ends where nothing is.
+pub(crate) fn found<T: Drop>(rt: &impl Abort, sought: Option<T>) -> T {
+    match sought {
+        Some(found) => found,
+        None => panic!(rt; "nothing is there"),
+    }
+}
+
 /// Tries that a list could be made, and what it holds.
 pub(crate) fn holds<T: Debug + Drop + PartialEq>(
     rt: &impl Abort,
@@ -25,36 +41,35 @@ pub(crate) fn says(rt: &impl Abort, seen: Result<String, AllocError>, want: &str
     same(rt, seen.as_deref().ok(), Some(want));
 }
 
-/// The text of a note, if there is one and it could be made.
-pub(crate) type Noted = Result<Option<String>, AllocError>;
-
 /// A note as it is printed on its section.
-pub(crate) fn text_of(alloc: Global, note: &Note) -> Result<String, AllocError> {
+pub(crate) fn text_of(rt: &impl Abort, alloc: Global, note: &Note) -> String {
     let name = &note.section;
     let note = InFile { name, note };
-    format!(in alloc; "{note}")
+    made(rt, format!(in alloc; "{note}"))
 }
 
 /// The text of a note, if there is one.
-pub(crate) fn noted(alloc: Global, note: Option<Note>) -> Noted {
+fn noted(rt: &impl Abort, alloc: Global, note: Option<Note>) -> Option<String> {
     match note {
-        Some(note) => Ok(Some(text_of(alloc, &note)?)),
-        None => Ok(None),
+        Some(note) => {
+            let text = text_of(rt, alloc, &note);
+            drop(note);
+            Some(text)
+        }
+        None => None,
     }
 }
 
-/// Tries that a note could be made, and what it says, or that there is none.
-pub(crate) fn notes(rt: &impl Abort, seen: Noted, want: Option<&str>) {
-    match seen {
-        Ok(note) => same(rt, note.as_deref(), want),
-        Err(_) => panic!(rt; "no memory"),
-    }
+/// Tries what a note says, or that there is none.
+pub(crate) fn notes(rt: &impl Abort, alloc: Global, seen: Option<Note>, want: Option<&str>) {
+    let text = noted(rt, alloc, seen);
+    same(rt, text.as_deref(), want);
 }
 
-/// Tries that a note could be made, and how it begins.
-pub(crate) fn begins(rt: &impl Abort, seen: Noted, want: &str) {
-    match seen {
-        Ok(Some(note)) => assert!(rt; note.starts_with(want), "{note}"),
-        _ => panic!(rt; "no note {want}"),
+/// Tries that there is a note, and how it begins.
+pub(crate) fn begins(rt: &impl Abort, alloc: Global, seen: Option<Note>, want: &str) {
+    match noted(rt, alloc, seen) {
+        Some(text) => assert!(rt; text.starts_with(want), "{text}"),
+        None => panic!(rt; "no note {want}"),
     }
 }

@@ -1,9 +1,9 @@
-use crate::boards::range_board;
-use crate::expected::same;
+use crate::boards::{boxed, range_board};
+use crate::expected::{made, same};
 use crate::runs::answer_of;
 use crate::targets_rows::{Asked, message_of, state_of};
-use board::{Board, BoardFault};
-use smbus::Form;
+use board::Board;
+use smbus::{Answer, Form};
 use std::alloc::Global;
 use std::process::Abort;
 use std::test::*;
@@ -13,15 +13,13 @@ use targets::fits;
 /// to alert.
 type Silent = (&'static [u16], Option<u16>, u16, &'static [u8], bool, u16);
 
-fn silence_fits(alloc: Global, board: &Board, silent: Silent) -> Result<bool, BoardFault> {
+fn answer_in_silence(rt: &impl Abort, alloc: Global, silent: Silent) -> Answer {
     let (holds, refuse, value, bytes, took, alerts) = silent;
-    let state = state_of(alloc, &[1, 0], &[0, 0], 0)?;
-    let mut answer = answer_of(alloc, (value, refuse, 0));
-    answer.holds.extend_from_slice(holds)?;
-    answer.bytes.extend_from_slice(bytes)?;
+    let mut answer = answer_of(alloc, (value, refuse, alerts));
+    made(rt, answer.holds.extend_from_slice(holds));
+    made(rt, answer.bytes.extend_from_slice(bytes));
     answer.took = took;
-    answer.alerts = alerts;
-    Ok(fits(board, &state, None, &answer))
+    answer
 }
 
 /// What is answered to a step that sends nothing, and whether it may be. Target a may alert.
@@ -37,57 +35,49 @@ static SILENCES: [(Silent, bool); 9] = [
     ((&[], None, 0, &[], false, 4), false),
 ];
 
-fn all_are_silent(
-    rt: &impl Abort,
-    alloc: Global,
-    rows: &[(Silent, bool)],
-) -> Result<(), BoardFault> {
-    let board = range_board(alloc)?;
-    for (silent, want) in rows {
-        let is_fitting = silence_fits(alloc, &board, *silent);
-        same(rt, (*silent, is_fitting), (*silent, Ok(*want)));
-    }
-    Ok(())
-}
-
 #[test]
 fn targets_alert_where_nothing_is_sent(rt: HostRuntime) {
-    same(&rt, all_are_silent(&rt, rt.alloc(), &SILENCES), Ok(()));
+    let alloc = rt.alloc();
+    let board = boxed(&rt, alloc, range_board(alloc));
+    let state = state_of(&rt, alloc, &[1, 0], &[0, 0], 0);
+    for (silent, want) in &SILENCES {
+        let answer = answer_in_silence(&rt, alloc, *silent);
+        same(
+            &rt,
+            (*silent, fits(&board, &state, None, &answer)),
+            (*silent, *want),
+        );
+    }
 }
 
 fn may_return(
+    rt: &impl Abort,
     alloc: Global,
     board: &Board,
     asked: Asked,
     value: u16,
     bytes: &[u8],
-) -> Result<bool, BoardFault> {
-    let state = state_of(alloc, &[1, 0], &[0x20, 0x40], 0)?;
-    let message = message_of(alloc, asked)?;
+) -> bool {
+    let state = state_of(rt, alloc, &[1, 0], &[0x20, 0x40], 0);
+    let message = message_of(rt, alloc, asked);
     let mut answer = answer_of(alloc, (value, None, 0));
-    answer.bytes.extend_from_slice(bytes)?;
-    Ok(fits(board, &state, Some(&message), &answer))
+    made(rt, answer.bytes.extend_from_slice(bytes));
+    fits(board, &state, Some(&message), &answer)
 }
 
 /// What is asked, the number and the block that are returned, and whether they may be.
 type Returned = (Asked, u16, &'static [u8], bool);
 
 fn returns(rt: &impl Abort, alloc: Global, board: &Board, row: Returned) {
-    let (asked, value, bytes, want) = row;
-    let seen = may_return(alloc, board, asked, value, bytes);
-    same(
-        rt,
-        (asked, value, bytes, seen),
-        (asked, value, bytes, Ok(want)),
-    );
+    let (asked, value, bytes, _) = row;
+    let seen = may_return(rt, alloc, board, asked, value, bytes);
+    same(rt, (asked, value, bytes, seen), row);
 }
 
-fn all_return(rt: &impl Abort, alloc: Global, rows: &[Returned]) -> Result<(), BoardFault> {
-    let board = range_board(alloc)?;
+fn all_return(rt: &impl Abort, alloc: Global, board: &Board, rows: &[Returned]) {
     for row in rows {
-        returns(rt, alloc, &board, *row);
+        returns(rt, alloc, board, *row);
     }
-    Ok(())
 }
 
 /// Messages that read nothing.
@@ -100,19 +90,15 @@ static WRITES: [Asked; 6] = [
     (0, Form::BlockWrite, 0xD0, &[1, 2]),
 ];
 
-fn none_returns(rt: &impl Abort, alloc: Global, messages: &[Asked]) -> Result<(), BoardFault> {
-    let board = range_board(alloc)?;
-    for asked in messages {
-        returns(rt, alloc, &board, (*asked, 0, b"", true));
-        returns(rt, alloc, &board, (*asked, 1, b"", false));
-        returns(rt, alloc, &board, (*asked, 0, b"a", false));
-    }
-    Ok(())
-}
-
 #[test]
 fn writes_return_nothing(rt: HostRuntime) {
-    same(&rt, none_returns(&rt, rt.alloc(), &WRITES), Ok(()));
+    let alloc = rt.alloc();
+    let board = boxed(&rt, alloc, range_board(alloc));
+    for asked in &WRITES {
+        returns(&rt, alloc, &board, (*asked, 0, b"", true));
+        returns(&rt, alloc, &board, (*asked, 1, b"", false));
+        returns(&rt, alloc, &board, (*asked, 0, b"a", false));
+    }
 }
 
 const PAGE: Asked = (0, Form::ReadByte, 0x00, &[]);
@@ -186,23 +172,19 @@ static BLOCKS: [Returned; 13] = [
 ];
 
 /// Whether a block of so many bytes may be read, which no entry allows.
-fn may_return_bytes(alloc: Global, board: &Board, count: usize) -> Result<bool, BoardFault> {
+fn may_return_bytes(rt: &impl Abort, alloc: Global, board: &Board, count: usize) -> bool {
     let mut bytes = Vec::new(alloc);
-    bytes.resize(count, 0u8)?;
-    may_return(alloc, board, OTHER_READ, 0, &bytes)
-}
-
-fn compare_counts(rt: &impl Abort, alloc: Global) -> Result<(), BoardFault> {
-    let board = range_board(alloc)?;
-    same(rt, may_return_bytes(alloc, &board, 255), Ok(true));
-    same(rt, may_return_bytes(alloc, &board, 256), Ok(false));
-    Ok(())
+    made(rt, bytes.resize(count, 0u8));
+    may_return(rt, alloc, board, OTHER_READ, 0, &bytes)
 }
 
 #[test]
 fn reads_lie_in_their_ranges(rt: HostRuntime) {
-    same(&rt, all_return(&rt, rt.alloc(), &STORED), Ok(()));
-    same(&rt, all_return(&rt, rt.alloc(), &NUMBERS), Ok(()));
-    same(&rt, all_return(&rt, rt.alloc(), &BLOCKS), Ok(()));
-    same(&rt, compare_counts(&rt, rt.alloc()), Ok(()));
+    let alloc = rt.alloc();
+    let board = boxed(&rt, alloc, range_board(alloc));
+    all_return(&rt, alloc, &board, &STORED);
+    all_return(&rt, alloc, &board, &NUMBERS);
+    all_return(&rt, alloc, &board, &BLOCKS);
+    same(&rt, may_return_bytes(&rt, alloc, &board, 255), true);
+    same(&rt, may_return_bytes(&rt, alloc, &board, 256), false);
 }

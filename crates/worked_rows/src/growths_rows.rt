@@ -8,7 +8,7 @@ ghost use Rattle.std.specs.Prelude.{length, All, IfOk};
 ghost use Rattle.seq_program.specs.Valid.{IsOnBoard};
 
 use crate::boards::{alert_board, two_board};
-use crate::expected::same;
+use crate::expected::{found, made, same, says};
 use crate::runs::{ASKED, ASKING, answers_of, trace_of};
 use board::{Board, BoardFault, FaultKind};
 use fact_search::{FindFault, find};
@@ -37,15 +37,11 @@ fn program_again(alloc: Global, board: &Board, text: &str) -> Result<Program, Pr
     }
 }
 
-/// How many targets and rails the board has.
-fn counts_again(alloc: Global) -> Option<(usize, usize)> {
-    let board = board_again(alloc).ok()?;
-    Some((board.targets().len(), board.rails().len()))
-}
-
 #[test]
 fn a_board_is_read_again(rt: HostRuntime) {
-    same(&rt, counts_again(rt.alloc()), Some((2, 2)));
+    let board = made(&rt, board_again(rt.alloc()));
+    same(&rt, (board.targets().len(), board.rails().len()), (2, 2));
+    drop(board);
 }
 
 fn table_again(alloc: Global, board: &Board, program: &Program) -> Result<Table, FindFault> {
@@ -68,9 +64,9 @@ fn verdict_again(
 }
 
 /// Whether a verdict accepts with such a bound.
-fn is_bounded(verdict: Option<Verdict>, least: u64, most: u64) -> bool {
+fn is_bounded(verdict: Verdict, least: u64, most: u64) -> bool {
     match verdict {
-        Some(Verdict::Accepted { bound }) => least <= bound && bound <= most,
+        Verdict::Accepted { bound } => least <= bound && bound <= most,
         _ => false,
     }
 }
@@ -81,25 +77,17 @@ const POLL: &str = "write a OPERATION 0x80 else bad\ncount c0 10\npoll:\n\
     fail\ngood:\nwrite b OPERATION 0x80 else bad\nend\nbad:\nfail";
 
 /// The verdict on the table that is found for a program.
-fn searched_again(alloc: Global, board: &Board, program: &Program) -> Option<Verdict> {
-    let table = table_again(alloc, board, program).ok()?;
-    verdict_again(alloc, board, program, &table).ok()
-}
-
-fn poll_again(alloc: Global, board: &Board) -> Option<Verdict> {
-    let program = program_again(alloc, board, POLL).ok()?;
-    searched_again(alloc, board, &program)
-}
-
-/// The same of POLL.
-fn found_again(alloc: Global) -> Option<Verdict> {
-    let board = board_again(alloc).ok()?;
-    poll_again(alloc, &board)
+fn searched_again(rt: &impl Abort, alloc: Global, board: &Board, program: &Program) -> Verdict {
+    let table = made(rt, table_again(alloc, board, program));
+    made(rt, verdict_again(alloc, board, program, &table))
 }
 
 #[test]
 fn a_table_is_found_again(rt: HostRuntime) {
-    let verdict = found_again(rt.alloc());
+    let board = made(&rt, board_again(rt.alloc()));
+    let program = made(&rt, program_again(rt.alloc(), &board, POLL));
+    let verdict = searched_again(&rt, rt.alloc(), &board, &program);
+    drop((board, program));
     same(&rt, is_bounded(verdict, 12_694, 20_000), true);
 }
 
@@ -146,26 +134,18 @@ fn spin_table_again(alloc: Global, board: &Board) -> Result<Table, TableFault> {
 }
 
 /// The verdict on a program and the table of SPIN.
-fn judged_again(alloc: Global, board: &Board, program: &Program) -> Option<Verdict> {
-    let table = spin_table_again(alloc, board).ok()?;
-    verdict_again(alloc, board, program, &table).ok()
-}
-
-fn spin_again(alloc: Global, board: &Board) -> Option<Verdict> {
-    let program = program_again(alloc, board, SPIN).ok()?;
-    judged_again(alloc, board, &program)
-}
-
-/// The same of SPIN.
-fn checked_again(alloc: Global) -> Option<Verdict> {
-    let board = board_again(alloc).ok()?;
-    spin_again(alloc, &board)
+fn judged_again(rt: &impl Abort, alloc: Global, board: &Board, program: &Program) -> Verdict {
+    let table = made(rt, spin_table_again(alloc, board));
+    made(rt, verdict_again(alloc, board, program, &table))
 }
 
 #[test]
 fn a_table_is_checked_again(rt: HostRuntime) {
-    let accepted = Verdict::Accepted { bound: 50 };
-    same(&rt, checked_again(rt.alloc()), Some(accepted));
+    let board = made(&rt, board_again(rt.alloc()));
+    let program = made(&rt, program_again(rt.alloc(), &board, SPIN));
+    let verdict = judged_again(&rt, rt.alloc(), &board, &program);
+    drop((board, program));
+    same(&rt, verdict, Verdict::Accepted { bound: 50 });
 }
 
 /// All ticks of a trace.
@@ -212,45 +192,51 @@ fn trace_again(
 
 // Each of these holds one value of many parts, since a proof grows faster than their number.
 
-/// How many steps the run of a program takes with the answers of ASKED, and how many ticks.
-fn counted_again(alloc: Global, board: &Board, program: &Program) -> Option<(usize, u64)>
+/// How many steps the run of a program takes, and how many ticks.
+fn run_again(
+    rt: &impl Abort,
+    alloc: Global,
+    board: &Board,
+    program: &Program,
+    answers: &[Answer],
+) -> (usize, u64)
     requires { All (λ i. IsOnBoard (length board.now.targets) i) program.now }
 {
-    let answers = answers_again(alloc).ok()?;
-    let trace = trace_again(alloc, board, program, &answers).ok()?;
-    Some(counts_of(&trace))
+    let trace = trace_again(alloc, board, program, answers);
+    counts_of(&made(rt, trace))
 }
 
-fn asking_again(alloc: Global, board: &Board) -> Option<(usize, u64)> {
-    let program = program_again(alloc, board, ASKING).ok()?;
-    counted_again(alloc, board, &program)
-}
-
-/// The same of ASKING.
-fn run_again(alloc: Global) -> Option<(usize, u64)> {
-    let board = alert_board_again(alloc).ok()?;
-    asking_again(alloc, &board)
+/// The same of a text.
+fn text_run_again(
+    rt: &impl Abort,
+    alloc: Global,
+    board: &Board,
+    text: &str,
+    answers: &[Answer],
+) -> (usize, u64) {
+    match program_again(alloc, board, text) {
+        Ok(program) => run_again(rt, alloc, board, &program, answers),
+        Err(fault) => panic!(rt; "{fault:?}"),
+    }
 }
 
 #[test]
 fn a_program_is_run_again(rt: HostRuntime) {
-    same(&rt, run_again(rt.alloc()), Some((5, 108)));
+    let board = made(&rt, alert_board_again(rt.alloc()));
+    let answers = made(&rt, answers_again(rt.alloc()));
+    let counts = text_run_again(&rt, rt.alloc(), &board, ASKING, &answers);
+    drop((board, answers));
+    same(&rt, counts, (5, 108));
 }
 
 /// Pushes samples, again where that was refused, which changes nothing.
-fn push_again(
-    rt: &impl Abort,
-    samples: &mut Runs,
-    sample: Sample,
-    count: u64,
-) -> Result<(), AllocError> {
+fn push_again(rt: &impl Abort, samples: &mut Runs, sample: Sample, count: u64) {
     let before = (samples.total(), samples.runs().len());
     assert!(rt; before.0 < 1000 && count < 1000);
-    if samples.push(sample, count).is_ok() {
-        return Ok(());
+    if samples.push(sample, count).is_err() {
+        assert!(rt; (samples.total(), samples.runs().len()) == before);
+        made(rt, samples.push(sample, count));
     }
-    assert!(rt; (samples.total(), samples.runs().len()) == before);
-    samples.push(sample, count)
 }
 
 /// A sample with SMBALERT# high.
@@ -262,20 +248,15 @@ fn lines(scl: bool, sda: bool) -> Sample {
     }
 }
 
-/// How many samples and runs there are after some pushes.
-fn pushed_again(rt: &impl Abort, alloc: Global) -> Result<(u64, usize), AllocError> {
-    let mut samples = Runs::new(alloc);
-    push_again(rt, &mut samples, lines(true, true), 2)?;
-    for _ in 0..4 {
-        push_again(rt, &mut samples, lines(false, true), 3)?;
-        push_again(rt, &mut samples, lines(false, false), 4)?;
-    }
-    Ok((samples.total(), samples.runs().len()))
-}
-
 #[test]
 fn samples_are_pushed_again(rt: HostRuntime) {
-    same(&rt, pushed_again(&rt, rt.alloc()), Ok((30, 9)));
+    let mut samples = Runs::new(rt.alloc());
+    push_again(&rt, &mut samples, lines(true, true), 2);
+    for _ in 0..4 {
+        push_again(&rt, &mut samples, lines(false, true), 3);
+        push_again(&rt, &mut samples, lines(false, false), 4);
+    }
+    same(&rt, (samples.total(), samples.runs().len()), (30, 9));
 }
 
 /// Feeds a piece, again where that was refused, which changes nothing.
@@ -328,16 +309,12 @@ fn word_events(alloc: Global) -> Result<Vec<Event>, AllocError> {
 }
 
 /// The frames of events that are fed in two pieces.
-fn frames_again(
-    rt: &impl Abort,
-    alloc: Global,
-    events: &[Event],
-) -> Result<Vec<Frame>, ObserveFault> {
+fn frames_again(rt: &impl Abort, alloc: Global, events: &[Event]) -> Vec<Frame> {
     let (first, later) = events.split_at(events.len() / 2);
     let mut observer = Observer::new(alloc);
-    let frames = feed_again(rt, &mut observer, first)?;
+    let frames = made(rt, feed_again(rt, &mut observer, first));
     same(rt, frames.len(), 0);
-    feed_again(rt, &mut observer, later)
+    made(rt, feed_again(rt, &mut observer, later))
 }
 
 fn text_again(alloc: Global, frame: &Frame) -> Result<String, AllocError> {
@@ -354,15 +331,10 @@ fn word_events_again(alloc: Global) -> Result<Vec<Event>, AllocError> {
     }
 }
 
-/// The text of the frame that is fed.
-fn fed_again(rt: &impl Abort, alloc: Global) -> Option<String> {
-    let events = word_events_again(alloc).ok()?;
-    let frames = frames_again(rt, alloc, &events).ok()?;
-    text_again(alloc, frames.first()?).ok()
-}
-
 #[test]
 fn events_are_fed_again(rt: HostRuntime) {
-    let text = fed_again(&rt, rt.alloc());
-    same(&rt, text.as_deref(), Some("S 80A 79A Sr 81A 40A 08N P"));
+    let events = made(&rt, word_events_again(rt.alloc()));
+    let frames = frames_again(&rt, rt.alloc(), &events);
+    let text = text_again(rt.alloc(), found(&rt, frames.first()));
+    says(&rt, text, "S 80A 79A Sr 81A 40A 08N P");
 }

@@ -1,41 +1,37 @@
 //! Messages beside another controller: which answers fit, and what they leave.
 
-use crate::boards::shared_board;
-use crate::expected::same;
+use crate::boards::{boxed, shared_board};
+use crate::expected::{made, same};
 use crate::targets_rows::left_by;
-use board::{Board, BoardFault};
+use board::Board;
 use smbus::{Answer, Contender, Form, Message};
 use std::alloc::Global;
 use std::process::Abort;
 use std::test::*;
 use targets::{BusState, Outcome, fits};
 
-fn state_of(alloc: Global, lost: u16) -> Result<BusState, BoardFault> {
+/// The first target alerts.
+fn state_of(rt: &impl Abort, alloc: Global, lost: u16) -> BusState {
     let zeros: [u8; 2] = [0, 0];
-    Ok(BusState {
-        page: zeros.as_slice().to_vec(alloc)?,
-        protect: zeros.as_slice().to_vec(alloc)?,
+    BusState {
+        page: made(rt, zeros.as_slice().to_vec(alloc)),
+        protect: made(rt, zeros.as_slice().to_vec(alloc)),
         alerting: 1,
         lost,
-    })
+    }
 }
 
 /// The address, the direction, the bytes and the holds of another controller.
 type Started = Option<(u8, bool, &'static [u8], &'static [u16])>;
 
-pub(crate) fn contender_of(
-    alloc: Global,
-    started: Started,
-) -> Result<Option<Contender>, BoardFault> {
-    match started {
-        Some((address, read, bytes, holds)) => Ok(Some(Contender {
-            address: address % 128,
-            read,
-            bytes: bytes.to_vec(alloc)?,
-            holds: holds.to_vec(alloc)?,
-        })),
-        None => Ok(None),
-    }
+fn contender_of(rt: &impl Abort, alloc: Global, started: Started) -> Option<Contender> {
+    let (address, read, bytes, holds) = started?;
+    Some(Contender {
+        address: address % 128,
+        read,
+        bytes: made(rt, bytes.to_vec(alloc)),
+        holds: made(rt, holds.to_vec(alloc)),
+    })
 }
 
 /// The refused byte, the value, `took` and who begins to alert.
@@ -46,32 +42,34 @@ const QUIET: Said = (None, 0, false, 0);
 /// How many arbitrations were lost before, what is said, and what starts.
 type Beside = (u16, Said, Started);
 
-fn answer_of(alloc: Global, beside: Beside) -> Result<Answer, BoardFault> {
+fn answer_of(rt: &impl Abort, alloc: Global, beside: Beside) -> Answer {
     let (_, (refuse, value, took, alerts), started) = beside;
-    Ok(Answer {
+    Answer {
         refuse,
         value,
         took,
         alerts,
-        contender: contender_of(alloc, started)?,
+        contender: contender_of(rt, alloc, started),
         ..Answer::silent(alloc)
-    })
+    }
 }
 
 /// The form, the code and the bytes of a message, to 0x40 or to who alerts.
 type Sent = (Form, u8, &'static [u8]);
 
-fn message_of(alloc: Global, sent: Sent) -> Result<Message, BoardFault> {
+fn message_of(rt: &impl Abort, alloc: Global, sent: Sent) -> Message {
     let (form, code, out) = sent;
-    Ok(Message {
-        address: match form {
-            Form::Alert => 0x0C,
-            _ => 0x40,
-        },
+    let address = match form {
+        Form::Alert => 0x0C,
+        _ => 0x40,
+    };
+    let out = made(rt, out.to_vec(alloc));
+    Message {
+        address,
         form,
         code,
-        out: out.to_vec(alloc)?,
-    })
+        out,
+    }
 }
 
 const WRITE: Sent = (Form::WriteByte, 1, &[0x80]);
@@ -125,54 +123,37 @@ static BESIDE_READS: [(Beside, bool); 2] = [
     ((0, QUIET, Some((0x10, false, &[], &[]))), true),
 ];
 
-fn is_fitting(
-    alloc: Global,
-    board: &Board,
-    sent: Sent,
-    beside: Beside,
-) -> Result<bool, BoardFault> {
-    let state = state_of(alloc, beside.0)?;
-    let message = message_of(alloc, sent)?;
-    let answer = answer_of(alloc, beside)?;
-    Ok(fits(board, &state, Some(&message), &answer))
+fn is_fitting(rt: &impl Abort, alloc: Global, board: &Board, sent: Sent, beside: Beside) -> bool {
+    let state = state_of(rt, alloc, beside.0);
+    let message = message_of(rt, alloc, sent);
+    fits(board, &state, Some(&message), &answer_of(rt, alloc, beside))
 }
 
-fn all_fit(
-    rt: &impl Abort,
-    alloc: Global,
-    sent: Sent,
-    rows: &[(Beside, bool)],
-) -> Result<(), BoardFault> {
-    let board = shared_board(alloc)?;
+fn all_fit(rt: &impl Abort, alloc: Global, board: &Board, sent: Sent, rows: &[(Beside, bool)]) {
     for (beside, want) in rows {
-        same(rt, is_fitting(alloc, &board, sent, *beside), Ok(*want));
+        same(rt, is_fitting(rt, alloc, board, sent, *beside), *want);
     }
-    Ok(())
 }
 
 #[test]
 fn contenders_fit(rt: HostRuntime) {
     let alloc = rt.alloc();
-    same(&rt, all_fit(&rt, alloc, WRITE, &BESIDE_WRITES), Ok(()));
-    same(&rt, all_fit(&rt, alloc, ALERT, &BESIDE_ALERTS), Ok(()));
-    same(&rt, all_fit(&rt, alloc, READ, &BESIDE_READS), Ok(()));
+    let board = boxed(&rt, alloc, shared_board(alloc));
+    all_fit(&rt, alloc, &board, WRITE, &BESIDE_WRITES);
+    all_fit(&rt, alloc, &board, ALERT, &BESIDE_ALERTS);
+    all_fit(&rt, alloc, &board, READ, &BESIDE_READS);
 }
 
 /// How a step ends, what is lost then, PAGE and WRITE_PROTECT of the first target, who alerts.
 type Ended = (Outcome, u16, Option<u8>, Option<u8>, u16);
 
-fn ended(alloc: Global, board: &Board, sent: Sent, beside: Beside) -> Result<Ended, BoardFault> {
-    let state = state_of(alloc, beside.0)?;
-    let message = message_of(alloc, sent)?;
-    let answer = answer_of(alloc, beside)?;
-    let (new, outcome) = left_by(alloc, board, &state, &message, &answer)?;
-    Ok((
-        outcome,
-        new.lost,
-        new.page.first().copied(),
-        new.protect.first().copied(),
-        new.alerting,
-    ))
+fn ended(rt: &impl Abort, alloc: Global, board: &Board, sent: Sent, beside: Beside) -> Ended {
+    let state = state_of(rt, alloc, beside.0);
+    let message = message_of(rt, alloc, sent);
+    let answer = answer_of(rt, alloc, beside);
+    let (new, outcome) = left_by(rt, alloc, board, &state, &message, &answer);
+    let (page, protect) = (new.page.first().copied(), new.protect.first().copied());
+    (outcome, new.lost, page, protect, new.alerting)
 }
 
 const PAGE: Sent = (Form::WriteByte, 0, &[0xFF]);
@@ -223,19 +204,11 @@ static ENDS: [(Sent, Beside, Ended); 7] = [
     ),
 ];
 
-fn all_end(
-    rt: &impl Abort,
-    alloc: Global,
-    rows: &[(Sent, Beside, Ended)],
-) -> Result<(), BoardFault> {
-    let board = shared_board(alloc)?;
-    for (sent, beside, want) in rows {
-        same(rt, ended(alloc, &board, *sent, *beside), Ok(*want));
-    }
-    Ok(())
-}
-
 #[test]
 fn lost_steps_leave_targets(rt: HostRuntime) {
-    same(&rt, all_end(&rt, rt.alloc(), &ENDS), Ok(()));
+    let alloc = rt.alloc();
+    let board = boxed(&rt, alloc, shared_board(alloc));
+    for (sent, beside, want) in &ENDS {
+        same(&rt, ended(&rt, alloc, &board, *sent, *beside), *want);
+    }
 }

@@ -1,30 +1,33 @@
 //! Notes by their calls. What they say is tried with the cases of `examples/cases`.
 
-use crate::expected::{same, says, text_of};
+use crate::expected::{found, made, notes, same};
 use notes::{
     Level, LineFinder, Note, beginning_of, line_at, lowercase_suggestion, nearest, suggestion,
 };
-use std::alloc::{AllocError, Global};
+use std::alloc::Global;
+use std::process::Abort;
 use std::test::*;
 
 /// A program whose second line has a word that is spelled wrong.
 const PROGRAM: &str = "try:\n\twrite core OPERATOIN 0x80 else try\nend\n";
 
 /// A note on that word.
-fn word_note(alloc: Global) -> Result<Note, AllocError> {
-    let note = Note::on(alloc, Level::Error, "up.txt", PROGRAM, 2)?;
-    let mut note = note.marking(alloc, "\twrite core ", "OPERATOIN")?;
-    note.message.push_str("unknown command\nand a line more")?;
-    note.facts.push(String::from_str(alloc, "a fact")?)?;
-    if let Some(help) = suggestion(alloc, "OPERATOIN", &["PAGE", "OPERATION"])? {
-        note.helps.push(help)?;
-    }
-    note.helps.push(String::from_str(alloc, "more help")?)?;
-    Ok(note)
+fn word_note(rt: &impl Abort, alloc: Global) -> Note {
+    let note = made(rt, Note::on(alloc, Level::Error, "up.txt", PROGRAM, 2));
+    let mut note = made(rt, note.marking(alloc, "\twrite core ", "OPERATOIN"));
+    let message = "unknown command\nand a line more";
+    made(rt, note.message.push_str(message));
+    let fact = made(rt, String::from_str(alloc, "a fact"));
+    made(rt, note.facts.push(fact));
+    add_helps(rt, alloc, &mut note.helps);
+    note
 }
 
-fn word_text(alloc: Global) -> Result<String, AllocError> {
-    text_of(alloc, &word_note(alloc)?)
+fn add_helps(rt: &impl Abort, alloc: Global, helps: &mut Vec<String>) {
+    let help = suggestion(alloc, "OPERATOIN", &["PAGE", "OPERATION"]);
+    made(rt, helps.push(found(rt, made(rt, help))));
+    let more = made(rt, String::from_str(alloc, "more help"));
+    made(rt, helps.push(more));
 }
 
 #[test]
@@ -36,20 +39,17 @@ note: a fact
 help: did you mean \"OPERATION\"?
 help: more help
 ";
-    says(&rt, word_text(rt.alloc()), want);
+    let note = word_note(&rt, rt.alloc());
+    notes(&rt, rt.alloc(), Some(note), Some(want));
     same(&rt, Level::Warning.word(), "warning");
-}
-
-/// What is proposed for words of a program.
-fn proposals(alloc: Global) -> Result<(Option<&'static str>, bool), AllocError> {
-    let near = nearest(alloc, "abc", &["xyz", "acb", "abd"])?;
-    let low = lowercase_suggestion(alloc, "WAIT", &["wait"])?;
-    Ok((near, low.is_some()))
 }
 
 #[test]
 fn names_are_proposed(rt: HostRuntime) {
-    same(&rt, proposals(rt.alloc()), Ok((Some("acb"), true)));
+    let near = nearest(rt.alloc(), "abc", &["xyz", "acb", "abd"]);
+    same(&rt, near, Ok(Some("acb")));
+    let low = lowercase_suggestion(rt.alloc(), "WAIT", &["wait"]);
+    same(&rt, made(&rt, low).is_some(), true);
     same(&rt, line_at(PROGRAM, 3), Some("end"));
     same(&rt, beginning_of("short"), None);
 }
@@ -65,17 +65,16 @@ fn lines_are_found_in_any_order(rt: HostRuntime) {
 }
 
 /// A note that quotes a line which is known.
-fn quoting_text(alloc: Global) -> Result<String, AllocError> {
-    let mut note = Note::quoting(alloc, Level::Warning, "up.txt", 3, Some("end"))?;
-    note.message.push_str("no rail is on")?;
-    text_of(alloc, &note)
+fn quoting_note(rt: &impl Abort, alloc: Global) -> Note {
+    let note = Note::quoting(alloc, Level::Warning, "up.txt", 3, Some("end"));
+    let mut note = made(rt, note);
+    made(rt, note.message.push_str("no rail is on"));
+    note
 }
 
 #[test]
 fn known_lines_are_quoted(rt: HostRuntime) {
-    says(
-        &rt,
-        quoting_text(rt.alloc()),
-        "up.txt:3: warning: no rail is on\n    end\n",
-    );
+    let note = quoting_note(&rt, rt.alloc());
+    let want = "up.txt:3: warning: no rail is on\n    end\n";
+    notes(&rt, rt.alloc(), Some(note), Some(want));
 }

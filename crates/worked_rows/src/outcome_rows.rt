@@ -1,30 +1,34 @@
-use crate::boards::range_board;
-use crate::expected::same;
+use crate::boards::{boxed, range_board};
+use crate::expected::{made, same};
 use crate::runs::{NOTHING, answer_of};
 use crate::targets_rows::{Asked, DONE, Said, left_by, message_of, said_answer, state_of};
-use board::{Board, BoardFault};
-use smbus::{Form, Message};
+use board::Board;
+use smbus::{Answer, Form, Message};
 use std::alloc::Global;
 use std::process::Abort;
 use std::test::*;
-use targets::{BusState, Outcome, cut_of, ending_of, fits};
+use targets::{Outcome, cut_of, ending_of, fits};
 
+/// What the answer says, with the number and the block that it returns.
+fn returning(rt: &impl Abort, alloc: Global, said: Said, value: u16, bytes: &[u8]) -> Answer {
+    let mut answer = said_answer(rt, alloc, said);
+    answer.value = value;
+    made(rt, answer.bytes.extend_from_slice(bytes));
+    answer
+}
+
+/// Whether the answer to a message fits, and how it ends.
 fn ended(
+    rt: &impl Abort,
     alloc: Global,
     board: &Board,
-    asked: Asked,
-    said: Said,
-    value: u16,
-    bytes: &[u8],
-) -> Result<(bool, Outcome), BoardFault> {
-    let state = state_of(alloc, &[1, 0], &[0, 0], 0)?;
-    let message = message_of(alloc, asked)?;
-    let mut answer = said_answer(alloc, said)?;
-    answer.value = value;
-    answer.bytes.extend_from_slice(bytes)?;
-    let is_fitting = fits(board, &state, Some(&message), &answer);
-    let (_, outcome) = left_by(alloc, board, &state, &message, &answer)?;
-    Ok((is_fitting, outcome))
+    message: &Message,
+    answer: &Answer,
+) -> (bool, Outcome) {
+    let state = state_of(rt, alloc, &[1, 0], &[0, 0], 0);
+    let is_fitting = fits(board, &state, Some(message), answer);
+    let (_, outcome) = left_by(rt, alloc, board, &state, message, answer);
+    (is_fitting, outcome)
 }
 
 const QUERY: Asked = (0, Form::BlockProcessCall, 0x1A, &[0x21]);
@@ -153,60 +157,35 @@ static ENDS: [End; 18] = [
     ),
 ];
 
-fn all_end(rt: &impl Abort, alloc: Global, rows: &[End]) -> Result<(), BoardFault> {
-    let board = range_board(alloc)?;
-    for (asked, said, value, bytes, want) in rows {
-        let end = ended(alloc, &board, *asked, *said, *value, bytes);
-        same(rt, (*asked, *said, end), (*asked, *said, Ok((true, *want))));
-    }
-    Ok(())
-}
-
 /// Each of these answers fits.
 #[test]
 fn messages_end_as_answered(rt: HostRuntime) {
-    same(&rt, all_end(&rt, rt.alloc(), &ENDS), Ok(()));
+    let alloc = rt.alloc();
+    let board = boxed(&rt, alloc, range_board(alloc));
+    for (asked, said, value, bytes, want) in &ENDS {
+        let message = message_of(&rt, alloc, *asked);
+        let answer = returning(&rt, alloc, *said, *value, bytes);
+        let end = ended(&rt, alloc, &board, &message, &answer);
+        same(&rt, (*asked, *said, end), (*asked, *said, (true, *want)));
+    }
 }
 
 /// A Block Write of 255 bytes.
-fn longest_write(alloc: Global) -> Result<Message, BoardFault> {
-    let mut message = message_of(alloc, (0, Form::BlockWrite, 0xD0, &[]))?;
-    message.out.resize(255, 0)?;
-    Ok(message)
+fn longest_write(rt: &impl Abort, alloc: Global) -> Message {
+    let mut message = message_of(rt, alloc, (0, Form::BlockWrite, 0xD0, &[]));
+    made(rt, message.out.resize(255, 0));
+    message
 }
 
-/// Whether it fits that nothing is said to a message, and how that ends.
-fn unsaid(
-    alloc: Global,
-    board: &Board,
-    state: &BusState,
-    message: &Message,
-) -> Result<(bool, Outcome), BoardFault> {
-    let answer = answer_of(alloc, NOTHING);
-    let is_fitting = fits(board, state, Some(message), &answer);
-    let (_, outcome) = left_by(alloc, board, state, message, &answer)?;
-    Ok((is_fitting, outcome))
-}
-
-fn longest_write_on(alloc: Global, board: &Board) -> Result<(bool, Outcome), BoardFault> {
-    let state = state_of(alloc, &[0, 0], &[0, 0], 0)?;
-    let message = longest_write(alloc)?;
-    unsaid(alloc, board, &state, &message)
-}
-
-fn longest_write_ends(alloc: Global) -> Result<(bool, Outcome), BoardFault> {
-    let board = range_board(alloc)?;
-    longest_write_on(alloc, &board)
-}
-
-/// It is done.
+/// Nothing is said to it, which fits, and it is done.
 #[test]
 fn longest_block_write(rt: HostRuntime) {
-    same(
-        &rt,
-        longest_write_ends(rt.alloc()),
-        Ok((true, Outcome::Done(0))),
-    );
+    let alloc = rt.alloc();
+    let board = boxed(&rt, alloc, range_board(alloc));
+    let message = longest_write(&rt, alloc);
+    let answer = answer_of(alloc, NOTHING);
+    let end = ended(&rt, alloc, &board, &message, &answer);
+    same(&rt, end, (true, Outcome::Done(0)));
 }
 
 /// The slot in which an answer to a Read Word holds the clock for too long, and the first one that
@@ -221,21 +200,20 @@ static CUTS: [Cut; 4] = [
     (Some(47), None),
 ];
 
-fn word_cut(alloc: Global, slot: Option<usize>) -> Result<Option<usize>, BoardFault> {
-    let message = message_of(alloc, STATUS)?;
-    let answer = said_answer(alloc, (None, slot, false))?;
-    Ok(cut_of(&message, &answer))
-}
-
-fn all_are_cut(rt: &impl Abort, alloc: Global, rows: &[Cut]) {
-    for (slot, want) in rows {
-        same(rt, (*slot, word_cut(alloc, *slot)), (*slot, Ok(*want)));
-    }
+fn word_cut(rt: &impl Abort, alloc: Global, slot: Option<usize>) -> Option<usize> {
+    let message = message_of(rt, alloc, STATUS);
+    cut_of(&message, &said_answer(rt, alloc, (None, slot, false)))
 }
 
 #[test]
 fn first_cut_slots(rt: HostRuntime) {
-    all_are_cut(&rt, rt.alloc(), &CUTS);
+    for (slot, want) in &CUTS {
+        same(
+            &rt,
+            (*slot, word_cut(&rt, rt.alloc(), *slot)),
+            (*slot, *want),
+        );
+    }
 }
 
 /// What an answer to a Read Word refuses, the slot that is cut, and how it ends.
@@ -246,14 +224,10 @@ static ENDINGS: [(Option<u16>, Option<usize>, Outcome); 4] = [
     (Some(2), Some(9), Outcome::TimedOut),
 ];
 
-fn all_endings(rt: &impl Abort, alloc: Global, rows: &[(Option<u16>, Option<usize>, Outcome)]) {
-    for (refuse, cut, want) in rows {
-        let answer = answer_of(alloc, (0x0840, *refuse, 0));
-        same(rt, ending_of(Form::ReadWord, &answer, *cut), *want);
-    }
-}
-
 #[test]
 fn endings(rt: HostRuntime) {
-    all_endings(&rt, rt.alloc(), &ENDINGS);
+    for (refuse, cut, want) in &ENDINGS {
+        let answer = answer_of(rt.alloc(), (0x0840, *refuse, 0));
+        same(&rt, ending_of(Form::ReadWord, &answer, *cut), *want);
+    }
 }

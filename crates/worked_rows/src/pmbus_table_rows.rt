@@ -1,6 +1,6 @@
 mod meaning;
 
-use crate::expected::same;
+use crate::expected::{found, made, same, says};
 use pmbus_table::{Command, by_code, by_name, code, manufacturer_named, name_of};
 use smbus::Form;
 use std::alloc::Global;
@@ -106,8 +106,8 @@ static KNOWN: [Known; 25] = [
 ];
 
 /// The command that has the name of this one.
-fn read_back(alloc: Global, command: Option<Command>) -> Option<Command> {
-    let name = name_of(alloc, command?).ok()?;
+fn read_back(rt: &impl Abort, alloc: Global, command: Option<Command>) -> Option<Command> {
+    let name = made(rt, name_of(alloc, command?));
     by_name(&name)
 }
 
@@ -125,29 +125,20 @@ fn is_known(rt: &impl Abort, alloc: Global, known: Known) {
     let want = Some((code, written, read, is_paged));
     same(rt, (name, facts_of(by_name(name))), (name, want));
     same(rt, by_code(code), by_name(name));
-    same(rt, read_back(alloc, by_name(name)), by_name(name));
-}
-
-fn all_are_known(rt: &impl Abort, alloc: Global, rows: &[Known]) {
-    for known in rows {
-        is_known(rt, alloc, *known);
-    }
+    same(rt, read_back(rt, alloc, by_name(name)), by_name(name));
 }
 
 #[test]
 fn named_commands(rt: HostRuntime) {
-    all_are_known(&rt, rt.alloc(), &KNOWN);
-}
-
-/// The name of a code.
-fn named(alloc: Global, code: u8) -> Option<String> {
-    name_of(alloc, by_code(code)?).ok()
+    for known in &KNOWN {
+        is_known(&rt, rt.alloc(), *known);
+    }
 }
 
 #[test]
 fn name_of_a_code(rt: HostRuntime) {
-    let name = named(rt.alloc(), code::STATUS_WORD);
-    same(&rt, name.as_deref(), Some("STATUS_WORD"));
+    let command = found(&rt, by_code(code::STATUS_WORD));
+    says(&rt, name_of(rt.alloc(), command), "STATUS_WORD");
 }
 
 /// The code, the written form, and whether it is paged.
@@ -159,13 +150,7 @@ fn written_facts(command: Option<Command>) -> Option<(u8, Option<Form>, bool)> {
 fn is_manufacturer(rt: &impl Abort, alloc: Global, code: u8) {
     let facts = written_facts(by_code(code));
     same(rt, (code, facts), (code, Some((code, None, false))));
-    same(rt, read_back(alloc, by_code(code)), by_code(code));
-}
-
-fn all_are_manufacturer(rt: &impl Abort, alloc: Global, first: u8, end: u8) {
-    for code in first..end {
-        is_manufacturer(rt, alloc, code);
-    }
+    same(rt, read_back(rt, alloc, by_code(code)), by_code(code));
 }
 
 /// The code of the manufacturer command that a text names, and whether it is one by its code.
@@ -190,7 +175,9 @@ fn manufacturer_names(rt: HostRuntime) {
 
 #[test]
 fn manufacturer_commands(rt: HostRuntime) {
-    all_are_manufacturer(&rt, rt.alloc(), 0xD0, 0xFE);
+    for code in 0xD0..0xFE {
+        is_manufacturer(&rt, rt.alloc(), code);
+    }
 }
 
 #[test]
@@ -202,28 +189,20 @@ fn manufacturer_names_are_codes(rt: HostRuntime) {
 /// Names of no command.
 static UNKNOWN: [&str; 8] = ["CF", "FE", "21", "df", "D", "", "page", "PAGE "];
 
-fn none_is_known(rt: &impl Abort, names: &[&str]) {
-    for name in names {
-        same(rt, (*name, by_name(name)), (*name, None));
-    }
-}
-
 #[test]
 fn unknown_names(rt: HostRuntime) {
-    none_is_known(&rt, &UNKNOWN);
+    for name in &UNKNOWN {
+        same(&rt, (*name, by_name(name)), (*name, None));
+    }
 }
 
 static UNKNOWN_CODES: [u8; 5] = [0x02, 0x7F, 0xCF, 0xFE, 0xFF];
 
-fn no_code_is_known(rt: &impl Abort, codes: &[u8]) {
-    for code in codes {
-        same(rt, (*code, by_code(*code)), (*code, None));
-    }
-}
-
 #[test]
 fn unknown_codes(rt: HostRuntime) {
-    no_code_is_known(&rt, &UNKNOWN_CODES);
+    for code in &UNKNOWN_CODES {
+        same(&rt, (*code, by_code(*code)), (*code, None));
+    }
 }
 
 /// The name of a command, a form, whether the command takes it, and whether that is a write.
@@ -255,19 +234,11 @@ fn taken(command: Option<Command>, form: Form) -> Option<(bool, bool)> {
     Some((command.takes(form), command.counts_as_write(form)))
 }
 
-fn each_takes(rt: &impl Abort, rows: &[Taken]) {
-    for row in rows {
-        let (name, form, takes, is_write) = *row;
-        let seen = taken(by_name(name), form);
-        same(
-            rt,
-            (name, form, seen),
-            (name, form, Some((takes, is_write))),
-        );
-    }
-}
-
 #[test]
 fn forms(rt: HostRuntime) {
-    each_takes(&rt, &FORMS);
+    for (name, form, takes, is_write) in &FORMS {
+        let seen = taken(by_name(name), *form);
+        let want = Some((*takes, *is_write));
+        same(&rt, (*name, *form, seen), (*name, *form, want));
+    }
 }

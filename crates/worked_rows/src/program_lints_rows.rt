@@ -1,8 +1,8 @@
 //! Lints of programs by their calls. What is said of them is tried with the cases of
 //! `examples/cases`.
 
-use crate::boards::two_board;
-use crate::expected::same;
+use crate::boards::{boxed, two_board};
+use crate::expected::{found, holds, made, same};
 use board::Board;
 use fact_search::find;
 use program_lints::{
@@ -11,6 +11,7 @@ use program_lints::{
 };
 use seq_program::{Program, read_program};
 use std::alloc::Global;
+use std::process::Abort;
 use std::test::*;
 use table_check::tables_are_judged_by_place;
 
@@ -31,43 +32,38 @@ fail
 /// Whether a rail may be on at a place, and whether it has a voltage.
 type State = (bool, bool);
 
-fn state_for(
-    alloc: Global,
-    board: &Board,
-    program: &Program,
-    place: usize,
-    rail: u8,
-) -> Option<State> {
-    let table = find(alloc, board, program).ok()?;
-    let states = power_states(alloc, board, program, &table).ok()?;
-    Some((
-        states.may_be_on(place).contains(rail),
-        states.has_voltage(place).contains(rail),
-    ))
-}
+/// A place, a rail and its state there. A write that isn't done turns nothing off.
+static STATES: [(usize, u8, State); 7] = [
+    (0, 0, (false, false)),
+    (1, 0, (false, true)),
+    (2, 0, (true, true)),
+    (5, 1, (false, false)),
+    (6, 1, (true, false)),
+    (7, 0, (false, true)),
+    (8, 0, (true, false)),
+];
 
-fn state_on(alloc: Global, board: &Board, place: usize, rail: u8) -> Option<State> {
-    let program = read_program(alloc, board, PROGRAM).ok()?;
-    state_for(alloc, board, &program, place, rail)
-}
-
-fn state(alloc: Global, place: usize, rail: u8) -> Option<State> {
-    let board = two_board(alloc).ok()?;
-    state_on(alloc, &board, place, rail)
+fn has_states(rt: &impl Abort, alloc: Global, board: &Board, program: &Program) {
+    let table = made(rt, find(alloc, board, program));
+    let states = made(rt, power_states(alloc, board, program, &table));
+    for (place, rail, want) in &STATES {
+        let state = (
+            states.may_be_on(*place).contains(*rail),
+            states.has_voltage(*place).contains(*rail),
+        );
+        same(rt, (*place, *rail, state), (*place, *rail, *want));
+    }
+    drop((table, states));
 }
 
 #[test]
 fn states_of_rails(rt: HostRuntime) {
     closed_sets_are_sure();
     tables_are_judged_by_place();
-    same(&rt, state(rt.alloc(), 0, 0), Some((false, false)));
-    same(&rt, state(rt.alloc(), 1, 0), Some((false, true)));
-    same(&rt, state(rt.alloc(), 2, 0), Some((true, true)));
-    same(&rt, state(rt.alloc(), 5, 1), Some((false, false)));
-    same(&rt, state(rt.alloc(), 6, 1), Some((true, false)));
-    // a write that isn't done turns nothing off
-    same(&rt, state(rt.alloc(), 7, 0), Some((false, true)));
-    same(&rt, state(rt.alloc(), 8, 0), Some((true, false)));
+    let board = boxed(&rt, rt.alloc(), two_board(rt.alloc()));
+    let program = made(&rt, read_program(rt.alloc(), &board, PROGRAM));
+    has_states(&rt, rt.alloc(), &board, &program);
+    drop((board, program));
 }
 
 /// The name of a lint, its place, and a rail or a target that it is about.
@@ -83,35 +79,33 @@ fn told_of(lint: &ProgramLint) -> Told {
     (lint.name(), lint.place(), rail)
 }
 
-/// The lint of an index, and how many there are.
-type Listed = (Told, usize);
+static TOLD: [Told; 3] = [
+    ("before-voltage", 5, 1),
+    ("need-lost", 6, 1),
+    ("on-at-fail", 8, 1),
+];
 
-fn lint_for(alloc: Global, board: &Board, program: &Program, index: usize) -> Option<Listed> {
-    let table = find(alloc, board, program).ok()?;
-    let lints = program_lints(alloc, board, program, &table).ok()?;
-    Some((told_of(lints.get(index)?), lints.len()))
+fn are_told(rt: &impl Abort, lints: &[ProgramLint]) {
+    for (index, want) in TOLD.iter().enumerate() {
+        same(rt, told_of(found(rt, lints.get(index))), *want);
+    }
+    same(rt, lints.len(), TOLD.len());
 }
 
-fn lint_on(alloc: Global, board: &Board, index: usize) -> Option<Listed> {
-    let program = read_program(alloc, board, PROGRAM).ok()?;
-    lint_for(alloc, board, &program, index)
-}
-
-fn lint(alloc: Global, index: usize) -> Option<Listed> {
-    let board = two_board(alloc).ok()?;
-    lint_on(alloc, &board, index)
+fn has_lints(rt: &impl Abort, alloc: Global, board: &Board, program: &Program) {
+    let table = made(rt, find(alloc, board, program));
+    let lints = made(rt, program_lints(alloc, board, program, &table));
+    drop(table);
+    are_told(rt, &lints);
 }
 
 #[test]
 fn lints_of_a_program(rt: HostRuntime) {
     leaning_is_needing();
-    same(
-        &rt,
-        lint(rt.alloc(), 0),
-        Some((("before-voltage", 5, 1), 3)),
-    );
-    same(&rt, lint(rt.alloc(), 1), Some((("need-lost", 6, 1), 3)));
-    same(&rt, lint(rt.alloc(), 2), Some((("on-at-fail", 8, 1), 3)));
+    let board = boxed(&rt, rt.alloc(), two_board(rt.alloc()));
+    let program = made(&rt, read_program(rt.alloc(), &board, PROGRAM));
+    has_lints(&rt, rt.alloc(), &board, &program);
+    drop((board, program));
 }
 
 /// A label behind which a comment names another, one that is jumped to, and one that stands at the
@@ -125,12 +119,7 @@ end:
 end
 ";
 
-fn unused_in(alloc: Global, text: &str) -> Option<(usize, usize, usize)> {
-    let unused = unused_labels(alloc, text).ok()?;
-    Some((unused.len(), *unused.get(0)?, *unused.get(1)?))
-}
-
 #[test]
 fn labels_that_nothing_jumps_to(rt: HostRuntime) {
-    same(&rt, unused_in(rt.alloc(), LABELS), Some((2, 1, 6)));
+    holds(&rt, unused_labels(rt.alloc(), LABELS), &[1, 6]);
 }

@@ -1,7 +1,7 @@
 //! Notes on programs that are refused, on runs that break a rule, and on bounds, by their calls.
 
 use crate::boards::TWO;
-use crate::expected::{Noted, begins, noted, notes};
+use crate::expected::{begins, made, notes};
 use crate::session_rows::input_of;
 use facts::Rule;
 use notes::Note;
@@ -51,22 +51,16 @@ static REFUSALS: [(RefusalKind, usize, &str); 4] = [
     ),
 ];
 
-/// The note on a refusal at a place of PROGRAM.
-fn note_at(alloc: Global, place: usize, refusal: RefusalKind) -> Noted {
-    noted(alloc, refusal_note(alloc, PROGRAM, place, refusal)?)
-}
-
-fn all_are_refused(rt: &impl Abort, alloc: Global, rows: &[(RefusalKind, usize, &str)]) {
-    for (refusal, place, want) in rows {
-        begins(rt, note_at(alloc, *place, *refusal), want);
-    }
-}
-
 /// The place counts instructions, and its note has the line. There is none past the end.
 #[test]
 fn refusals(rt: HostRuntime) {
-    all_are_refused(&rt, rt.alloc(), &REFUSALS);
-    notes(&rt, note_at(rt.alloc(), 3, RefusalKind::GaveUp), None);
+    let alloc = rt.alloc();
+    for (refusal, place, want) in &REFUSALS {
+        let note = made(&rt, refusal_note(alloc, PROGRAM, *place, *refusal));
+        begins(&rt, alloc, note, want);
+    }
+    let past = made(&rt, refusal_note(alloc, PROGRAM, 3, RefusalKind::GaveUp));
+    notes(&rt, alloc, past, None);
 }
 
 fn tried_by<'a>(sequence: &'a Sequence, judged: &'a Judged) -> Tried<'a> {
@@ -125,10 +119,16 @@ fn on_ran(alloc: Global, text: &str, ran: &Ran<'_>) -> Result<Option<Note>, Allo
 }
 
 /// The note on what became of a program, which a bundle's command and sections are for.
-fn note_of(alloc: Global, command: &str, text: &str, sections: &str) -> Noted {
-    let bundle = format!(in alloc; "%{command}\n%board\n{TWO}%program\n{text}{sections}")?;
-    let input = input_of(alloc, &bundle)?;
-    let case = judge(alloc, &input)?;
+fn note_of(
+    rt: &impl Abort,
+    alloc: Global,
+    command: &str,
+    text: &str,
+    sections: &str,
+) -> Option<Note> {
+    let bundle = format!(in alloc; "%{command}\n%board\n{TWO}%program\n{text}{sections}");
+    let input = input_of(rt, alloc, &made(rt, bundle));
+    let case = made(rt, judge(alloc, &input));
     let note = match &case.outcome {
         Outcome::Verified(verified) => on_verified(alloc, text, verified),
         Outcome::Checked(checked) => on_checked(alloc, text, checked),
@@ -136,7 +136,7 @@ fn note_of(alloc: Global, command: &str, text: &str, sections: &str) -> Noted {
         _ => Ok(None),
     };
     drop(case);
-    noted(alloc, note?)
+    made(rt, note)
 }
 
 const LATE: &str = "write b OPERATION 0x80 else bad\nend\nbad:\nfail\n";
@@ -190,13 +190,10 @@ static NOTED: [(&str, &str, &str, &str); 7] = [
     ),
 ];
 
-fn all_are_noted(rt: &impl Abort, alloc: Global, rows: &[(&str, &str, &str, &str)]) {
-    for (command, text, sections, want) in rows {
-        begins(rt, note_of(alloc, command, text, sections), want);
-    }
-}
-
 #[test]
 fn outcomes(rt: HostRuntime) {
-    all_are_noted(&rt, rt.alloc(), &NOTED);
+    for (command, text, sections, want) in &NOTED {
+        let note = note_of(&rt, rt.alloc(), command, text, sections);
+        begins(&rt, rt.alloc(), note, want);
+    }
 }

@@ -3,46 +3,52 @@
 ghost use Rattle.std.specs.Prelude.{length, All};
 ghost use Rattle.seq_program.specs.Valid.{IsOnBoard};
 
-use crate::boards::two_board;
-use crate::expected::same;
+use crate::boards::{boxed, two_board};
+use crate::expected::{made, same};
 use crate::runs::{NOTHING, answer_of};
 use board::Board;
 use facts::Rule;
 use run_monitor::{Breach, Monitor, accepted_runs_keep_rules};
 use seq_program::{Program, program_is_valid, read_program};
-use simulator::{RunFault, start};
+use simulator::start;
 use std::alloc::Global;
+use std::process::Abort;
 use std::test::*;
 
 /// What a monitor has found before the first step of a program.
-fn seen_at_start(
-    alloc: Global,
-    board: &Board,
-    program: &Program,
-) -> Result<Option<Breach>, RunFault>
+fn seen_at_start(rt: &impl Abort, alloc: Global, board: &Board, program: &Program) -> Option<Breach>
     requires { All (λ i. IsOnBoard (length board.now.targets) i) program.now }
 {
     program_is_valid(program);
     accepted_runs_keep_rules();
-    let machine = start(alloc, board, &[0, 0], &[0, 0])?;
+    let machine = match start(alloc, board, &[0, 0], &[0, 0]) {
+        Ok(machine) => machine,
+        Err(fault) => panic!(rt; "{fault:?}"),
+    };
     let mut monitor = Monitor::new();
     let answer = answer_of(alloc, NOTHING);
-    monitor.see(alloc, board, program, &machine, &answer, 0)?;
+    let seen = monitor.see(alloc, board, program, &machine, &answer, 0);
+    drop((machine, answer));
+    made(rt, seen);
     match monitor.found {
-        Some(found) => Ok(Some(found.breach)),
-        None => Ok(None),
+        Some(found) => Some(found.breach),
+        None => None,
     }
 }
 
-fn found_on(alloc: Global, board: &Board, program: &str) -> Option<Option<Breach>> {
-    let program = read_program(alloc, board, program).ok()?;
-    seen_at_start(alloc, board, &program).ok()
+fn found_on(rt: &impl Abort, alloc: Global, board: &Board, program: &str) -> Option<Breach> {
+    match read_program(alloc, board, program) {
+        Ok(program) => seen_at_start(rt, alloc, board, &program),
+        Err(fault) => panic!(rt; "{fault:?}"),
+    }
 }
 
 /// The same of a program on TWO.
-fn found_in(alloc: Global, program: &str) -> Option<Option<Breach>> {
-    let board = two_board(alloc).ok()?;
-    found_on(alloc, &board, program)
+fn found_in(rt: &impl Abort, alloc: Global, program: &str) -> Option<Breach> {
+    let board = boxed(rt, alloc, two_board(alloc));
+    let breach = found_on(rt, alloc, &board, program);
+    drop(board);
+    breach
 }
 
 /// The second rail needs the first, which reported nothing.
@@ -55,6 +61,6 @@ fn rails_are_turned_on_in_order(rt: HostRuntime) {
         place: 0,
         rule: Rule::K5,
     };
-    same(&rt, found_in(rt.alloc(), early), Some(Some(breach)));
-    same(&rt, found_in(rt.alloc(), first), Some(None));
+    same(&rt, found_in(&rt, rt.alloc(), early), Some(breach));
+    same(&rt, found_in(&rt, rt.alloc(), first), None);
 }

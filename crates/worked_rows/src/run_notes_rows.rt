@@ -1,19 +1,21 @@
 //! Notes on runs and frames by their calls.
 
 use crate::boards::TWO;
-use crate::expected::{Noted, noted, notes};
+use crate::expected::{made, notes};
 use crate::session_rows::input_of;
+use notes::Note;
 use run_notes::{answer_note, answers_are_found, frame_note};
 use session::{Outcome, judge};
 use std::alloc::Global;
+use std::process::Abort;
 use std::test::*;
 
 /// The note on the second answer of a run that doesn't fit.
-fn note_on_run(alloc: Global, program: &str, answers: &str) -> Noted {
+fn note_on_run(rt: &impl Abort, alloc: Global, program: &str, answers: &str) -> Option<Note> {
     answers_are_found();
-    let sections = format!(in alloc; "%program\n{program}%answers\n{answers}")?;
-    let input = input_of(alloc, &format!(in alloc; "%run\n%board\n{TWO}{sections}")?)?;
-    let case = judge(alloc, &input)?;
+    let text = format!(in alloc; "%run\n%board\n{TWO}%program\n{program}%answers\n{answers}");
+    let input = input_of(rt, alloc, &made(rt, text));
+    let case = made(rt, judge(alloc, &input));
     let note = match &case.outcome {
         Outcome::Ran(ran) => match &ran.told {
             Ok(_) => Ok(None),
@@ -22,25 +24,23 @@ fn note_on_run(alloc: Global, program: &str, answers: &str) -> Noted {
         _ => Ok(None),
     };
     drop(case);
-    noted(alloc, note?)
+    made(rt, note)
 }
 
 /// The note on a message that has no frame.
-fn note_on_frame(alloc: Global, message: &str) -> Noted {
-    let input = input_of(alloc, &format!(in alloc; "%frame\n%message\n{message}")?)?;
-    let case = judge(alloc, &input)?;
+fn note_on_frame(rt: &impl Abort, alloc: Global, message: &str) -> Option<Note> {
+    let text = made(rt, format!(in alloc; "%frame\n%message\n{message}"));
+    let input = input_of(rt, alloc, &text);
+    let case = made(rt, judge(alloc, &input));
     let note = match &case.outcome {
         Outcome::Framed(framed) => match &framed.told {
-            Ok(_) => Ok(None),
-            Err(fault) => match frame_note(alloc, message, &framed.exchange, *fault) {
-                Ok(note) => Ok(Some(note)),
-                Err(error) => Err(error),
-            },
+            Ok(_) => None,
+            Err(fault) => Some(made(rt, frame_note(alloc, message, &framed.exchange, *fault))),
         },
-        _ => Ok(None),
+        _ => None,
     };
     drop(case);
-    noted(alloc, note?)
+    note
 }
 
 /// PAGE of the first target is 00, and it isn't read as 01.
@@ -51,10 +51,12 @@ fn answers_and_messages(rt: HostRuntime) {
     let want = "%answers:4: error: answer 1 doesn't fit: PAGE of \"a\" is 00 here, the answer says \
                 01\n    value=1\nhelp: it answers place 1, line 2 of the program: read a PAGE r0 \
                 else x\n";
-    notes(&rt, note_on_run(rt.alloc(), program, answers), Some(want));
+    let note = note_on_run(&rt, rt.alloc(), program, answers);
+    notes(&rt, rt.alloc(), note, Some(want));
     let message = "\nform=writeword address=40 code=21 out=01\n";
     let want = "%message:2: error: data bytes in \"out=\": expected 2, found 1\n    form=writeword \
                 address=40 code=21 out=01\nhelp: the code stands in \"code=\", and words low byte \
                 first\n";
-    notes(&rt, note_on_frame(rt.alloc(), message), Some(want));
+    let note = note_on_frame(&rt, rt.alloc(), message);
+    notes(&rt, rt.alloc(), note, Some(want));
 }

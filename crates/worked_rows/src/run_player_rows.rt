@@ -4,28 +4,37 @@
 ghost use Rattle.std.specs.Prelude.{length, All};
 ghost use Rattle.seq_program.specs.Valid.{IsOnBoard};
 
-use crate::boards::{TWO, shared_board};
-use crate::expected::{holds, same};
+use crate::boards::{TWO, boxed, shared_board};
+use crate::expected::{made, same};
 use crate::runs::{NOTHING, Said};
-use board::{Board, BoardFault, read_board};
+use board::{Board, read_board};
 use run_player::{Played, play};
 use seq_program::{Program, read_program};
 use simulator::Ending;
 use smbus::Answer;
-use std::alloc::{AllocError, Global};
+use std::alloc::Global;
 use std::process::Abort;
 use std::test::*;
 
 /// TWO with ranges, and with two start values each.
-fn ranged_board(alloc: Global) -> Result<Board, BoardFault> {
-    let status = "\"STATUS_WORD\", values = [64, 4096]";
-    let voltage = "\"readword\", command = \"READ_VOUT\", values = [7, 9]";
-    let text = TWO.replace(alloc, "start_pages = [0]", "start_pages = [255, 0]")?;
-    let text = text.replace(alloc, "start_protects = [0]", "start_protects = [128, 0]")?;
-    let text = text.replace(alloc, "\"STATUS_WORD\"", status)?;
-    let text = text.replace(alloc, "\"writeword\", command = \"VOUT_COMMAND\"", voltage)?;
-    read_board(alloc, &text)
+fn ranged_board(rt: &impl Abort, alloc: Global) -> Board {
+    let mut text = made(rt, String::from_str(alloc, TWO));
+    for (old, new) in &RANGES {
+        text = made(rt, text.replace(alloc, old, new));
+    }
+    made(rt, read_board(alloc, &text))
 }
+
+/// A text of TWO, and what stands for it.
+static RANGES: [(&str, &str); 4] = [
+    ("start_pages = [0]", "start_pages = [255, 0]"),
+    ("start_protects = [0]", "start_protects = [128, 0]"),
+    ("\"STATUS_WORD\"", "\"STATUS_WORD\", values = [64, 4096]"),
+    (
+        "\"writeword\", command = \"VOUT_COMMAND\"",
+        "\"readword\", command = \"READ_VOUT\", values = [7, 9]",
+    ),
+];
 
 /// Asks the second target of TWO for its power until it reports good.
 const POLLING: &str = "write b OPERATION 0x80 else bad
@@ -70,53 +79,56 @@ fn is_plain(answer: &Answer) -> bool {
 }
 
 /// The values, the refused bytes and the alerts of answers.
-fn said_of(alloc: Global, answers: &[Answer]) -> Result<Vec<Said>, AllocError> {
+fn said_of(rt: &impl Abort, alloc: Global, answers: &[Answer]) -> Vec<Said> {
     let mut said = Vec::new(alloc);
     for answer in answers {
-        said.push((answer.value, answer.refuse, answer.alerts))?;
+        made(rt, said.push((answer.value, answer.refuse, answer.alerts)));
     }
-    Ok(said)
+    said
 }
 
-fn played_on(alloc: Global, board: &Board, program: &Program, seed: u64) -> Option<Played>
+fn played(rt: &impl Abort, alloc: Global, board: &Board, program: &Program, seed: u64) -> Played
     requires { All (λ i. IsOnBoard (length board.now.targets) i) program.now }
 {
-    play(alloc, board, program, seed).ok()
+    made(rt, play(alloc, board, program, seed))
 }
 
-fn played_of(alloc: Global, board: &Board, program: &str, seed: u64) -> Option<Played> {
-    let program = read_program(alloc, board, program).ok()?;
-    played_on(alloc, board, &program, seed)
+fn played_of(rt: &impl Abort, alloc: Global, board: &Board, program: &str, seed: u64) -> Played {
+    match read_program(alloc, board, program) {
+        Ok(program) => played(rt, alloc, board, &program, seed),
+        Err(fault) => panic!(rt; "{fault:?}"),
+    }
 }
 
-fn plain_run(alloc: Global) -> Option<Played> {
-    let board = ranged_board(alloc).ok()?;
-    played_of(alloc, &board, READING, 0)
+fn plain_run(rt: &impl Abort, alloc: Global) -> Played {
+    let board = ranged_board(rt, alloc);
+    let played = played_of(rt, alloc, &board, READING, 0);
+    drop(board);
+    played
 }
 
 #[test]
 fn the_plain_run_has_the_first_of_all_choices(rt: HostRuntime) {
-    let Some(played) = plain_run(rt.alloc()) else {
-        panic!(rt; "no run");
-    };
+    let played = plain_run(&rt, rt.alloc());
     same(&rt, played.pages.as_slice(), [255, 255].as_slice());
     same(&rt, played.protects.as_slice(), [128, 128].as_slice());
-    holds(&rt, said_of(rt.alloc(), &played.answers), &READ);
+    let said = said_of(&rt, rt.alloc(), &played.answers);
+    same(&rt, said.as_slice(), READ.as_slice());
     same(&rt, played.answers.iter().all(is_plain), true);
     same(&rt, played.ended, Ending::Finished);
 }
 
 /// The answers of a seed on a bus with other controllers, as they are printed.
-fn printed(alloc: Global, seed: u64) -> Option<String> {
-    let board = shared_board(alloc).ok()?;
-    let played = played_of(alloc, &board, POLLING, seed)?;
-    format!(in alloc; "{:?}", played.answers).ok()
+fn printed(rt: &impl Abort, alloc: Global, seed: u64) -> String {
+    let board = boxed(rt, alloc, shared_board(alloc));
+    let played = played_of(rt, alloc, &board, POLLING, seed);
+    drop(board);
+    made(rt, format!(in alloc; "{:?}", played.answers))
 }
 
 #[test]
 fn a_seed_always_plays_the_same(rt: HostRuntime) {
-    let first = printed(rt.alloc(), 7);
-    let again = printed(rt.alloc(), 7);
-    same(&rt, first.is_some(), true);
-    same(&rt, first.as_deref(), again.as_deref());
+    let first = printed(&rt, rt.alloc(), 7);
+    let again = printed(&rt, rt.alloc(), 7);
+    same(&rt, first.as_str(), again.as_str());
 }

@@ -1,10 +1,10 @@
 //! Sentences by their calls. What notes say is tried with the cases of `examples/cases`.
 
-use crate::boards::two_board;
-use crate::expected::{Noted, noted, notes, same, says};
+use crate::boards::{boxed, two_board};
+use crate::expected::{found, made, notes, same, says};
 use board::Board;
 use facts::{GoodSet, PageSet, ProtectSet};
-use notes::Level;
+use notes::{Level, Note};
 use pmbus_table::code::OPERATION;
 use sentences::{
     Advice, Figure, Kept, Remark, Sentence, Word, listed_bytes, marked, note_in, note_on,
@@ -19,12 +19,6 @@ fn said(alloc: Global, word: Word) -> Result<String, AllocError> {
     say![{Word::Text("<")} "" {word} ">"].told(alloc)
 }
 
-fn each_says(rt: &impl Abort, alloc: Global, rows: &[(Word, &str)]) {
-    for (word, want) in rows {
-        says(rt, said(alloc, *word), want);
-    }
-}
-
 #[test]
 fn words(rt: HostRuntime) {
     let rows = [
@@ -33,35 +27,37 @@ fn words(rt: HostRuntime) {
         (Word::Name("a\tb"), "<\"a\\tb\">"),
         (Word::Figure(Figure::Count(7)), "<7>"),
     ];
-    each_says(&rt, rt.alloc(), &rows);
+    for (word, want) in &rows {
+        says(&rt, said(rt.alloc(), *word), want);
+    }
 }
 
 /// 1.1 V is under 4506 times two to -12 (4505.6).
+static FIGURES: [(Figure, &str); 15] = [
+    (Figure::Number(8), "<8>"),
+    (Figure::Span(1, 1), "<1>"),
+    (Figure::Span(1, 2), "<1 to 2>"),
+    (Figure::Hex(10, 1), "<A>"),
+    (Figure::Hex(10, 2), "<0A>"),
+    (Figure::Hex(266, 2), "<10A>"),
+    (Figure::Hex(10, 4), "<000A>"),
+    (Figure::Command(OPERATION), "<OPERATION>"),
+    (Figure::Command(0xD0), "<D0>"),
+    (
+        Figure::Entry("send", Some(3)),
+        "<{form = \"send\", command = \"CLEAR_FAULTS\"}>",
+    ),
+    (Figure::Entry("receive", None), "<{form = \"receive\"}>"),
+    (Figure::Permitting(OPERATION), "<0x00 or 0x20 or 0x40>"),
+    (Figure::Voltage(4096, 1_000_000), "<4096, 1000000 uV>"),
+    (Figure::Limit(1_100_000, -12), "<4505, 1100000 uV>"),
+    (Figure::Limit(1_100_000, 1), "<1100000 uV>"),
+];
+
 #[test]
 fn figures(rt: HostRuntime) {
-    let rows = [
-        (Figure::Number(8), "<8>"),
-        (Figure::Span(1, 1), "<1>"),
-        (Figure::Span(1, 2), "<1 to 2>"),
-        (Figure::Hex(10, 1), "<A>"),
-        (Figure::Hex(10, 2), "<0A>"),
-        (Figure::Hex(266, 2), "<10A>"),
-        (Figure::Hex(10, 4), "<000A>"),
-        (Figure::Command(OPERATION), "<OPERATION>"),
-        (Figure::Command(0xD0), "<D0>"),
-        (
-            Figure::Entry("send", Some(3)),
-            "<{form = \"send\", command = \"CLEAR_FAULTS\"}>",
-        ),
-        (Figure::Entry("receive", None), "<{form = \"receive\"}>"),
-        (Figure::Permitting(OPERATION), "<0x00 or 0x20 or 0x40>"),
-        (Figure::Voltage(4096, 1_000_000), "<4096, 1000000 uV>"),
-        (Figure::Limit(1_100_000, -12), "<4505, 1100000 uV>"),
-        (Figure::Limit(1_100_000, 1), "<1100000 uV>"),
-    ];
-    let alloc = rt.alloc();
-    for (figure, want) in &rows {
-        says(&rt, said(alloc, Word::Figure(*figure)), want);
+    for (figure, want) in &FIGURES {
+        says(&rt, said(rt.alloc(), Word::Figure(*figure)), want);
     }
 }
 
@@ -73,105 +69,92 @@ fn lists(rt: HostRuntime) {
     says(&rt, listed_bytes(alloc, &[0, 255]), "00, FF");
 }
 
-/// The words that stand for parts of a board, and of what is known on it.
-fn board_words(alloc: Global, board: &Board) -> Result<String, AllocError> {
-    let (Some(pages), Some(protects)) = (
-        PageSet::of(alloc, &[0, 255])?,
-        ProtectSet::of(alloc, &[0x80, 0x20])?,
-    ) else {
-        return String::from_str(alloc, "no sets");
-    };
-    let first = say![
+/// Tries the words that stand for parts of a board, and of what is known on it.
+fn names_parts(rt: &impl Abort, alloc: Global, board: &Board) {
+    let pages = found(rt, made(rt, PageSet::of(alloc, &[0, 255])));
+    let words = say![
         {Word::target(board, 1)} {Word::rail(board, 0)} {Word::target(board, 2)}
         {Word::Pages(&pages)}
-    ]
-    .told(alloc)?;
-    let second = say![" "{Word::Protects(&protects)}].told(alloc)?;
-    format!(in alloc; "{first}{second}")
+    ];
+    says(rt, words.told(alloc), "\"b\"\"va\"\"\"00, FF");
 }
 
-/// The names of the second rail, and whether a target may start with a page.
-fn names_and_starts(alloc: Global, board: &Board) -> Result<(bool, bool), AllocError> {
-    let names = rail_names(alloc, board, GoodSet::empty().with(1))?;
-    let is_second = names.as_slice() == ["vb"].as_slice();
-    let starts = board
-        .target(0)
-        .is_some_and(|target| Kept::Page.starts(target) == [0].as_slice());
-    Ok((is_second, starts))
+/// The word that stands for protections.
+fn names_protects(rt: &impl Abort, alloc: Global) {
+    let protects = found(rt, made(rt, ProtectSet::of(alloc, &[0x80, 0x20])));
+    let words = say![" "{Word::Protects(&protects)}];
+    says(rt, words.told(alloc), " 20, 80");
+}
+
+/// Tries the names of the second rail, and with which pages the first target may start.
+fn has_second_rail(rt: &impl Abort, alloc: Global, board: &Board) {
+    let names = made(rt, rail_names(alloc, board, GoodSet::empty().with(1)));
+    same(rt, names.as_slice(), ["vb"].as_slice());
+    let target = found(rt, board.target(0));
+    same(rt, Kept::Page.starts(target), [0].as_slice());
 }
 
 #[test]
 fn words_of_a_board(rt: HostRuntime) {
-    match two_board(rt.alloc()) {
-        Ok(board) => {
-            let want = "\"b\"\"va\"\"\"00, FF 20, 80";
-            says(&rt, board_words(rt.alloc(), &board), want);
-            same(&rt, names_and_starts(rt.alloc(), &board), Ok((true, true)));
-        }
-        Err(_) => panic!(rt; "no board"),
-    }
+    let board = boxed(&rt, rt.alloc(), two_board(rt.alloc()));
+    names_parts(&rt, rt.alloc(), &board);
+    names_protects(&rt, rt.alloc());
+    has_second_rail(&rt, rt.alloc(), &board);
+    drop(board);
     same(&rt, Kept::Protect.command(), "WRITE_PROTECT");
     same(&rt, Kept::Protect.key(), "start_protects");
 }
 
-/// The texts of a remark.
-fn texts_of(alloc: Global, remark: Remark) -> Result<String, AllocError> {
-    let Remark { message, help } = remark;
-    let help = help.as_deref().unwrap_or("-");
-    format!(in alloc; "{message}/{help}")
+/// Tries the texts of a remark.
+fn remarks(rt: &impl Abort, remark: Result<Remark, AllocError>, message: &str, help: Option<&str>) {
+    let remark = made(rt, remark);
+    let seen = (remark.message.as_str(), remark.help.as_deref());
+    same(rt, seen, (message, help));
 }
 
 fn one() -> Sentence<'static> {
     Sentence::plain("a\0").led_by(Word::Figure(Figure::Count(1)))
 }
 
-fn advice_text(alloc: Global, advice: Advice) -> Result<String, AllocError> {
-    texts_of(alloc, advice.told(alloc)?)
-}
-
 /// What may help is a text already.
-fn helped(alloc: Global) -> Result<String, AllocError> {
-    let help = told(alloc, Some(say!["d"]))?;
-    texts_of(alloc, one().helped_by(alloc, help)?)
-}
-
-fn bare(alloc: Global) -> Result<String, AllocError> {
-    texts_of(alloc, Remark::bare(String::from_str(alloc, "e")?))
+fn is_helped(rt: &impl Abort, alloc: Global) {
+    let help = made(rt, told(alloc, Some(say!["d"])));
+    remarks(rt, one().helped_by(alloc, help), "a1", Some("d"));
 }
 
 #[test]
 fn advice(rt: HostRuntime) {
     let alloc = rt.alloc();
-    says(&rt, advice_text(alloc, one().alone()), "a1/-");
-    says(&rt, advice_text(alloc, one().with_help(say!["b"])), "a1/b");
-    says(&rt, advice_text(alloc, one().with_text("c")), "a1/c");
-    says(&rt, helped(alloc), "a1/d");
-    says(&rt, bare(alloc), "e/-");
+    remarks(&rt, one().alone().told(alloc), "a1", None);
+    let remark = one().with_help(say!["b"]).told(alloc);
+    remarks(&rt, remark, "a1", Some("b"));
+    remarks(&rt, one().with_text("c").told(alloc), "a1", Some("c"));
+    is_helped(&rt, alloc);
+    let bare = String::from_str(alloc, "e").map(|text| Remark::bare(text));
+    remarks(&rt, bare, "e", None);
 }
 
 /// A note on the second line of a text, with a mark below a word.
-fn marked_note(alloc: Global) -> Noted {
-    let remark = say!["wrong"].with_text("mend it").told(alloc)?;
-    let note = note_in(alloc, Level::Error, "%program", "end\ngoto x\n", 2, remark)?;
-    noted(alloc, Some(marked(alloc, note, Some(("goto ", "x")))?))
+fn marked_note(rt: &impl Abort, alloc: Global) -> Note {
+    let remark = made(rt, say!["wrong"].with_text("mend it").told(alloc));
+    let note = note_in(alloc, Level::Error, "%program", "end\ngoto x\n", 2, remark);
+    made(rt, marked(alloc, made(rt, note), Some(("goto ", "x"))))
 }
 
 /// A note on a line that isn't there.
-fn note_without_line(alloc: Global) -> Noted {
-    let remark = say!["wrong"].alone().told(alloc)?;
-    noted(
-        alloc,
-        Some(note_on(alloc, Level::Warning, "%board", 7, None, remark)?),
+fn note_without_line(rt: &impl Abort, alloc: Global) -> Note {
+    let remark = made(rt, say!["wrong"].alone().told(alloc));
+    made(
+        rt,
+        note_on(alloc, Level::Warning, "%board", 7, None, remark),
     )
 }
 
 #[test]
 fn notes_on_lines(rt: HostRuntime) {
+    let alloc = rt.alloc();
     let want = "%program:2:6: error: wrong\n    goto x\n         ^\nhelp: mend it\n";
-    notes(&rt, marked_note(rt.alloc()), Some(want));
-    notes(
-        &rt,
-        note_without_line(rt.alloc()),
-        Some("%board:7: warning: wrong\n"),
-    );
+    notes(&rt, alloc, Some(marked_note(&rt, alloc)), Some(want));
+    let want = "%board:7: warning: wrong\n";
+    notes(&rt, alloc, Some(note_without_line(&rt, alloc)), Some(want));
 }

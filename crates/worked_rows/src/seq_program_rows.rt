@@ -1,12 +1,13 @@
 mod faults;
 
-use crate::boards::two_board;
-use crate::expected::same;
+use crate::boards::{boxed, two_board};
+use crate::expected::{found, holds, made, same};
 use board::Board;
 use seq_program::{
-    Content, Instr, Program, Request, label_in, message_of, number_within, read_program,
+    Content, Instr, Program, Request, label_in, message_of, number_within, place_line, place_lines,
+    read_program,
 };
-use smbus::Form;
+use smbus::{Form, Message};
 use std::alloc::Global;
 use std::process::Abort;
 use std::test::*;
@@ -35,16 +36,17 @@ fail";
 /// The place of an instruction, and the message that it sends.
 type Sent = (usize, u8, Form, u8, &'static [u8]);
 
-/// Whether the instruction of a place sends this message.
-fn sends(alloc: Global, board: &Board, program: &Program, want: Sent) -> bool {
+/// The message that the instruction of a place sends.
+fn sent_at(
+    rt: &impl Abort,
+    alloc: Global,
+    board: &Board,
+    program: &Program,
+    place: usize,
+) -> Option<Message> {
     let registers = [0, 0, 0, 0x1199, 0, 0, 0, 0];
-    let Some(instr) = program.at(want.0) else {
-        return false;
-    };
-    match message_of(alloc, board, instr, &registers) {
-        Ok(Some(m)) => (want.0, m.address, m.form, m.code, m.out.as_slice()) == want,
-        _ => false,
-    }
+    let instr = found(rt, program.at(place));
+    made(rt, message_of(alloc, board, instr, &registers))
 }
 
 static SENT: [Sent; 14] = [
@@ -64,11 +66,14 @@ static SENT: [Sent; 14] = [
     (13, 0x0C, Form::Alert, 0, b""),
 ];
 
-fn all_send(rt: &impl Abort, alloc: Global, board: &Board, program: &Program, rows: &[Sent]) {
-    for want in rows {
-        let is_sent = sends(alloc, board, program, *want);
-        same(rt, (*want, is_sent), (*want, true));
-    }
+/// Tries the message that an instruction sends.
+fn sends(rt: &impl Abort, alloc: Global, board: &Board, program: &Program, want: Sent) {
+    let m = found(rt, sent_at(rt, alloc, board, program, want.0));
+    same(
+        rt,
+        (want.0, m.address, m.form, m.code, m.out.as_slice()),
+        want,
+    );
 }
 
 /// The target of an instruction, its form, its code, the register that what is read goes to, and
@@ -109,13 +114,6 @@ static ASKED: [(usize, Option<Asked>); 9] = [
     (13, None),
     (14, None),
 ];
-
-/// Tries what the instructions of some places ask.
-fn all_ask(rt: &impl Abort, program: &Program, rows: &[(usize, Option<Asked>)]) {
-    for (place, want) in rows {
-        same(rt, (*place, asked_at(program, *place)), (*place, *want));
-    }
-}
 
 /// The bytes of the block that the instruction of a place writes.
 fn written_block(program: &Program, place: usize) -> Option<&[u8]> {
@@ -202,13 +200,16 @@ static PARTS: [(usize, Option<Parts>); 11] = [
 
 fn compare_sent(rt: &impl Abort, alloc: Global, board: &Board, program: &Program) {
     same(rt, program.places(), 16);
-    all_send(rt, alloc, board, program, &SENT);
-    let sends_more = sends(alloc, board, program, (14, 0, Form::Alert, 0, b""));
-    same(rt, sends_more, false);
+    for want in &SENT {
+        sends(rt, alloc, board, program, *want);
+    }
+    same(rt, sent_at(rt, alloc, board, program, 14).is_some(), false);
 }
 
 fn compare_asked(rt: &impl Abort, program: &Program) {
-    all_ask(rt, program, &ASKED);
+    for (place, want) in &ASKED {
+        same(rt, (*place, asked_at(program, *place)), (*place, *want));
+    }
     same(rt, written_block(program, 10), Some(b"\x00\xFF"));
     same(rt, written_block(program, 5), None);
     same(rt, otherwise_at(program, 5), Some(0));
@@ -227,25 +228,16 @@ fn compare_jumps(rt: &impl Abort, program: &Program) {
     same(rt, jump_at(program, 14), None);
 }
 
-fn compare_messages_on(rt: &impl Abort, alloc: Global, board: &Board) -> Option<()> {
-    let program = read_program(alloc, board, MESSAGES).ok()?;
-    compare_sent(rt, alloc, board, &program);
-    compare_asked(rt, &program);
-    compare_jumps(rt, &program);
-    all_have(rt, &program, &PARTS);
-    same(rt, block_of(program.at(12)), Some(b"\x21"));
-    Some(())
-}
-
-/// Tries the program of MESSAGES, if it can be read.
-fn compare_messages(rt: &impl Abort, alloc: Global) -> Option<()> {
-    let board = two_board(alloc).ok()?;
-    compare_messages_on(rt, alloc, &board)
-}
-
 #[test]
 fn messages(rt: HostRuntime) {
-    same(&rt, compare_messages(&rt, rt.alloc()), Some(()));
+    let alloc = rt.alloc();
+    let board = boxed(&rt, alloc, two_board(alloc));
+    let program = made(&rt, read_program(alloc, &board, MESSAGES));
+    compare_sent(&rt, alloc, &board, &program);
+    compare_asked(&rt, &program);
+    compare_jumps(&rt, &program);
+    all_have(&rt, &program, &PARTS);
+    same(&rt, block_of(program.at(12)), Some(b"\x21"));
 }
 
 /// Each line that sends no message.
@@ -281,22 +273,13 @@ fn mask_and_ticks(program: &Program) -> Option<(u16, u32)> {
     }
 }
 
-fn compare_plain_on(rt: &impl Abort, alloc: Global, board: &Board) -> Option<()> {
-    let program = read_program(alloc, board, PLAIN).ok()?;
-    all_have(rt, &program, &PLAIN_PARTS);
-    same(rt, mask_and_ticks(&program), Some((0x840, 10_000_000)));
-    Some(())
-}
-
-/// Tries the program of PLAIN, if it can be read.
-fn compare_plain(rt: &impl Abort, alloc: Global) -> Option<()> {
-    let board = two_board(alloc).ok()?;
-    compare_plain_on(rt, alloc, &board)
-}
-
 #[test]
 fn plain_lines(rt: HostRuntime) {
-    same(&rt, compare_plain(&rt, rt.alloc()), Some(()));
+    let alloc = rt.alloc();
+    let board = boxed(&rt, alloc, two_board(alloc));
+    let program = made(&rt, read_program(alloc, &board, PLAIN));
+    all_have(&rt, &program, &PLAIN_PARTS);
+    same(&rt, mask_and_ticks(&program), Some((0x840, 10_000_000)));
 }
 
 #[test]
@@ -309,4 +292,14 @@ fn numbers(rt: HostRuntime) {
 fn labels(rt: HostRuntime) {
     same(&rt, label_in(&["again:"]), Some("again"));
     same(&rt, label_in(&["again:", "end"]), None);
+}
+
+/// A place is an instruction: no label is one, and no line without words.
+const PLACES: &str = "# first\nend\n\nthen:\nfail # last\n";
+
+#[test]
+fn places(rt: HostRuntime) {
+    holds(&rt, place_lines(rt.alloc(), PLACES), &[2, 5]);
+    same(&rt, place_line(rt.alloc(), PLACES, 1), Ok(Some(5)));
+    same(&rt, place_line(rt.alloc(), PLACES, 2), Ok(None));
 }

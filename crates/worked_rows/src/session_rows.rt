@@ -5,118 +5,94 @@ mod devices;
 mod found;
 mod judged;
 
-use crate::expected::{same, says};
+use crate::expected::{made, same, says};
 use crate::runs::answer_of;
 use bundles::BundleFault;
-use session::{Input, Status, deliver, judge, outcome_line, reply_of, text_of};
+use session::{Input, Reply, Status, deliver, judge, outcome_line, reply_of, text_of};
 use simulator::outcome_text;
 use smbus::{Form, Message};
 use std::alloc::{AllocError, Global};
+use std::process::Abort;
 use std::test::*;
 use targets::Outcome;
 
 /// A text as an input.
-pub(crate) fn input_of(alloc: Global, text: &str) -> Result<Input, AllocError> {
-    Ok(Input {
-        bytes: Vec::from_slice(alloc, text.as_bytes())?,
-        too_large: false,
-    })
+pub(crate) fn input_of(rt: &impl Abort, alloc: Global, text: &str) -> Input {
+    bytes_input(rt, alloc, text.as_bytes(), false)
 }
 
-/// How a text is answered, and what is printed.
-fn delivered(alloc: Global, text: &str) -> Result<(Status, Vec<u8>), AllocError> {
-    let input = input_of(alloc, text)?;
-    let reply = reply_of(alloc, judge(alloc, &input)?)?;
+fn bytes_input(rt: &impl Abort, alloc: Global, bytes: &[u8], too_large: bool) -> Input {
+    let bytes = made(rt, bytes.to_vec(alloc));
+    Input { bytes, too_large }
+}
+
+fn reply_to(alloc: Global, input: &Input) -> Result<Reply, AllocError> {
+    reply_of(alloc, judge(alloc, input)?)
+}
+
+/// Tries how an input is answered, and what is printed.
+fn delivers(rt: &impl Abort, alloc: Global, input: &Input, want: (Status, &[u8])) {
+    let reply = made(rt, reply_to(alloc, input));
     let mut output = Vec::new(alloc);
-    match deliver(&mut output, &reply) {
-        Ok(status) => Ok((status, output)),
-        Err(_) => Err(AllocError),
-    }
+    let status = made(rt, deliver(&mut output, &reply));
+    drop(reply);
+    same(rt, (status, output.as_slice()), want);
 }
 
 #[test]
 fn replies_are_delivered(rt: HostRuntime) {
-    let printed = Vec::from_slice(rt.alloc(), b"fault bundle 1 NoCommand\n");
-    let want = printed.map(|printed| (Status::InputFault, printed));
-    same(&rt, delivered(rt.alloc(), ""), want);
+    let input = input_of(&rt, rt.alloc(), "");
+    let printed = b"fault bundle 1 NoCommand\n".as_slice();
+    delivers(&rt, rt.alloc(), &input, (Status::InputFault, printed));
 }
 
-/// The text of an input, or its fault.
-fn text_in(
-    alloc: Global,
-    bytes: &[u8],
-    too_large: bool,
-) -> Result<Result<String, BundleFault>, AllocError> {
-    let bytes = Vec::from_slice(alloc, bytes)?;
-    match text_of(&Input { bytes, too_large }) {
-        Ok(text) => Ok(Ok(String::from_str(alloc, text)?)),
-        Err(fault) => Ok(Err(fault)),
-    }
-}
+/// Bytes of an input, whether it is too large, and its text or its fault.
+static TEXTS: [(&[u8], bool, Result<&str, BundleFault>); 4] = [
+    (b"%run", false, Ok("%run")),
+    (b"%run", true, Err(BundleFault::TooLarge)),
+    (b"", false, Err(BundleFault::NoCommand)),
+    (b"%run\xff", false, Err(BundleFault::NotText)),
+];
 
 #[test]
 fn texts_of_inputs(rt: HostRuntime) {
-    let text = String::from_str(rt.alloc(), "%run").map(|text| Ok(text));
-    same(&rt, text_in(rt.alloc(), b"%run", false), text);
-    same(
-        &rt,
-        text_in(rt.alloc(), b"%run", true),
-        Ok(Err(BundleFault::TooLarge)),
-    );
-    same(
-        &rt,
-        text_in(rt.alloc(), b"", false),
-        Ok(Err(BundleFault::NoCommand)),
-    );
-    same(
-        &rt,
-        text_in(rt.alloc(), b"%run\xff", false),
-        Ok(Err(BundleFault::NotText)),
-    );
+    for (bytes, too_large, want) in &TEXTS {
+        let input = bytes_input(&rt, rt.alloc(), bytes, *too_large);
+        same(&rt, (*bytes, text_of(&input)), (*bytes, *want));
+    }
 }
 
-/// An input as far as it is text.
-fn front_of(alloc: Global, bytes: &[u8]) -> Result<String, AllocError> {
-    let input = Input {
-        bytes: Vec::from_slice(alloc, bytes)?,
-        too_large: false,
-    };
-    let case = judge(alloc, &input)?;
-    let front = String::from_str(alloc, case.text);
+/// Tries how far an input is text.
+fn front_is(rt: &impl Abort, alloc: Global, bytes: &[u8], want: &str) {
+    let input = bytes_input(rt, alloc, bytes, false);
+    let case = made(rt, judge(alloc, &input));
+    same(rt, case.text, want);
     drop(case);
-    front
 }
 
 #[test]
 fn what_stands_before_a_byte_that_is_no_text(rt: HostRuntime) {
-    says(&rt, front_of(rt.alloc(), b"gr\xFCn"), "gr");
-    says(
-        &rt,
-        front_of(rt.alloc(), "gr\u{FC}n".as_bytes()),
-        "gr\u{FC}n",
-    );
+    front_is(&rt, rt.alloc(), b"gr\xFCn", "gr");
+    front_is(&rt, rt.alloc(), "gr\u{FC}n".as_bytes(), "gr\u{FC}n");
 }
 
-/// How a Read Word that returns 0840h ends.
-fn word_outcome(
-    alloc: Global,
-    refuse: Option<u16>,
-    cut: Option<usize>,
-) -> Result<String, AllocError> {
+/// Tries how a Read Word that returns 0840h ends.
+fn ends(rt: &impl Abort, alloc: Global, refuse: Option<u16>, cut: Option<usize>, want: &str) {
     let message = Message {
         address: 0x40,
         form: Form::ReadWord,
         code: 0x79,
         out: Vec::new(alloc),
     };
-    outcome_line(alloc, &message, &answer_of(alloc, (0x0840, refuse, 0)), cut)
+    let answer = answer_of(alloc, (0x0840, refuse, 0));
+    says(rt, outcome_line(alloc, &message, &answer, cut), want);
 }
 
 #[test]
 fn outcomes(rt: HostRuntime) {
-    says(&rt, word_outcome(rt.alloc(), None, None), "done 0840");
-    says(&rt, word_outcome(rt.alloc(), Some(2), None), "nak");
-    says(&rt, word_outcome(rt.alloc(), Some(2), Some(9)), "timeout");
+    ends(&rt, rt.alloc(), None, None, "done 0840");
+    ends(&rt, rt.alloc(), Some(2), None, "nak");
+    ends(&rt, rt.alloc(), Some(2), Some(9), "timeout");
 }
 
 #[test]

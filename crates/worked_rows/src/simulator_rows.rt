@@ -4,15 +4,15 @@
 ghost use Rattle.std.specs.Prelude.{length, All};
 ghost use Rattle.seq_program.specs.Valid.{IsOnBoard};
 
-use crate::boards::alert_board;
+use crate::boards::{alert_board, boxed};
 use crate::devices::SlowWriter;
-use crate::expected::{same, says};
+use crate::expected::{made, same, says};
 use crate::runs::{ASKED, ASKING, NOTHING, answer_of, answers_of, trace_of};
 use board::Board;
 use seq_program::{Program, program_is_valid, read_program};
 use simulator::{Ending, Entry, RunFault, Trace, WriteFault, last_line, start, step, write_trace};
 use smbus::Answer;
-use std::alloc::{AllocError, Global};
+use std::alloc::Global;
 use std::process::Abort;
 use std::test::*;
 
@@ -26,62 +26,54 @@ fn levels_at(entry: &Entry, place: u64) -> Option<(bool, bool)> {
 }
 
 /// The first step of a program, in which nothing is said.
-fn first_step(alloc: Global, board: &Board, program: &Program) -> Result<Entry, RunFault>
+fn first_step(rt: &impl Abort, alloc: Global, board: &Board, program: &Program) -> Entry
     requires { All (λ i. IsOnBoard (length board.now.targets) i) program.now }
 {
     program_is_valid(program);
-    let machine = start(alloc, board, &[0, 0], &[0, 0])?;
+    let Ok(machine) = start(alloc, board, &[0, 0], &[0, 0]) else {
+        panic!(rt; "no start");
+    };
     let answer = answer_of(alloc, NOTHING);
-    let (_, entry) = step(alloc, board, program, &machine, &answer)?;
-    Ok(entry)
+    let (_, entry) = made(rt, step(alloc, board, program, &machine, &answer));
+    entry
 }
 
-fn waited(alloc: Global, board: &Board, program: &Program) -> Option<Waited>
-    requires { All (λ i. IsOnBoard (length board.now.targets) i) program.now }
-{
-    let entry = first_step(alloc, board, program).ok()?;
+fn waited(rt: &impl Abort, alloc: Global, board: &Board) -> Waited {
+    let Ok(program) = read_program(alloc, board, "wait 10000000\nend\n") else {
+        panic!(rt; "no program");
+    };
+    let entry = first_step(rt, alloc, board, &program);
     let last = levels_at(&entry, 10_000_000);
     let behind = levels_at(&entry, 10_000_001);
-    Some((entry.ticks, entry.samples.runs().len(), last, behind))
-}
-
-fn waited_on(alloc: Global, board: &Board) -> Option<Waited> {
-    let program = read_program(alloc, board, "wait 10000000\nend\n").ok()?;
-    waited(alloc, board, &program)
-}
-
-fn long_wait(alloc: Global) -> Option<Waited> {
-    let board = alert_board(alloc).ok()?;
-    waited_on(alloc, &board)
+    (entry.ticks, entry.samples.runs().len(), last, behind)
 }
 
 #[test]
 fn a_wait_is_one_run(rt: HostRuntime) {
+    let alloc = rt.alloc();
+    let board = boxed(&rt, alloc, alert_board(alloc));
     let want = (10_000_001, 1, Some((true, true)), None);
-    same(&rt, long_wait(rt.alloc()), Some(want));
+    same(&rt, waited(&rt, alloc, &board), want);
 }
 
-fn trace_text(alloc: Global, trace: &Trace) -> Option<String> {
+fn trace_text(rt: &impl Abort, alloc: Global, trace: &Trace) -> String {
     let mut bytes = Vec::new(alloc);
-    write_trace(alloc, trace, &mut bytes).ok()?;
-    String::from_utf8(bytes).ok()
+    made(rt, write_trace(alloc, trace, &mut bytes));
+    made(rt, String::from_utf8(bytes))
 }
 
-fn asked_on(alloc: Global, board: &Board) -> Option<String> {
-    let program = read_program(alloc, board, ASKING).ok()?;
-    let answers = answers_of(alloc, &ASKED).ok()?;
-    let trace = trace_of(alloc, board, &program, 0, &answers).ok()?;
-    trace_text(alloc, &trace)
-}
-
-/// The text of the run of ASKING.
-fn asked_text(alloc: Global) -> Option<String> {
-    let board = alert_board(alloc).ok()?;
-    asked_on(alloc, &board)
+/// The run of ASKING.
+fn asked(rt: &impl Abort, alloc: Global, board: &Board) -> Trace {
+    let Ok(program) = read_program(alloc, board, ASKING) else {
+        panic!(rt; "no program");
+    };
+    let answers = made(rt, answers_of(alloc, &ASKED));
+    made(rt, trace_of(alloc, board, &program, 0, &answers))
 }
 
 #[test]
 fn lowest_address_answers_first(rt: HostRuntime) {
+    let alloc = rt.alloc();
     let want = "0 2 - -
 1 41 S 19A 42N P done 0042
 2 41 S 19A 80N P done 0080
@@ -89,56 +81,41 @@ fn lowest_address_answers_first(rt: HostRuntime) {
 5 1 - -
 fail ticks 108
 ";
-    same(&rt, asked_text(rt.alloc()).as_deref(), Some(want));
+    let board = boxed(&rt, alloc, alert_board(alloc));
+    let trace = asked(&rt, alloc, &board);
+    same(&rt, trace_text(&rt, alloc, &trace).as_str(), want);
 }
 
 /// So many answers in which nothing is said.
-fn silences(alloc: Global, count: usize) -> Result<Vec<Answer>, AllocError> {
+fn silences(rt: &impl Abort, alloc: Global, count: usize) -> Vec<Answer> {
     let mut answers = Vec::new(alloc);
     for _ in 0..count {
-        answers.push(answer_of(alloc, NOTHING))?;
+        made(rt, answers.push(answer_of(alloc, NOTHING)));
     }
-    Ok(answers)
+    answers
 }
 
-/// Whether the text of a run ends like this, if there is one.
-type Spun = Option<Result<bool, RunFault>>;
-
-fn ends_so(alloc: Global, run: Result<Trace, RunFault>, end: &str) -> Spun {
-    match run {
-        Ok(trace) => Some(Ok(trace_text(alloc, &trace)?.ends_with(end))),
-        Err(fault) => Some(Err(fault)),
-    }
+/// The run of a program that waits again and again, with so many answers that say nothing.
+fn spin(rt: &impl Abort, alloc: Global, board: &Board, answers: usize) -> Result<Trace, RunFault> {
+    let Ok(program) = read_program(alloc, board, "spin:\nwait 10000000\ngoto spin\nend\n") else {
+        panic!(rt; "no program");
+    };
+    trace_of(alloc, board, &program, 0, &silences(rt, alloc, answers))
 }
 
-/// The same of a program with so many answers that say nothing.
-fn spun(alloc: Global, board: &Board, program: &Program, answers: usize, end: &str) -> Spun
-    requires { All (λ i. IsOnBoard (length board.now.targets) i) program.now }
-{
-    let answers = silences(alloc, answers).ok()?;
-    ends_so(alloc, trace_of(alloc, board, program, 0, &answers), end)
-}
-
-fn spun_on(alloc: Global, board: &Board, answers: usize, end: &str) -> Spun {
-    let program = read_program(alloc, board, "spin:\nwait 10000000\ngoto spin\nend\n").ok()?;
-    spun(alloc, board, &program, answers, end)
-}
-
-/// The same of a program that waits again and again.
-fn spin(alloc: Global, answers: usize, end: &str) -> Spun {
-    let board = alert_board(alloc).ok()?;
-    spun_on(alloc, &board, answers, end)
+fn ends_so(rt: &impl Abort, alloc: Global, trace: Trace, end: &str) -> bool {
+    trace_text(rt, alloc, &trace).ends_with(end)
 }
 
 #[test]
 fn runs_take_two_to_the_fortieth_ticks_at_most(rt: HostRuntime) {
+    let alloc = rt.alloc();
+    let board = boxed(&rt, alloc, alert_board(alloc));
+    let trace = made(&rt, spin(&rt, alloc, &board, 219_902));
     let end = "\n1 1 - -\nrunning ticks 1099510219902\n";
-    same(&rt, spin(rt.alloc(), 219_902, end), Some(Ok(true)));
-    same(
-        &rt,
-        spin(rt.alloc(), 219_903, ""),
-        Some(Err(RunFault::TooLong)),
-    );
+    same(&rt, ends_so(&rt, alloc, trace, end), true);
+    let fault = spin(&rt, alloc, &board, 219_903).err();
+    same(&rt, fault, Some(RunFault::TooLong));
 }
 
 #[test]
@@ -151,15 +128,12 @@ fn faults_of_runs(rt: HostRuntime) {
     same(&rt, fault.index(), None);
 }
 
-fn empty_trace_on(alloc: Global, board: &Board) -> Option<Trace> {
-    let program = read_program(alloc, board, "end\n").ok()?;
-    trace_of(alloc, board, &program, 0, &[]).ok()
-}
-
 /// The run of no step.
-fn empty_trace(alloc: Global) -> Option<Trace> {
-    let board = alert_board(alloc).ok()?;
-    empty_trace_on(alloc, &board)
+fn empty_trace(rt: &impl Abort, alloc: Global, board: &Board) -> Trace {
+    let Ok(program) = read_program(alloc, board, "end\n") else {
+        panic!(rt; "no program");
+    };
+    made(rt, trace_of(alloc, board, &program, 0, &[]))
 }
 
 /// How many bytes a writer takes, and whether it fails then.
@@ -183,17 +157,14 @@ fn is_written(rt: &impl Abort, alloc: Global, trace: &Trace, calls_left: usize, 
     same(rt, Some(output.taken.as_slice()), text.get(..calls_left));
 }
 
-fn all_are_written(rt: &impl Abort, alloc: Global, rows: &[(usize, bool)]) -> Option<()> {
-    let trace = empty_trace(alloc)?;
-    for (calls_left, fails) in rows {
-        is_written(rt, alloc, &trace, *calls_left, *fails);
-    }
-    Some(())
-}
-
 #[test]
 fn writer_fails_on_the_way(rt: HostRuntime) {
-    same(&rt, all_are_written(&rt, rt.alloc(), &WRITERS), Some(()));
+    let alloc = rt.alloc();
+    let board = boxed(&rt, alloc, alert_board(alloc));
+    let trace = empty_trace(&rt, alloc, &board);
+    for (calls_left, fails) in &WRITERS {
+        is_written(&rt, alloc, &trace, *calls_left, *fails);
+    }
 }
 
 #[test]

@@ -1,8 +1,8 @@
 mod events;
 mod pieces;
 
-use crate::expected::{holds, same};
-use bit_bus::{Driven, Plan, Slot, drive};
+use crate::expected::{found, holds, made, same};
+use bit_bus::{Driven, Plan, drive};
 use smbus::{
     Answer, Form, Frame, Message, ObserveFault, SmbusFault, frame_slots, frame_text, most_slots,
     observe, sent_count, slot_count,
@@ -15,54 +15,55 @@ use wires::{Event, Sample, events, events_of};
 /// The form, the code and the bytes of a message.
 type Asked = (Form, u8, &'static [u8]);
 
-fn message_of(alloc: Global, asked: Asked) -> Result<Message, SmbusFault> {
+fn message_of(rt: &impl Abort, alloc: Global, asked: Asked) -> Message {
     let (form, code, out) = asked;
     let address = match form {
         Form::Alert => 0x0C,
         _ => 0x40,
     };
-    Ok(Message {
+    let out = made(rt, out.to_vec(alloc));
+    Message {
         address,
         form,
         code,
-        out: out.to_vec(alloc)?,
-    })
+        out,
+    }
 }
 
 fn answer_of(
+    rt: &impl Abort,
     alloc: Global,
     refuse: Option<u16>,
     value: u16,
     bytes: &[u8],
-) -> Result<Answer, SmbusFault> {
-    let bytes = bytes.to_vec(alloc)?;
-    Ok(Answer {
+) -> Answer {
+    let bytes = made(rt, bytes.to_vec(alloc));
+    Answer {
         refuse,
         value,
         bytes,
         ..Answer::silent(alloc)
-    })
+    }
 }
 
-fn driven(alloc: Global, asked: Asked, answer: &Answer) -> Option<Driven> {
-    let message = message_of(alloc, asked).ok()?;
-    drive_frame(alloc, &message, answer)
+fn driven(rt: &impl Abort, alloc: Global, asked: Asked, answer: &Answer) -> Driven {
+    drive_frame(rt, alloc, &message_of(rt, alloc, asked), answer)
 }
 
-fn drive_frame(alloc: Global, message: &Message, answer: &Answer) -> Option<Driven> {
-    let slots = frame_slots(alloc, message, answer).ok()?;
-    let plan = Plan::new(slots, answer.holds.clone().ok()?)?;
-    drive(alloc, &plan, true).ok()
+fn drive_frame(rt: &impl Abort, alloc: Global, message: &Message, answer: &Answer) -> Driven {
+    let slots = made(rt, frame_slots(alloc, message, answer));
+    let plan = Plan::new(slots, made(rt, answer.holds.clone()));
+    made(rt, drive(alloc, &found(rt, plan), true))
 }
 
 /// The samples of a frame, one a tick, behind an idle one.
-fn samples_of(alloc: Global, driven: &Driven) -> Option<Vec<Sample>> {
+fn samples_of(alloc: Global, driven: &Driven) -> Result<Vec<Sample>, AllocError> {
     let mut samples = Vec::new(alloc);
-    samples.push(IDLE).ok()?;
+    samples.push(IDLE)?;
     for place in 0..driven.samples.total() {
-        samples.push(driven.samples.sample_at(place)?).ok()?;
+        samples.push(driven.samples.sample_at(place).unwrap_or(IDLE))?;
     }
-    Some(samples)
+    Ok(samples)
 }
 
 const IDLE: Sample = Sample {
@@ -72,15 +73,15 @@ const IDLE: Sample = Sample {
 };
 
 /// The events of a frame behind an idle sample.
-fn frame_events(alloc: Global, driven: &Driven) -> Option<Vec<Event>> {
-    let samples = samples_of(alloc, driven)?;
-    events(alloc, &samples).ok()
+fn frame_events(rt: &impl Abort, alloc: Global, driven: &Driven) -> Vec<Event> {
+    let samples = made(rt, samples_of(alloc, driven));
+    made(rt, events(alloc, &samples))
 }
 
 /// The events of a Read Word of STATUS_WORD that returns 0840h.
-fn status_events(alloc: Global) -> Option<Vec<Event>> {
-    let answer = answer_of(alloc, None, 0x0840, b"").ok()?;
-    frame_events(alloc, &driven(alloc, READ_STATUS, &answer)?)
+fn status_events(rt: &impl Abort, alloc: Global) -> Vec<Event> {
+    let answer = answer_of(rt, alloc, None, 0x0840, b"");
+    frame_events(rt, alloc, &driven(rt, alloc, READ_STATUS, &answer))
 }
 
 /// The texts of frames, one behind the other.
@@ -115,23 +116,15 @@ fn reads_back(rt: &impl Abort, alloc: Global, driven: &Driven, events: &[Event],
     reads(rt, observed(alloc, events), Ok(text));
 }
 
-fn compare(rt: &impl Abort, alloc: Global, driven: &Driven, want: Shown<'_>) -> Option<()> {
+fn compare(rt: &impl Abort, alloc: Global, driven: &Driven, want: Shown<'_>) {
     let (text, samples, cut) = want;
     same(rt, (driven.samples.total(), driven.cut), (samples, cut));
-    let events = frame_events(alloc, driven)?;
-    reads_back(rt, alloc, driven, &events, text);
-    Some(())
+    reads_back(rt, alloc, driven, &frame_events(rt, alloc, driven), text);
 }
 
 /// Asks for a frame and tries what is read back.
-fn shows(
-    rt: &impl Abort,
-    alloc: Global,
-    asked: Asked,
-    answer: &Answer,
-    want: Shown<'_>,
-) -> Option<()> {
-    compare(rt, alloc, &driven(alloc, asked, answer)?, want)
+fn shows(rt: &impl Abort, alloc: Global, asked: Asked, answer: &Answer, want: Shown<'_>) {
+    compare(rt, alloc, &driven(rt, alloc, asked, answer), want);
 }
 
 /// The same, where nothing is refused and the clock isn't held.
@@ -141,9 +134,9 @@ fn shows_done(
     asked: Asked,
     returned: (u16, &[u8]),
     want: (&'static str, u64),
-) -> Option<()> {
-    let answer = answer_of(alloc, None, returned.0, returned.1).ok()?;
-    shows(rt, alloc, asked, &answer, (want.0, want.1, None))
+) {
+    let answer = answer_of(rt, alloc, None, returned.0, returned.1);
+    shows(rt, alloc, asked, &answer, (want.0, want.1, None));
 }
 
 /// What is asked, the number that is read, and the text and the number of samples of the frame.
@@ -173,39 +166,29 @@ static PLAIN: [(Asked, u16, &str, u64); 8] = [
     ((Form::Alert, 0, &[]), 0x42, "S 19A 42N P", 40),
 ];
 
-fn all_show_done(
-    rt: &impl Abort,
-    alloc: Global,
-    rows: &[(Asked, u16, &'static str, u64)],
-) -> Option<()> {
-    for (asked, value, text, samples) in rows {
-        shows_done(rt, alloc, *asked, (*value, &[]), (text, *samples))?;
-    }
-    Some(())
-}
-
 #[test]
 fn forms_without_a_block(rt: HostRuntime) {
-    same(&rt, all_show_done(&rt, rt.alloc(), &PLAIN), Some(()));
+    for (asked, value, text, samples) in &PLAIN {
+        shows_done(&rt, rt.alloc(), *asked, (*value, &[]), (text, *samples));
+    }
 }
 
 #[test]
 fn block_process_call(rt: HostRuntime) {
     let asked = (Form::BlockProcessCall, 0x1A, [0x21].as_slice());
     let want = ("S 80A 1AA 01A 21A Sr 81A 01A B0N P", 133);
-    let shown = shows_done(&rt, rt.alloc(), asked, (0, &[0xB0]), want);
-    same(&rt, shown, Some(()));
+    shows_done(&rt, rt.alloc(), asked, (0, &[0xB0]), want);
 }
 
 /// The byte that is refused, the slot that is held and for how many ticks.
 type Broken = (Option<u16>, usize, u16);
 
-fn broken(alloc: Global, value: u16, how: Broken) -> Result<Answer, SmbusFault> {
+fn broken(rt: &impl Abort, alloc: Global, value: u16, how: Broken) -> Answer {
     let (refuse, slot, hold) = how;
-    let mut answer = answer_of(alloc, refuse, value, &[])?;
-    answer.holds.resize(slot, 0)?;
-    answer.holds.push(hold)?;
-    Ok(answer)
+    let mut answer = answer_of(rt, alloc, refuse, value, &[]);
+    made(rt, answer.holds.resize(slot, 0));
+    made(rt, answer.holds.push(hold));
+    answer
 }
 
 /// What is asked, the word that is read, how the frame is broken, and what is seen of it.
@@ -250,43 +233,27 @@ static BROKEN: [BrokenFrame; 7] = [
     ),
 ];
 
-fn all_show_broken(rt: &impl Abort, alloc: Global, rows: &[BrokenFrame]) -> Option<()> {
-    for (asked, value, how, want) in rows {
-        let answer = broken(alloc, *value, *how).ok()?;
-        shows(rt, alloc, *asked, &answer, *want)?;
-    }
-    Some(())
-}
-
 #[test]
 fn refused_and_cut(rt: HostRuntime) {
-    same(&rt, all_show_broken(&rt, rt.alloc(), &BROKEN), Some(()));
+    for (asked, value, how, want) in &BROKEN {
+        let answer = broken(&rt, rt.alloc(), *value, *how);
+        shows(&rt, rt.alloc(), *asked, &answer, *want);
+    }
 }
 
 /// A Block Write of 255 bytes, each of them 0.
-fn longest_block(alloc: Global) -> Result<Message, SmbusFault> {
-    let mut message = message_of(alloc, (Form::BlockWrite, 0xD0, &[]))?;
-    message.out.resize(255, 0)?;
-    Ok(message)
-}
-
-/// How many bytes the longest block sends, and how many slots it has.
-fn longest_counts(alloc: Global) -> Result<(usize, usize), SmbusFault> {
-    let message = longest_block(alloc)?;
-    let answer = answer_of(alloc, None, 0, &[])?;
-    Ok((sent_count(&message), slot_count(&message, &answer)))
+fn longest_block(rt: &impl Abort, alloc: Global) -> Message {
+    let mut message = message_of(rt, alloc, (Form::BlockWrite, 0xD0, &[]));
+    made(rt, message.out.resize(255, 0));
+    message
 }
 
 #[test]
 fn longest_block_is_counted(rt: HostRuntime) {
-    same(&rt, longest_counts(rt.alloc()), Ok((258, 2323)));
+    let message = longest_block(&rt, rt.alloc());
+    same(&rt, sent_count(&message), 258);
+    same(&rt, slot_count(&message, &Answer::silent(rt.alloc())), 2323);
     same(&rt, most_slots(Form::BlockWrite, 255, 0), 2323);
-}
-
-/// How the longest block is driven.
-fn longest_driven(alloc: Global) -> Option<Driven> {
-    let answer = answer_of(alloc, None, 0, &[]).ok()?;
-    drive_frame(alloc, &longest_block(alloc).ok()?, &answer)
 }
 
 fn longest_text(alloc: Global) -> Result<String, AllocError> {
@@ -294,21 +261,24 @@ fn longest_text(alloc: Global) -> Result<String, AllocError> {
     format!(in alloc; "S 80A D0A FFA {zeros}P")
 }
 
-fn compare_longest(rt: &impl Abort, alloc: Global) -> Option<()> {
-    let driven = longest_driven(alloc)?;
-    let text = longest_text(alloc).ok()?;
-    compare(rt, alloc, &driven, (text.as_str(), 4648, None))
-}
-
 #[test]
 fn longest_block_write(rt: HostRuntime) {
-    same(&rt, compare_longest(&rt, rt.alloc()), Some(()));
+    let alloc = rt.alloc();
+    let text = made(&rt, longest_text(alloc));
+    let answer = Answer::silent(alloc);
+    let driven = drive_frame(&rt, alloc, &longest_block(&rt, alloc), &answer);
+    compare(&rt, alloc, &driven, (&text, 4648, None));
 }
 
-fn slots_of(alloc: Global, asked: Asked, refuse: Option<u16>) -> Result<Vec<Slot>, SmbusFault> {
-    let message = message_of(alloc, asked)?;
-    let answer = answer_of(alloc, refuse, 0, &[])?;
-    frame_slots(alloc, &message, &answer)
+/// Why a message has no frame, where a byte is refused.
+fn fault_of(
+    rt: &impl Abort,
+    alloc: Global,
+    asked: Asked,
+    refuse: Option<u16>,
+) -> Option<SmbusFault> {
+    let message = message_of(rt, alloc, asked);
+    frame_slots(alloc, &message, &answer_of(rt, alloc, refuse, 0, &[])).err()
 }
 
 const EMPTY: Asked = (Form::BlockWrite, 0xD0, &[]);
@@ -322,15 +292,12 @@ static UNFRAMED: [(Asked, Option<u16>, SmbusFault); 3] = [
     (EMPTY, Some(3), SmbusFault::BadData),
 ];
 
-fn none_has_slots(rt: &impl Abort, alloc: Global, rows: &[(Asked, Option<u16>, SmbusFault)]) {
-    for (asked, refuse, want) in rows {
-        same(rt, slots_of(alloc, *asked, *refuse).err(), Some(*want));
-    }
-}
-
 #[test]
 fn no_slots(rt: HostRuntime) {
-    none_has_slots(&rt, rt.alloc(), &UNFRAMED);
+    for (asked, refuse, want) in &UNFRAMED {
+        let fault = fault_of(&rt, rt.alloc(), *asked, *refuse);
+        same(&rt, (*asked, fault), (*asked, Some(*want)));
+    }
 }
 
 #[test]

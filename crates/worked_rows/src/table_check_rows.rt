@@ -1,11 +1,11 @@
 //! The checker by its calls: what is to blame where a table isn't accepted.
 
-use crate::boards::two_board;
-use crate::expected::same;
+use crate::boards::{boxed, two_board};
+use crate::expected::{made, same};
 use board::Board;
 use fact_search::find;
 use facts::{Misfit, RowPart, Span, Unheld, Violation};
-use seq_program::{Program, read_program};
+use seq_program::read_program;
 use std::alloc::Global;
 use std::process::Abort;
 use std::test::*;
@@ -57,26 +57,14 @@ fn changed(mut table: Table, change: Change) -> Table {
     table
 }
 
-/// The judgement on the changed table, if the verdict is the same.
-fn judged_on(alloc: Global, board: &Board, program: &Program, change: Change) -> Option<Judgement> {
-    let table = changed(find(alloc, board, program).ok()?, change);
-    let judgement = judge(alloc, board, program, &table).ok()?;
-    let verdict = check(alloc, board, program, &table).ok()?;
-    if judgement.verdict() == verdict {
-        Some(judgement)
-    } else {
-        None
-    }
-}
-
-fn judged_with(alloc: Global, board: &Board, text: &str, change: Change) -> Option<Judgement> {
-    let program = read_program(alloc, board, text).ok()?;
-    judged_on(alloc, board, &program, change)
-}
-
-fn judged(alloc: Global, text: &str, change: Change) -> Option<Judgement> {
-    let board = two_board(alloc).ok()?;
-    judged_with(alloc, &board, text, change)
+/// The judgement on the changed table. The verdict is the same.
+fn judged(rt: &impl Abort, alloc: Global, board: &Board, text: &str, change: Change) -> Judgement {
+    let program = made(rt, read_program(alloc, board, text));
+    let table = changed(made(rt, find(alloc, board, &program)), change);
+    let judgement = made(rt, judge(alloc, board, &program, &table));
+    let verdict = made(rt, check(alloc, board, &program, &table));
+    same(rt, judgement.verdict(), verdict);
+    judgement
 }
 
 /// A change of the table for a program, the first place that breaks a rule, and what is to blame.
@@ -138,25 +126,19 @@ static BLAMED: [Blamed; 9] = [
     ),
 ];
 
-/// Tries each.
-fn all_blamed(rt: &impl Abort, alloc: Global, rows: &[Blamed]) {
-    for (text, change, place, breach) in rows {
-        let refusal = Refusal {
-            place: *place,
-            breach: *breach,
-        };
-        let want = Some(Judgement::Refused(refusal));
-        same(rt, judged(alloc, text, *change), want);
-    }
-}
-
 #[test]
 fn tables_that_are_refused(rt: HostRuntime) {
-    all_blamed(&rt, rt.alloc(), &BLAMED);
-    let accepted = Judgement::Accepted { bound: 3 };
-    same(
-        &rt,
-        judged(rt.alloc(), WAIT, Change::Nothing),
-        Some(accepted),
-    );
+    let alloc = rt.alloc();
+    let board = boxed(&rt, alloc, two_board(alloc));
+    for (text, change, place, breach) in &BLAMED {
+        let (place, breach) = (*place, *breach);
+        let judgement = judged(&rt, alloc, &board, text, *change);
+        same(
+            &rt,
+            judgement,
+            Judgement::Refused(Refusal { place, breach }),
+        );
+    }
+    let judgement = judged(&rt, alloc, &board, WAIT, Change::Nothing);
+    same(&rt, judgement, Judgement::Accepted { bound: 3 });
 }

@@ -1,67 +1,57 @@
-use crate::boards::{alert_board, range_board};
-use crate::expected::same;
+use crate::boards::{alert_board, boxed, range_board};
+use crate::expected::{made, same};
 use crate::runs::answer_of;
-use board::{Board, BoardFault};
+use board::Board;
 use smbus::{Answer, Form, Message};
-use std::alloc::{AllocError, Global};
+use std::alloc::Global;
 use std::process::Abort;
 use std::test::*;
 use targets::{BusState, Outcome, after, after_into, fits, starts, value_goes_out};
 
 pub(crate) fn state_of(
+    rt: &impl Abort,
     alloc: Global,
     pages: &[u8],
     protects: &[u8],
     alerting: u16,
-) -> Result<BusState, BoardFault> {
-    Ok(BusState {
-        page: pages.to_vec(alloc)?,
-        protect: protects.to_vec(alloc)?,
+) -> BusState {
+    BusState {
+        page: made(rt, pages.to_vec(alloc)),
+        protect: made(rt, protects.to_vec(alloc)),
         alerting,
         lost: 0,
-    })
+    }
 }
 
 /// The index of the target, the form, the code and the bytes of a message.
 pub(crate) type Asked = (usize, Form, u8, &'static [u8]);
 
-pub(crate) fn message_of(alloc: Global, asked: Asked) -> Result<Message, BoardFault> {
+pub(crate) fn message_of(rt: &impl Abort, alloc: Global, asked: Asked) -> Message {
     let (target, form, code, out) = asked;
     let address = match form {
         Form::Alert => 0x0C,
         _ => { if target == 0 { 0x40 } else { 0x41 } }
     };
-    Ok(Message {
+    let out = made(rt, out.to_vec(alloc));
+    Message {
         address,
         form,
         code,
-        out: out.to_vec(alloc)?,
-    })
+        out,
+    }
 }
 
 /// What a message and its answer leave, of a state that has room for one more lost arbitration.
 pub(crate) fn left_by(
+    rt: &impl Abort,
     alloc: Global,
     board: &Board,
     state: &BusState,
     message: &Message,
     answer: &Answer,
-) -> Result<(BusState, Outcome), BoardFault> {
-    if state.lost == 65535 {
-        return Err(AllocError.into());
-    }
-    Ok(after(alloc, board, state, Some(message), answer)?)
-}
-
-fn may_start(
-    alloc: Global,
-    board: &Board,
-    pages: &[u8],
-    protects: &[u8],
-    alerting: u16,
-) -> Result<bool, BoardFault> {
-    let state = state_of(alloc, pages, protects, alerting)?;
-    Ok(starts(board, &state))
+) -> (BusState, Outcome) {
+    assert!(rt; state.lost < 65535);
+    made(rt, after(alloc, board, state, Some(message), answer))
 }
 
 /// The pages, the protections and who alerts, and whether a run may start so.
@@ -75,37 +65,31 @@ static STARTS: [Start; 5] = [
     (&[0], &[0], 0, false),
 ];
 
-fn all_may_start(rt: &impl Abort, alloc: Global, rows: &[Start]) -> Result<(), BoardFault> {
-    let board = range_board(alloc)?;
-    for row in rows {
-        let (pages, protects, alerting, want) = *row;
-        let is_start = may_start(alloc, &board, pages, protects, alerting);
-        same(rt, (*row, is_start), (*row, Ok(want)));
-    }
-    Ok(())
-}
-
 #[test]
 fn runs_start_where_the_board_says(rt: HostRuntime) {
-    same(&rt, all_may_start(&rt, rt.alloc(), &STARTS), Ok(()));
+    let alloc = rt.alloc();
+    let board = boxed(&rt, alloc, range_board(alloc));
+    for row in &STARTS {
+        let (pages, protects, alerting, want) = *row;
+        let state = state_of(&rt, alloc, pages, protects, alerting);
+        same(&rt, (*row, starts(&board, &state)), (*row, want));
+    }
 }
 
 /// Whether an answer to an alert response fits, who alerts after it, and how it ends.
 type Responded = (bool, u16, Outcome);
 
-fn respond(
+fn responded(
+    rt: &impl Abort,
     alloc: Global,
     board: &Board,
-    alerting: u16,
-    refuse: Option<u16>,
-    value: u16,
-) -> Result<Responded, BoardFault> {
-    let state = state_of(alloc, &[0, 0], &[0, 0], alerting)?;
-    let message = message_of(alloc, (0, Form::Alert, 0, &[]))?;
-    let answer = answer_of(alloc, (value, refuse, 0));
-    let is_fitting = fits(board, &state, Some(&message), &answer);
-    let (new, outcome) = left_by(alloc, board, &state, &message, &answer)?;
-    Ok((is_fitting, new.alerting, outcome))
+    state: &BusState,
+    answer: &Answer,
+) -> Responded {
+    let message = message_of(rt, alloc, (0, Form::Alert, 0, &[]));
+    let is_fitting = fits(board, state, Some(&message), answer);
+    let (new, outcome) = left_by(rt, alloc, board, state, &message, answer);
+    (is_fitting, new.alerting, outcome)
 }
 
 /// Who alerts, the refused byte and the value of an answer, and what becomes of it.
@@ -119,54 +103,61 @@ static RESPONSES: [Response; 5] = [
     (3, Some(0), 0, (false, 3, Outcome::NotAcknowledged)),
 ];
 
-fn all_respond(rt: &impl Abort, alloc: Global, rows: &[Response]) -> Result<(), BoardFault> {
-    let board = alert_board(alloc)?;
-    for row in rows {
-        let (alerting, refuse, value, want) = *row;
-        let responded = respond(alloc, &board, alerting, refuse, value);
-        same(rt, (*row, responded), (*row, Ok(want)));
-    }
-    Ok(())
-}
-
 #[test]
 fn lowest_address_answers_the_alert(rt: HostRuntime) {
-    same(&rt, all_respond(&rt, rt.alloc(), &RESPONSES), Ok(()));
+    let alloc = rt.alloc();
+    let board = boxed(&rt, alloc, alert_board(alloc));
+    for row in &RESPONSES {
+        let (alerting, refuse, value, want) = *row;
+        let state = state_of(&rt, alloc, &[0, 0], &[0, 0], alerting);
+        let answer = answer_of(alloc, (value, refuse, 0));
+        let seen = responded(&rt, alloc, &board, &state, &answer);
+        same(&rt, (*row, seen), (*row, want));
+    }
 }
 
+/// What is left by a step that sends nothing, which is done.
+fn after_silence(
+    rt: &impl Abort,
+    alloc: Global,
+    board: &Board,
+    state: &BusState,
+    answer: &Answer,
+) -> BusState {
+    let mut new = state_of(rt, alloc, &[1, 2, 3], &[0x80], 3);
+    let outcome = made(rt, after_into(&mut new, board, state, None, answer));
+    same(rt, outcome, Outcome::Done(0));
+    new
+}
+
+/// Who alerts after such a step, which keeps pages and protections.
 fn alerting_after_silence(
+    rt: &impl Abort,
     alloc: Global,
     board: &Board,
     alerting: u16,
     alerts: u16,
-) -> Result<Option<u16>, BoardFault> {
-    let state = state_of(alloc, &[0xFF, 0], &[0, 0x20], alerting)?;
+) -> u16 {
+    let state = state_of(rt, alloc, &[0xFF, 0], &[0, 0x20], alerting);
     let answer = answer_of(alloc, (0, None, alerts));
-    let mut new = state_of(alloc, &[1, 2, 3], &[0x80], 3)?;
-    let outcome = after_into(&mut new, board, &state, None, &answer)?;
-    let is_kept = new.page.as_slice() == [0xFF, 0].as_slice()
-        && new.protect.as_slice() == [0, 0x20].as_slice()
-        && outcome == Outcome::Done(0);
-    Ok(is_kept.then_some(new.alerting))
+    let new = after_silence(rt, alloc, board, &state, &answer);
+    same(rt, new.page.as_slice(), [0xFF, 0].as_slice());
+    same(rt, new.protect.as_slice(), [0, 0x20].as_slice());
+    new.alerting
 }
 
 /// Who alerts before a step that sends nothing, who begins to, and who alerts after it.
 static SILENCES: [(u16, u16, u16); 5] = [(0, 0, 0), (0, 3, 3), (1, 2, 3), (2, 0, 2), (3, 1, 3)];
 
-fn all_join(rt: &impl Abort, alloc: Global, rows: &[(u16, u16, u16)]) -> Result<(), BoardFault> {
-    let board = alert_board(alloc)?;
-    for row in rows {
-        let (alerting, alerts, want) = *row;
-        let after = alerting_after_silence(alloc, &board, alerting, alerts);
-        same(rt, (*row, after), (*row, Ok(Some(want))));
-    }
-    Ok(())
-}
-
-/// Such a step is done, and keeps pages and protections.
 #[test]
 fn alerts_join_where_nothing_is_sent(rt: HostRuntime) {
-    same(&rt, all_join(&rt, rt.alloc(), &SILENCES), Ok(()));
+    let alloc = rt.alloc();
+    let board = boxed(&rt, alloc, alert_board(alloc));
+    for row in &SILENCES {
+        let (alerting, alerts, want) = *row;
+        let after = alerting_after_silence(&rt, alloc, &board, alerting, alerts);
+        same(&rt, (*row, after), (*row, want));
+    }
 }
 
 /// What an answer says: the byte of the controller that it refuses, the slot in which it holds the
@@ -176,15 +167,15 @@ pub(crate) type Said = (Option<u16>, Option<usize>, bool);
 /// An answer that refuses nothing and holds no clock.
 pub(crate) const DONE: Said = (None, None, false);
 
-pub(crate) fn said_answer(alloc: Global, said: Said) -> Result<Answer, BoardFault> {
+pub(crate) fn said_answer(rt: &impl Abort, alloc: Global, said: Said) -> Answer {
     let (refuse, slot, took) = said;
     let mut answer = answer_of(alloc, (0, refuse, 0));
     if let Some(slot) = slot {
-        answer.holds.resize(slot, 0)?;
-        answer.holds.push(5000)?;
+        made(rt, answer.holds.resize(slot, 0));
+        made(rt, answer.holds.push(5000));
     }
     answer.took = took;
-    Ok(answer)
+    answer
 }
 
 /// The code that is written, the stored protection, the value, and what the answer says.
@@ -194,38 +185,39 @@ type Write = (u8, u8, u8, Said);
 /// how it ends.
 type Written = (bool, Option<u8>, Option<u8>, Outcome);
 
-fn written(alloc: Global, board: &Board, write: Write) -> Result<Written, BoardFault> {
-    let (code, protect, value, said) = write;
-    let state = state_of(alloc, &[0, 0], &[protect, 0], 0)?;
-    let mut message = message_of(alloc, (0, Form::WriteByte, code, &[]))?;
-    message.out.push(value)?;
-    let answer = said_answer(alloc, said)?;
-    let is_fitting = fits(board, &state, Some(&message), &answer);
-    let (new, outcome) = left_by(alloc, board, &state, &message, &answer)?;
+fn byte_write(rt: &impl Abort, alloc: Global, code: u8, value: u8) -> Message {
+    let mut message = message_of(rt, alloc, (0, Form::WriteByte, code, &[]));
+    made(rt, message.out.push(value));
+    message
+}
+
+fn written(
+    rt: &impl Abort,
+    alloc: Global,
+    board: &Board,
+    state: &BusState,
+    message: &Message,
+    answer: &Answer,
+) -> Written {
+    let is_fitting = fits(board, state, Some(message), answer);
+    let (new, outcome) = left_by(rt, alloc, board, state, message, answer);
     let page = new.page.first().copied();
-    Ok((is_fitting, page, new.protect.first().copied(), outcome))
+    (is_fitting, page, new.protect.first().copied(), outcome)
 }
 
 /// A write, and the page and the protection of target a after it.
 type WriteRow = (Write, u8, u8);
 
-/// Every answer fits, and every write ends so.
-fn all_write(
-    rt: &impl Abort,
-    alloc: Global,
-    rows: &[WriteRow],
-    outcome: Outcome,
-) -> Result<(), BoardFault> {
-    let board = range_board(alloc)?;
-    for &(write, page, protect) in rows {
-        let want = (true, Some(page), Some(protect), outcome);
-        same(
-            rt,
-            (write, written(alloc, &board, write)),
-            (write, Ok(want)),
-        );
-    }
-    Ok(())
+/// The answer fits, and the write ends so.
+fn writes(rt: &impl Abort, alloc: Global, board: &Board, row: WriteRow, outcome: Outcome) {
+    let (write, page, protect) = row;
+    let (code, stored, value, said) = write;
+    let state = state_of(rt, alloc, &[0, 0], &[stored, 0], 0);
+    let message = byte_write(rt, alloc, code, value);
+    let answer = said_answer(rt, alloc, said);
+    let seen = written(rt, alloc, board, &state, &message, &answer);
+    let want = (true, Some(page), Some(protect), outcome);
+    same(rt, (write, seen), (write, want));
 }
 
 const PAGE: u8 = 0x00;
@@ -265,25 +257,23 @@ static CUT: [WriteRow; 5] = [
 
 #[test]
 fn acknowledged_writes_take_effect(rt: HostRuntime) {
-    same(
-        &rt,
-        all_write(&rt, rt.alloc(), &ACKNOWLEDGED, Outcome::Done(0)),
-        Ok(()),
-    );
+    let alloc = rt.alloc();
+    let board = boxed(&rt, alloc, range_board(alloc));
+    for row in &ACKNOWLEDGED {
+        writes(&rt, alloc, &board, *row, Outcome::Done(0));
+    }
 }
 
 #[test]
 fn refused_and_cut_values_may_be_taken(rt: HostRuntime) {
-    same(
-        &rt,
-        all_write(&rt, rt.alloc(), &REFUSED, Outcome::NotAcknowledged),
-        Ok(()),
-    );
-    same(
-        &rt,
-        all_write(&rt, rt.alloc(), &CUT, Outcome::TimedOut),
-        Ok(()),
-    );
+    let alloc = rt.alloc();
+    let board = boxed(&rt, alloc, range_board(alloc));
+    for row in &REFUSED {
+        writes(&rt, alloc, &board, *row, Outcome::NotAcknowledged);
+    }
+    for row in &CUT {
+        writes(&rt, alloc, &board, *row, Outcome::TimedOut);
+    }
 }
 
 /// What an answer to a Write Byte says, and whether the value's eight bits go out.
@@ -298,21 +288,17 @@ static VALUES: [(Said, bool); 8] = [
     ((None, Some(27), false), true),
 ];
 
-fn all_go_out(rt: &impl Abort, alloc: Global, rows: &[(Said, bool)]) -> Result<(), BoardFault> {
-    let message = message_of(alloc, (0, Form::WriteByte, 0x01, &[0x80]))?;
-    for &(said, goes_out) in rows {
-        let answer = said_answer(alloc, said)?;
-        same(
-            rt,
-            (said, value_goes_out(&message, &answer)),
-            (said, goes_out),
-        );
-    }
-    Ok(())
-}
-
 /// Not where the address or the code is refused, nor where a slot before its acknowledge is cut.
 #[test]
 fn values_go_out_up_to_their_last_bit(rt: HostRuntime) {
-    same(&rt, all_go_out(&rt, rt.alloc(), &VALUES), Ok(()));
+    let alloc = rt.alloc();
+    let message = byte_write(&rt, alloc, 0x01, 0x80);
+    for (said, want) in &VALUES {
+        let answer = said_answer(&rt, alloc, *said);
+        same(
+            &rt,
+            (*said, value_goes_out(&message, &answer)),
+            (*said, *want),
+        );
+    }
 }

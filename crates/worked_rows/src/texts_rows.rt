@@ -1,6 +1,6 @@
 use crate::devices::SlowWriter;
-use crate::expected::{holds, same, says};
-use std::alloc::{AllocError, Global};
+use crate::expected::{holds, made, same};
+use std::alloc::Global;
 use std::process::Abort;
 use texts::{
     CutShort, ReadError, comment_in, cut_at_space, decimal_within, first_by_feed, first_line,
@@ -19,15 +19,11 @@ static CUT_AT_RETURNS: [Cut; 5] = [
     ("", None),
 ];
 
-fn each_is_cut(rt: &impl Abort, rows: &[Cut]) {
-    for row in rows {
-        same(rt, (row.0, first_line(row.0)), *row);
-    }
-}
-
 #[test]
 fn lines_that_end_at_a_return_and_a_feed(rt: HostRuntime) {
-    each_is_cut(&rt, &CUT_AT_RETURNS);
+    for row in &CUT_AT_RETURNS {
+        same(&rt, (row.0, first_line(row.0)), *row);
+    }
 }
 
 #[test]
@@ -63,9 +59,10 @@ fn lines_cut_at_a_comment(rt: HostRuntime) {
 
 #[test]
 fn words_between_spaces(rt: HostRuntime) {
-    let words = words_of(rt.alloc(), "  write a  PAGE\t1 ");
+    let alloc = rt.alloc();
+    let words = words_of(alloc, "  write a  PAGE\t1 ");
     holds(&rt, words, &["write", "a", "PAGE\t1"]);
-    holds(&rt, words_of(rt.alloc(), "   "), &[]);
+    holds(&rt, words_of(alloc, "   "), &[]);
 }
 
 /// A text, the greatest number that it may spell, and the number that it spells.
@@ -83,15 +80,11 @@ static DECIMALS: [Decimal; 9] = [
     ("18446744073709551616", u64::MAX, None),
 ];
 
-fn each_is_within(rt: &impl Abort, rows: &[Decimal]) {
-    for row in rows {
-        same(rt, (row.0, row.1, decimal_within(row.0, row.1)), *row);
-    }
-}
-
 #[test]
 fn decimals(rt: HostRuntime) {
-    each_is_within(&rt, &DECIMALS);
+    for row in &DECIMALS {
+        same(&rt, (row.0, row.1, decimal_within(row.0, row.1)), *row);
+    }
 }
 
 /// A text, and what it spells as a pair of digits and as a number.
@@ -109,63 +102,43 @@ static DIGITS: [Digits; 9] = [
     ("", (None, None)),
 ];
 
-fn each_is_read(rt: &impl Abort, rows: &[Digits]) {
-    for (text, want) in rows {
-        same(
-            rt,
-            (*text, (pair_of(text), hex_number(text))),
-            (*text, *want),
-        );
-    }
-}
-
 #[test]
 fn pairs_and_numbers(rt: HostRuntime) {
-    each_is_read(&rt, &DIGITS);
+    for row in &DIGITS {
+        same(&rt, (row.0, (pair_of(row.0), hex_number(row.0))), *row);
+    }
 }
 
 /// Tries the bytes that pairs of digits spell.
-fn spells(rt: &impl Abort, seen: Result<Option<Vec<u8>>, AllocError>, want: Option<&[u8]>) {
-    match seen {
-        Ok(bytes) => same(rt, bytes.as_deref(), want),
-        Err(_) => panic!(rt; "no memory"),
-    }
+fn spells(rt: &impl Abort, alloc: Global, text: &str, want: Option<&[u8]>) {
+    let bytes = made(rt, pairs_of(alloc, text));
+    same(rt, (text, bytes.as_deref()), (text, want));
 }
 
 #[test]
 fn bytes_of_pairs(rt: HostRuntime) {
-    spells(
-        &rt,
-        pairs_of(rt.alloc(), "009911FF"),
-        Some(&[0x00, 0x99, 0x11, 0xFF]),
-    );
-    spells(&rt, pairs_of(rt.alloc(), ""), Some(&[]));
+    let alloc = rt.alloc();
+    let bytes = [0x00, 0x99, 0x11, 0xFF];
+    spells(&rt, alloc, "009911FF", Some(&bytes));
+    spells(&rt, alloc, "", Some(&[]));
 }
 
 /// Texts that aren't pairs of digits.
 static NO_PAIRS: [&str; 4] = ["009", "0g", "a0", "00 11"];
 
-fn none_spells(rt: &impl Abort, alloc: Global, texts: &[&str]) {
-    for text in texts {
-        spells(rt, pairs_of(alloc, text), None);
+#[test]
+fn no_pairs(rt: HostRuntime) {
+    for text in &NO_PAIRS {
+        spells(&rt, rt.alloc(), text, None);
     }
 }
 
 #[test]
-fn no_pairs(rt: HostRuntime) {
-    none_spells(&rt, rt.alloc(), &NO_PAIRS);
-}
-
-fn digits_of(alloc: Global, byte: u8, word: u16) -> Result<String, AllocError> {
-    let mut text = String::from_str(alloc, "S ")?;
-    push_pair(&mut text, byte)?;
-    push_word(&mut text, word)?;
-    Ok(text)
-}
-
-#[test]
 fn printed_digits(rt: HostRuntime) {
-    says(&rt, digits_of(rt.alloc(), 0x8A, 0x0840), "S 8A0840");
+    let mut text = made(&rt, String::from_str(rt.alloc(), "S "));
+    made(&rt, push_pair(&mut text, 0x8A));
+    made(&rt, push_word(&mut text, 0x0840));
+    same(&rt, text.as_str(), "S 8A0840");
 }
 
 static NAMES: [&str; 4] = ["a", "va", "poll_2", "abcdefghijklmnopqrstuvwxyz_12345"];
@@ -180,16 +153,14 @@ static NO_NAMES: [&str; 7] = [
     "abcdefghijklmnopqrstuvwxyz_123456",
 ];
 
-fn each_is_name(rt: &impl Abort, texts: &[&str], want: bool) {
-    for text in texts {
-        same(rt, (*text, is_name(text)), (*text, want));
-    }
-}
-
 #[test]
 fn names(rt: HostRuntime) {
-    each_is_name(&rt, &NAMES, true);
-    each_is_name(&rt, &NO_NAMES, false);
+    for text in &NAMES {
+        same(&rt, (*text, is_name(text)), (*text, true));
+    }
+    for text in &NO_NAMES {
+        same(&rt, (*text, is_name(text)), (*text, false));
+    }
 }
 
 /// The length of a text of one letter. A push onto a text has an error of its own.
@@ -210,9 +181,10 @@ fn one_byte(alloc: Global, byte: Option<u8>) -> Result<Option<u8>, ReadError<u8>
 
 #[test]
 fn faults(rt: HostRuntime) {
-    same(&rt, one_letter(rt.alloc()), Ok(1));
-    same(&rt, one_byte(rt.alloc(), Some(3)), Ok(Some(3)));
-    same(&rt, one_byte(rt.alloc(), None), Err(ReadError::Fault(7)));
+    let alloc = rt.alloc();
+    same(&rt, one_letter(alloc), Ok(1));
+    same(&rt, one_byte(alloc, Some(3)), Ok(Some(3)));
+    same(&rt, one_byte(alloc, None), Err(ReadError::Fault(7)));
 }
 
 /// Sends a text through a writer that takes so many bytes.
@@ -234,8 +206,9 @@ fn is_sent(
 
 #[test]
 fn texts_are_sent_whole_or_cut_short(rt: HostRuntime) {
-    is_sent(&rt, rt.alloc(), 0, Err(CutShort), b"");
-    is_sent(&rt, rt.alloc(), 2, Err(CutShort), b"fr");
-    is_sent(&rt, rt.alloc(), 5, Ok(()), b"frame");
-    is_sent(&rt, rt.alloc(), 9, Ok(()), b"frame");
+    let alloc = rt.alloc();
+    is_sent(&rt, alloc, 0, Err(CutShort), b"");
+    is_sent(&rt, alloc, 2, Err(CutShort), b"fr");
+    is_sent(&rt, alloc, 5, Ok(()), b"frame");
+    is_sent(&rt, alloc, 9, Ok(()), b"frame");
 }

@@ -1,11 +1,12 @@
 //! Ways on which a rule may fail.
 
-use crate::boards::two_board;
-use crate::expected::same;
+use crate::boards::{boxed, two_board};
+use crate::expected::{found, made, same};
 use board::Board;
 use facts::Rule;
 use seq_program::read_program;
-use std::alloc::{AllocError, Global};
+use std::alloc::Global;
+use std::process::Abort;
 use std::test::*;
 use ways::{Search, Step, bad_way};
 
@@ -23,46 +24,47 @@ fail
 ";
 
 /// The places of a way.
-fn places_of(alloc: Global, way: &[Step]) -> Result<Vec<usize>, AllocError> {
+fn places_of(rt: &impl Abort, alloc: Global, way: &[Step]) -> Vec<usize> {
     let mut places = Vec::new(alloc);
     for step in way {
-        places.push(step.place)?;
+        made(rt, places.push(step.place));
     }
-    Ok(places)
+    places
 }
 
 /// The places of what a search found, and which edge leads to the last, of how many.
 type Found = (Vec<usize>, usize, usize);
 
-fn found_in(alloc: Global, search: &Search) -> Option<Found> {
+fn found_in(rt: &impl Abort, alloc: Global, search: &Search) -> Option<Found> {
     match search {
         Search::Found(way) => {
-            let last = way.last()?;
-            Some((places_of(alloc, way).ok()?, last.edge, last.edges))
+            let last = found(rt, way.last());
+            Some((places_of(rt, alloc, way), last.edge, last.edges))
         }
         Search::Nowhere | Search::Unknown => None,
     }
 }
 
-fn found_on(alloc: Global, board: &Board, place: usize, rule: Rule) -> Option<Found> {
-    let program = read_program(alloc, board, PROGRAM).ok()?;
-    let search = bad_way(alloc, board, &program, place, rule).ok()?;
-    found_in(alloc, &search)
-}
-
-fn found(alloc: Global, place: usize, rule: Rule) -> Option<Found> {
-    let board = two_board(alloc).ok()?;
-    found_on(alloc, &board, place, rule)
+fn found_on(
+    rt: &impl Abort,
+    alloc: Global,
+    board: &Board,
+    place: usize,
+    rule: Rule,
+) -> Option<Found> {
+    let program = made(rt, read_program(alloc, board, PROGRAM));
+    let search = made(rt, bad_way(alloc, board, &program, place, rule));
+    found_in(rt, alloc, &search)
 }
 
 /// The write of OPERATION stands at place 5; the second edge of the read leads there.
 #[test]
 fn ways_on_which_a_rule_fails(rt: HostRuntime) {
-    let way = match vec![in rt.alloc(); 0, 1, 2, 5] {
-        Ok(places) => Some((places, 1, 2)),
-        Err(_) => None,
-    };
-    same(&rt, found(rt.alloc(), 5, Rule::K5), way);
-    same(&rt, found(rt.alloc(), 5, Rule::K4), None);
-    same(&rt, found(rt.alloc(), 1, Rule::K5), None);
+    let alloc = rt.alloc();
+    let board = boxed(&rt, alloc, two_board(alloc));
+    let places = made(&rt, vec![in alloc; 0, 1, 2, 5]);
+    let way = found_on(&rt, alloc, &board, 5, Rule::K5);
+    same(&rt, way, Some((places, 1, 2)));
+    same(&rt, found_on(&rt, alloc, &board, 5, Rule::K4), None);
+    same(&rt, found_on(&rt, alloc, &board, 1, Rule::K5), None);
 }

@@ -2,8 +2,8 @@
 
 mod waves;
 
-use crate::expected::{holds, same};
-use std::alloc::{AllocError, Global};
+use crate::expected::{holds, made, same};
+use std::alloc::Global;
 use std::process::Abort;
 use std::test::*;
 use wires::{Event, Runs, Sample, arbitrate, event_between, events, events_of, wired};
@@ -64,13 +64,13 @@ fn falling_lines(rt: HostRuntime) {
 type Ticks = (Sample, u64);
 
 /// A few short runs, one behind the other.
-fn runs_of(rt: &impl Abort, alloc: Global, parts: &[Ticks]) -> Result<Runs, AllocError> {
+fn runs_of(rt: &impl Abort, alloc: Global, parts: &[Ticks]) -> Runs {
     let mut runs = Runs::new(alloc);
     for (sample, ticks) in parts {
         assert!(rt; runs.total().max(*ticks) < 1000);
-        runs.push(*sample, *ticks)?;
+        made(rt, runs.push(*sample, *ticks));
     }
-    Ok(runs)
+    runs
 }
 
 const LOW: Sample = Sample {
@@ -93,39 +93,25 @@ static HELD_SAMPLES: [(u64, Option<Sample>); 7] = [
     (16, None),
 ];
 
-fn each_is_at(rt: &impl Abort, samples: Result<Runs, AllocError>, rows: &[(u64, Option<Sample>)]) {
-    let Ok(samples) = samples else {
-        panic!(rt; "no memory");
-    };
-    for row in rows {
-        same(rt, (row.0, samples.sample_at(row.0)), *row);
+#[test]
+fn samples_of_runs(rt: HostRuntime) {
+    let samples = runs_of(&rt, rt.alloc(), &HELD_LOW);
+    for (place, want) in &HELD_SAMPLES {
+        same(&rt, (*place, samples.sample_at(*place)), (*place, *want));
     }
 }
 
-#[test]
-fn samples_of_runs(rt: HostRuntime) {
-    each_is_at(&rt, runs_of(&rt, rt.alloc(), &HELD_LOW), &HELD_SAMPLES);
-}
-
 /// Tries the number of samples and of runs, and the events.
-fn compare(
-    rt: &impl Abort,
-    alloc: Global,
-    runs: Result<Runs, AllocError>,
-    counts: (u64, usize),
-    want: &[Event],
-) {
-    let Ok(runs) = runs else {
-        panic!(rt; "no memory");
-    };
+fn compare(rt: &impl Abort, alloc: Global, runs: &Runs, counts: (u64, usize), want: &[Event]) {
     same(rt, (runs.total(), runs.runs().len()), counts);
-    holds(rt, events_of(alloc, &runs), want);
+    holds(rt, events_of(alloc, runs), want);
 }
 
 #[test]
 fn equal_samples_are_one_run(rt: HostRuntime) {
-    let samples = runs_of(&rt, rt.alloc(), &HELD_LOW);
-    compare(&rt, rt.alloc(), samples, (16, 3), &[Event::Rise(true)]);
+    let alloc = rt.alloc();
+    let samples = runs_of(&rt, alloc, &HELD_LOW);
+    compare(&rt, alloc, &samples, (16, 3), &[Event::Rise(true)]);
 }
 
 #[test]
@@ -135,77 +121,60 @@ fn new_runs_have_no_samples(rt: HostRuntime) {
 }
 
 /// A START and a bit behind idle samples, appended where there is room for them.
-fn appended(rt: &impl Abort, alloc: Global) -> Result<Runs, AllocError> {
-    let mut idle = runs_of(rt, alloc, &[(IDLE, 3)])?;
+fn appended(rt: &impl Abort, alloc: Global) -> Runs {
+    let mut idle = runs_of(rt, alloc, &[(IDLE, 3)]);
     assert!(rt; idle.total() < 1000);
-    let mut levels = idle.take_with_room(3)?;
+    let Ok(mut levels) = idle.take_with_room(3) else {
+        panic!(rt; "no memory");
+    };
     levels.push(lines(true, false), 1);
     levels.push_clock(true, true, 2);
-    Ok(levels.into_runs())
+    levels.into_runs()
 }
 
 #[test]
 fn a_clock_is_appended(rt: HostRuntime) {
-    let samples = appended(&rt, rt.alloc());
-    compare(
-        &rt,
-        rt.alloc(),
-        samples,
-        (7, 4),
-        &[Event::Start, Event::Rise(true)],
-    );
-}
-
-fn joined(rt: &impl Abort, alloc: Global) -> Result<Runs, AllocError> {
-    let first = runs_of(rt, alloc, &[(lines(true, false), 1), (IDLE, 1)])?;
-    let later = runs_of(rt, alloc, &[(IDLE, 4)])?;
-    assert!(rt; first.total().max(later.total()) < 1000);
-    Runs::joined(alloc, &first, &later)
+    let alloc = rt.alloc();
+    let samples = appended(&rt, alloc);
+    let want = [Event::Start, Event::Rise(true)];
+    compare(&rt, alloc, &samples, (7, 4), &want);
 }
 
 #[test]
 fn runs_are_joined(rt: HostRuntime) {
-    let both = joined(&rt, rt.alloc());
-    compare(&rt, rt.alloc(), both, (6, 2), &[Event::Stop]);
-}
-
-fn clears(rt: &impl Abort, alloc: Global) -> Result<(), AllocError> {
-    let mut samples = runs_of(rt, alloc, &HELD_LOW)?;
-    samples.clear();
-    same(rt, (samples.total(), samples.runs().len()), (0, 0));
-    samples.push(IDLE, 2)?;
-    same(rt, (samples.total(), samples.sample_at(1)), (2, Some(IDLE)));
-    Ok(())
+    let alloc = rt.alloc();
+    let first = runs_of(&rt, alloc, &[(lines(true, false), 1), (IDLE, 1)]);
+    let later = runs_of(&rt, alloc, &[(IDLE, 4)]);
+    assert!(rt; first.total().max(later.total()) < 1000);
+    let both = made(&rt, Runs::joined(alloc, &first, &later));
+    compare(&rt, alloc, &both, (6, 2), &[Event::Stop]);
 }
 
 #[test]
 fn cleared_runs_have_no_samples(rt: HostRuntime) {
-    same(&rt, clears(&rt, rt.alloc()), Ok(()));
+    let mut samples = runs_of(&rt, rt.alloc(), &HELD_LOW);
+    samples.clear();
+    same(&rt, (samples.total(), samples.runs().len()), (0, 0));
+    made(&rt, samples.push(IDLE, 2));
+    same(
+        &rt,
+        (samples.total(), samples.sample_at(1)),
+        (2, Some(IDLE)),
+    );
 }
 
-/// The byte that is read, and who sent it.
-type Won<'a> = (u8, &'a [usize]);
-
-/// Tries who won, if anybody sent.
-fn wins(
-    rt: &impl Abort,
-    seen: Result<Option<(u8, Vec<usize>)>, AllocError>,
-    want: Option<Won<'_>>,
-) {
-    match seen {
-        Ok(Some((byte, winners))) => same(rt, Some((byte, winners.as_slice())), want),
-        Ok(None) => same(rt, None, want),
-        Err(_) => panic!(rt; "no memory"),
+/// Tries the byte that is read and who sent it, where somebody sends.
+fn wins(rt: &impl Abort, alloc: Global, sent: &[u8], byte: u8, winners: &[usize]) {
+    match made(rt, arbitrate(alloc, sent)) {
+        Some((read, won)) => same(rt, (read, won.as_slice()), (byte, winners)),
+        None => panic!(rt; "nobody won over {byte}"),
     }
 }
 
 #[test]
 fn lowest_byte_wins(rt: HostRuntime) {
-    wins(
-        &rt,
-        arbitrate(rt.alloc(), &[0x80, 0x42]),
-        Some((0x42, &[1])),
-    );
-    wins(&rt, arbitrate(rt.alloc(), &[5, 5]), Some((5, &[0, 1])));
-    wins(&rt, arbitrate(rt.alloc(), &[]), None);
+    let alloc = rt.alloc();
+    wins(&rt, alloc, &[0x80, 0x42], 0x42, &[1]);
+    wins(&rt, alloc, &[5, 5], 5, &[0, 1]);
+    same(&rt, made(&rt, arbitrate(alloc, &[])).is_some(), false);
 }

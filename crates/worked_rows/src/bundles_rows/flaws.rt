@@ -1,9 +1,9 @@
 //! Lines that are no message, no answer or no seed: the field or the word that is to blame, and how
 //! many words the line has from it on.
 
-use crate::expected::{same, says};
-use bundles::{BundleFault, Exchange, Flaw, Key, answer_line_of, exchange_in, read_bundle};
-use std::alloc::{AllocError, Global};
+use crate::expected::{found, made, same};
+use bundles::{BundleFault, Flaw, Key, answer_line_of, exchange_in, read_bundle};
+use std::alloc::Global;
 use std::process::Abort;
 use std::test::*;
 use texts::ReadError;
@@ -66,17 +66,13 @@ static ANSWERS: [(&str, Flaw); 46] = [
     ),
 ];
 
-fn all_are_bad(rt: &impl Abort, alloc: Global, rows: &[(&str, Flaw)]) {
-    for (line, flaw) in rows {
-        let fault = answer_line_of(alloc, 7, line).err();
-        let want = Some(BundleFault::BadAnswer(7, *flaw).error());
-        same(rt, (*line, fault), (*line, want));
-    }
-}
-
 #[test]
 fn bad_answer_lines(rt: HostRuntime) {
-    all_are_bad(&rt, rt.alloc(), &ANSWERS);
+    for (line, flaw) in &ANSWERS {
+        let fault = answer_line_of(rt.alloc(), 7, line).err();
+        let want = Some(BundleFault::BadAnswer(7, *flaw).error());
+        same(&rt, (*line, fault), (*line, want));
+    }
 }
 
 /// What stands below `%message` on the second line, and the line of its fault with its flaw.
@@ -127,53 +123,38 @@ static MESSAGES: [(&str, usize, Flaw); 12] = [
     ),
 ];
 
-/// The message of a bundle of one.
-fn message_of(alloc: Global, text: &str) -> Result<Exchange, ReadError<BundleFault>> {
-    let bundle = read_bundle(alloc, text)?;
-    match bundle.sections.first() {
-        Some(section) => exchange_in(alloc, section),
-        None => Err(BundleFault::NoCommand.error()),
-    }
-}
-
 /// The fault of the message that stands below its header.
-fn fault_below(alloc: Global, below: &str) -> Result<Option<ReadError<BundleFault>>, AllocError> {
-    let text = format!(in alloc; "%frame\n%message{below}")?;
-    Ok(message_of(alloc, &text).err())
-}
-
-fn all_have_flaws(
-    rt: &impl Abort,
-    alloc: Global,
-    rows: &[(&str, usize, Flaw)],
-) -> Result<(), AllocError> {
-    for (below, line, flaw) in rows {
-        let fault = fault_below(alloc, below)?;
-        let want = Some(BundleFault::BadMessage(*line, *flaw).error());
-        same(rt, (*below, fault), (*below, want));
-    }
-    Ok(())
+fn fault_below(rt: &impl Abort, alloc: Global, below: &str) -> Option<ReadError<BundleFault>> {
+    let text = made(rt, format!(in alloc; "%frame\n%message{below}"));
+    let bundle = made(rt, read_bundle(alloc, &text));
+    let exchange = exchange_in(alloc, found(rt, bundle.sections.first()));
+    drop(bundle);
+    exchange.err()
 }
 
 #[test]
 fn bad_messages(rt: HostRuntime) {
-    same(&rt, all_have_flaws(&rt, rt.alloc(), &MESSAGES), Ok(()));
+    for (below, line, flaw) in &MESSAGES {
+        let fault = fault_below(&rt, rt.alloc(), below);
+        let want = Some(BundleFault::BadMessage(*line, *flaw).error());
+        same(&rt, (*below, fault), (*below, want));
+    }
 }
 
-/// The keys as the words begin, with a space between them.
-fn spelled(alloc: Global, keys: &[Key]) -> Result<String, AllocError> {
+/// Tries the keys as the words begin, with a space behind each.
+fn spells(rt: &impl Abort, alloc: Global, keys: &[Key], want: &str) {
     let mut text = String::new(alloc);
     for key in keys {
-        text.push_str(key.text())?;
-        text.push(' ')?;
+        made(rt, text.push_str(key.text()));
+        made(rt, text.push(' '));
     }
-    Ok(text)
+    same(rt, text.as_str(), want);
 }
 
 #[test]
 fn keys_in_their_order(rt: HostRuntime) {
     let want = "form= address= code= out= holds= refuse= value= bytes= ";
-    says(&rt, spelled(rt.alloc(), Key::of_messages()), want);
+    spells(&rt, rt.alloc(), Key::of_messages(), want);
     let want = "holds= refuse= value= bytes= took= alerts= contender= cholds= ";
-    says(&rt, spelled(rt.alloc(), Key::of_answers()), want);
+    spells(&rt, rt.alloc(), Key::of_answers(), want);
 }

@@ -1,9 +1,9 @@
 //! Answers that are written as lines, and texts of them.
 
-use crate::expected::{same, says};
+use crate::expected::{made, same};
 use bundles::{AnswersText, answer_line, can_be_said, is_one_line};
 use smbus::{Answer, Contender};
-use std::alloc::{AllocError, Global};
+use std::alloc::Global;
 use std::process::Abort;
 use std::test::*;
 
@@ -100,91 +100,91 @@ static ROWS: [Row; 12] = [
     },
 ];
 
-fn other_of(alloc: Global, other: Option<Other>) -> Result<Option<Contender>, AllocError> {
-    let Some((address, read, bytes, holds)) = other else {
-        return Ok(None);
-    };
-    Ok(Some(Contender {
+fn other_of(rt: &impl Abort, alloc: Global, other: Other) -> Contender {
+    let (address, read, bytes, holds) = other;
+    Contender {
         address: address.min(127),
         read,
-        bytes: bytes.to_vec(alloc)?,
-        holds: holds.to_vec(alloc)?,
-    }))
+        bytes: made(rt, bytes.to_vec(alloc)),
+        holds: made(rt, holds.to_vec(alloc)),
+    }
 }
 
-fn answer_of(alloc: Global, row: &Row) -> Result<Answer, AllocError> {
-    Ok(Answer {
-        holds: row.holds.to_vec(alloc)?,
+fn answer_of(rt: &impl Abort, alloc: Global, row: &Row) -> Answer {
+    let contender = match row.other {
+        Some(other) => Some(other_of(rt, alloc, other)),
+        None => None,
+    };
+    Answer {
+        holds: made(rt, row.holds.to_vec(alloc)),
         refuse: row.refuse,
         value: row.value,
-        bytes: row.bytes.to_vec(alloc)?,
+        bytes: made(rt, row.bytes.to_vec(alloc)),
         took: row.took,
         alerts: row.alerts,
-        contender: other_of(alloc, row.other)?,
-    })
+        contender,
+    }
 }
 
 /// The line of an answer, if it can be said.
-fn line_of(alloc: Global, row: &Row) -> Result<Option<String>, AllocError> {
-    let answer = answer_of(alloc, row)?;
-    if !can_be_said(&answer) {
-        return Ok(None);
-    }
-    Ok(Some(answer_line(alloc, &answer)?))
-}
-
-fn all_lines(rt: &impl Abort, alloc: Global, rows: &[Row]) -> Result<(), AllocError> {
-    for row in rows {
-        let line = line_of(alloc, row)?;
-        same(rt, line.as_deref(), row.line);
-    }
-    Ok(())
+fn line_of(rt: &impl Abort, alloc: Global, row: &Row) -> Option<String> {
+    let answer = answer_of(rt, alloc, row);
+    let line = if can_be_said(&answer) {
+        Some(made(rt, answer_line(alloc, &answer)))
+    } else {
+        None
+    };
+    drop(answer);
+    line
 }
 
 #[test]
 fn lines_of_answers(rt: HostRuntime) {
-    same(&rt, all_lines(&rt, rt.alloc(), &ROWS), Ok(()));
+    for row in &ROWS {
+        let line = line_of(&rt, rt.alloc(), row);
+        same(&rt, line.as_deref(), row.line);
+    }
 }
 
-/// Adds an answer, if it can be said.
-fn push(alloc: Global, text: &mut AnswersText, row: &Row) -> Result<(), AllocError> {
-    let answer = answer_of(alloc, row)?;
-    if can_be_said(&answer) {
-        text.push(alloc, &answer)?;
-    }
-    Ok(())
+/// Adds an answer that can be said.
+fn push(rt: &impl Abort, alloc: Global, text: &mut AnswersText, row: &Row) {
+    let answer = answer_of(rt, alloc, row);
+    assert!(rt; can_be_said(&answer));
+    made(rt, text.push(alloc, &answer));
+    drop(answer);
+}
+
+/// The start of a run of two targets.
+fn started(rt: &impl Abort, alloc: Global) -> AnswersText {
+    let comment = Some("one rail");
+    made(
+        rt,
+        AnswersText::new(alloc, comment, &[0x00, 0xFF], &[0x80, 0x00]),
+    )
 }
 
 /// A rail that is turned on, a message that isn't taken, and a read.
-fn played(alloc: Global) -> Result<String, AllocError> {
-    let comment = Some("one rail");
-    let mut text = AnswersText::new(alloc, comment, &[0x00, 0xFF], &[0x80, 0x00])?;
-    push(alloc, &mut text, &ROWS[5])?;
-    push(alloc, &mut text, &ROWS[2])?;
-    text.remark(alloc, "the status word")?;
-    push(alloc, &mut text, &ROWS[3])?;
-    push(alloc, &mut text, &SILENCE)?;
-    Ok(text.into_text())
-}
-
 #[test]
 fn a_text_of_answers(rt: HostRuntime) {
-    says(
+    let alloc = rt.alloc();
+    let mut text = started(&rt, alloc);
+    push(&rt, alloc, &mut text, &ROWS[5]);
+    push(&rt, alloc, &mut text, &ROWS[2]);
+    made(&rt, text.remark(alloc, "the status word"));
+    push(&rt, alloc, &mut text, &ROWS[3]);
+    push(&rt, alloc, &mut text, &SILENCE);
+    same(
         &rt,
-        played(rt.alloc()),
+        text.into_text().as_str(),
         "# one rail\nstart 00,FF 80,00\ntook=1 alerts=800C\nrefuse=2\n# the status word\n\
          value=840\n-\n",
     );
 }
 
-fn started(alloc: Global) -> Result<String, AllocError> {
-    let text = AnswersText::new(alloc, None, &[0x0A], &[0x40])?;
-    String::from_str(alloc, text.text())
-}
-
 #[test]
 fn a_text_without_answers(rt: HostRuntime) {
-    says(&rt, started(rt.alloc()), "start 0A 40\n");
+    let text = made(&rt, AnswersText::new(rt.alloc(), None, &[0x0A], &[0x40]));
+    same(&rt, text.text(), "start 0A 40\n");
 }
 
 #[test]

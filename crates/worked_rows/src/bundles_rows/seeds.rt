@@ -1,8 +1,8 @@
 //! The section of a seed.
 
-use crate::expected::same;
+use crate::expected::{found, made, same};
 use bundles::{BundleFault, Flaw, read_bundle, seed_in};
-use std::alloc::{AllocError, Global};
+use std::alloc::Global;
 use std::process::Abort;
 use std::test::*;
 
@@ -22,25 +22,19 @@ static ROWS: [(&str, Result<u64, BundleFault>); 9] = [
     ("\n7\n\n7\n", Err(BundleFault::BadSeed(7, Flaw::Second))),
 ];
 
-fn seed_below(alloc: Global, below: &str) -> Result<Option<Result<u64, BundleFault>>, AllocError> {
-    let text = format!(in alloc; "%play\n%board\n%program\n%seed{below}")?;
-    let Ok(bundle) = read_bundle(alloc, &text) else {
-        return Ok(None);
-    };
-    match bundle.sections.get(2) {
-        Some(section) => Ok(Some(seed_in(section))),
-        None => Ok(None),
-    }
-}
-
-fn all_read(rt: &impl Abort, alloc: Global) -> Result<(), AllocError> {
-    for (below, want) in &ROWS {
-        same(rt, (below, seed_below(alloc, below)?), (below, Some(*want)));
-    }
-    Ok(())
+fn seed_below(rt: &impl Abort, alloc: Global, below: &str) -> Result<u64, BundleFault> {
+    let text = made(
+        rt,
+        format!(in alloc; "%play\n%board\n%program\n%seed{below}"),
+    );
+    let bundle = made(rt, read_bundle(alloc, &text));
+    seed_in(found(rt, bundle.sections.get(2)))
 }
 
 #[test]
 fn seeds(rt: HostRuntime) {
-    same(&rt, all_read(&rt, rt.alloc()), Ok(()));
+    for (below, want) in &ROWS {
+        let seed = seed_below(&rt, rt.alloc(), below);
+        same(&rt, (*below, seed), (*below, *want));
+    }
 }

@@ -1,25 +1,18 @@
 //! Whole inputs with the notes on them.
 
 use crate::boards::TWO;
-use crate::expected::{Noted, notes, same, says, text_of};
+use crate::expected::{made, notes, same, says};
 use diagnostics::{Answered, Beside, Untold, answer};
 use notes::Note;
 use session::Status;
-use std::alloc::{AllocError, Global};
+use std::alloc::Global;
 use std::process::Abort;
 use std::test::*;
 
-fn answered_beside(alloc: Global, input: &[u8], beside: Beside) -> Result<Answered, AllocError> {
+fn answered(rt: &impl Abort, alloc: Global, input: &[u8], beside: Beside) -> Answered {
     let mut reader = input;
     let mut output = Vec::new(alloc);
-    match answer(alloc, &mut reader, &mut output, beside) {
-        Ok(answered) => Ok(answered),
-        Err(_) => Err(AllocError),
-    }
-}
-
-fn answered(alloc: Global, input: &[u8]) -> Result<Answered, AllocError> {
-    answered_beside(alloc, input, Beside::Nothing)
+    made(rt, answer(alloc, &mut reader, &mut output, beside))
 }
 
 /// Whether there is a note on what to mend, how many warnings of the board, and whether one of the
@@ -38,10 +31,10 @@ fn told_of(answered: &Answered) -> Told {
 }
 
 fn tells(rt: &impl Abort, alloc: Global, input: &[u8], want: Told) {
-    match answered(alloc, input) {
-        Ok(answered) => same(rt, told_of(&answered), want),
-        Err(_) => panic!(rt; "no memory"),
-    }
+    let answered = answered(rt, alloc, input, Beside::Nothing);
+    let told = told_of(&answered);
+    drop(answered);
+    same(rt, told, want);
 }
 
 const FAULT: Told = (Status::InputFault, true, 0, false);
@@ -58,16 +51,10 @@ fn faults_are_told(rt: HostRuntime) {
 const RUN: &str = "%program\nsend b CLEAR_FAULTS else bad\nend\nbad:\nfail\n%answers\n\
                    start 00,00 00,00\n-\n";
 
-fn run_of(alloc: Global, command: &str, limit: &str) -> Result<String, AllocError> {
-    let board = TWO.replace(alloc, "3300000", limit)?;
-    format!(in alloc; "{command}\n%board\n{board}{RUN}")
-}
-
 fn run_tells(rt: &impl Abort, alloc: Global, command: &str, limit: &str, want: Told) {
-    match run_of(alloc, command, limit) {
-        Ok(text) => tells(rt, alloc, text.as_bytes(), want),
-        Err(_) => panic!(rt; "no memory"),
-    }
+    let board = made(rt, TWO.replace(alloc, "3300000", limit));
+    let text = made(rt, format!(in alloc; "{command}\n%board\n{board}{RUN}"));
+    tells(rt, alloc, text.as_bytes(), want);
 }
 
 #[test]
@@ -79,22 +66,32 @@ fn lints_and_breaches_are_told(rt: HostRuntime) {
     run_tells(&rt, rt.alloc(), "%check", "3300000", FAULT);
 }
 
+/// What a program is answered that is to be verified.
+fn verified(rt: &impl Abort, alloc: Global, program: &str, beside: Beside) -> Answered {
+    let input = made(
+        rt,
+        format!(in alloc; "%verify\n%board\n{TWO}%program\n{program}"),
+    );
+    answered(rt, alloc, input.as_bytes(), beside)
+}
+
 /// A program of so many lines of an unknown word: how many have a note beside the first, and how
 /// many are only counted.
-fn others_of(alloc: Global, count: usize) -> Result<(usize, Untold), AllocError> {
-    let lines = "goo\n".repeat(alloc, count)?;
-    let input = format!(in alloc; "%verify\n%board\n{TWO}%program\n{lines}")?;
-    let answered = answered(alloc, input.as_bytes())?;
+fn others_of(rt: &impl Abort, alloc: Global, count: usize) -> (usize, Untold) {
+    let lines = made(rt, "goo\n".repeat(alloc, count));
+    let answered = verified(rt, alloc, &lines, Beside::Nothing);
     let others = &answered.notes.others;
-    Ok((others.notes.len(), others.untold))
+    let counts = (others.notes.len(), others.untold);
+    drop(answered);
+    counts
 }
 
 /// Twenty lines are told in all, the first of them with the reply.
 #[test]
 fn other_lines_are_told(rt: HostRuntime) {
-    same(&rt, others_of(rt.alloc(), 1), Ok((0, Untold(0))));
-    same(&rt, others_of(rt.alloc(), 20), Ok((19, Untold(0))));
-    same(&rt, others_of(rt.alloc(), 23), Ok((19, Untold(3))));
+    same(&rt, others_of(&rt, rt.alloc(), 1), (0, Untold(0)));
+    same(&rt, others_of(&rt, rt.alloc(), 20), (19, Untold(0)));
+    same(&rt, others_of(&rt, rt.alloc(), 23), (19, Untold(3)));
     says(&rt, format!(in rt.alloc(); "{}", Untold(1)), ONE_MORE);
     says(&rt, format!(in rt.alloc(); "{}", Untold(3)), THREE_MORE);
 }
@@ -103,31 +100,23 @@ const ONE_MORE: &str = "1 more line of the program has a fault\n";
 
 const THREE_MORE: &str = "3 more lines of the program have faults\n";
 
-/// A note as it is printed, if there is one.
-fn told_note(alloc: Global, note: Option<&Note>) -> Noted {
-    match note {
-        Some(note) => Ok(Some(text_of(alloc, note)?)),
-        None => Ok(None),
-    }
-}
-
-/// So many labels, each on a line.
-fn labels(alloc: Global, count: usize) -> Result<String, AllocError> {
+/// A program of so many labels, each on a line.
+fn labels(rt: &impl Abort, alloc: Global, count: usize) -> String {
     let mut lines = String::new(alloc);
     for label in 1..=count {
-        write!(lines, "to{label}:\n")?;
+        made(rt, write!(lines, "to{label}:\n"));
     }
-    Ok(lines)
+    made(rt, lines.push_str("end\n"));
+    lines
 }
 
 /// The last warning of a program with so many labels that no line jumps to.
-fn last_warning(alloc: Global, count: usize) -> Noted {
-    let lines = labels(alloc, count)?;
-    let input = format!(in alloc; "%verify\n%board\n{TWO}%program\n{lines}end\n")?;
-    let answered = answered(alloc, input.as_bytes())?;
-    let told = told_note(alloc, answered.notes.warnings.of_labels.last());
+fn last_warning(rt: &impl Abort, alloc: Global, count: usize) -> Option<Note> {
+    let program = labels(rt, alloc, count);
+    let mut answered = verified(rt, alloc, &program, Beside::Nothing);
+    let warning = answered.notes.warnings.of_labels.pop();
     drop(answered);
-    told
+    warning
 }
 
 const LABEL: &str = "%program:20: warning: no line jumps to this label
@@ -150,18 +139,18 @@ help: take it out, or say with a comment `# allow unused-label` on this line tha
 /// Twenty labels are told, and how many there are more.
 #[test]
 fn labels_are_told(rt: HostRuntime) {
-    notes(&rt, last_warning(rt.alloc(), 20), Some(LABEL));
-    notes(&rt, last_warning(rt.alloc(), 21), Some(ONE_LABEL));
-    notes(&rt, last_warning(rt.alloc(), 23), Some(THREE_LABELS));
+    for (count, want) in [(20, LABEL), (21, ONE_LABEL), (23, THREE_LABELS)] {
+        let warning = last_warning(&rt, rt.alloc(), count);
+        notes(&rt, rt.alloc(), warning, Some(want));
+    }
 }
 
-/// The note on the bound of a program, as it is printed.
-fn bound_of(alloc: Global, program: &str, beside: Beside) -> Noted {
-    let input = format!(in alloc; "%verify\n%board\n{TWO}%program\n{program}")?;
-    let answered = answered_beside(alloc, input.as_bytes(), beside)?;
-    let told = told_note(alloc, answered.notes.bound.as_ref());
+/// Tries the note on the bound of a program.
+fn bound_is(rt: &impl Abort, alloc: Global, program: &str, beside: Beside, want: Option<&str>) {
+    let mut answered = verified(rt, alloc, program, beside);
+    let bound = answered.notes.bound.take();
     drop(answered);
-    told
+    notes(rt, alloc, bound, want);
 }
 
 /// Three turns of 402 ticks each, and 2 for `count` and `end`.
@@ -177,21 +166,15 @@ note: all else on the dearest way: 2 ticks
 fn bounds_are_told_where_asked_for(rt: HostRuntime) {
     let one = "%program:1: note: every run ends within 1 tick\n    end\nnote: all else on the \
                dearest way: 1 tick\n";
-    notes(&rt, bound_of(rt.alloc(), "end\n", Beside::Bound), Some(one));
-    notes(&rt, bound_of(rt.alloc(), "end\n", Beside::Nothing), None);
-    notes(
-        &rt,
-        bound_of(rt.alloc(), TURNS, Beside::Bound),
-        Some(TURNS_TOLD),
-    );
+    bound_is(&rt, rt.alloc(), "end\n", Beside::Bound, Some(one));
+    bound_is(&rt, rt.alloc(), "end\n", Beside::Nothing, None);
+    bound_is(&rt, rt.alloc(), TURNS, Beside::Bound, Some(TURNS_TOLD));
 }
 
 /// So many blank lines, which are no bundle.
 fn blank_tells(rt: &impl Abort, alloc: Global, count: usize, want: Told) {
-    match "\n".repeat(alloc, count) {
-        Ok(text) => tells(rt, alloc, text.as_bytes(), want),
-        Err(_) => panic!(rt; "no memory"),
-    }
+    let text = made(rt, "\n".repeat(alloc, count));
+    tells(rt, alloc, text.as_bytes(), want);
 }
 
 /// However long an input is, its fault is told.

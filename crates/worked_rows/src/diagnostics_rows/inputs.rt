@@ -1,9 +1,10 @@
 //! Notes on whole inputs.
 
 use crate::boards::TWO;
-use crate::expected::{Noted, begins, noted, notes};
+use crate::expected::{begins, made, notes};
 use crate::session_rows::input_of;
 use diagnostics::note_on;
+use notes::Note;
 use session::judge;
 use std::alloc::Global;
 use std::process::Abort;
@@ -30,30 +31,27 @@ static INPUTS: [(&str, &str); 4] = [
 ];
 
 /// The note on an input.
-fn input_note(alloc: Global, text: &str) -> Noted {
-    let input = input_of(alloc, text)?;
-    let case = judge(alloc, &input)?;
+fn input_note(rt: &impl Abort, alloc: Global, text: &str) -> Option<Note> {
+    let input = input_of(rt, alloc, text);
+    let case = made(rt, judge(alloc, &input));
     let note = note_on(alloc, &case);
     drop(case);
-    noted(alloc, note?)
+    made(rt, note)
 }
 
 /// The note on a program that is to be verified.
-fn verified_note(alloc: Global, program: &str) -> Noted {
-    let text = format!(in alloc; "%verify\n%board\n{TWO}%program\n{program}")?;
-    input_note(alloc, &text)
-}
-
-fn all_begin(rt: &impl Abort, alloc: Global, inputs: &[(&str, &str)]) {
-    for (program, want) in inputs {
-        begins(rt, verified_note(alloc, program), want);
-    }
+fn verified_note(rt: &impl Abort, alloc: Global, program: &str) -> Option<Note> {
+    let text = format!(in alloc; "%verify\n%board\n{TWO}%program\n{program}");
+    input_note(rt, alloc, &made(rt, text))
 }
 
 #[test]
 fn inputs(rt: HostRuntime) {
-    all_begin(&rt, rt.alloc(), &INPUTS);
-    notes(&rt, verified_note(rt.alloc(), "end\n"), None);
-    let bare = input_note(rt.alloc(), "%verify\n");
-    begins(&rt, bare, "bundle:1: error: the section %board");
+    let alloc = rt.alloc();
+    for (program, want) in &INPUTS {
+        begins(&rt, alloc, verified_note(&rt, alloc, program), want);
+    }
+    notes(&rt, alloc, verified_note(&rt, alloc, "end\n"), None);
+    let bare = input_note(&rt, alloc, "%verify\n");
+    begins(&rt, alloc, bare, "bundle:1: error: the section %board");
 }

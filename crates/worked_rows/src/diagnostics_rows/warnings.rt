@@ -1,11 +1,12 @@
 //! Warnings of runs and of boards.
 
 use crate::boards::TWO;
-use crate::expected::{Noted, begins, noted, notes, same, text_of};
+use crate::expected::{begins, made, notes, same, text_of};
 use crate::session_rows::input_of;
 use diagnostics::{Warnings, warnings_on};
+use notes::Note;
 use session::judge;
-use std::alloc::{AllocError, Global};
+use std::alloc::Global;
 use std::process::Abort;
 use std::test::*;
 
@@ -51,54 +52,60 @@ static SPARED: [(&str, &str); 3] = [
 ];
 
 /// What is warned of a bundle.
-fn warnings_of(alloc: Global, text: &str) -> Result<Warnings, AllocError> {
-    let input = input_of(alloc, text)?;
-    let case = judge(alloc, &input)?;
+fn warnings_of(rt: &impl Abort, alloc: Global, text: &str) -> Warnings {
+    let input = input_of(rt, alloc, text);
+    let case = made(rt, judge(alloc, &input));
     let warnings = warnings_on(alloc, &case);
     drop(case);
-    warnings
+    made(rt, warnings)
+}
+
+/// A run on TWO from the first page of each target.
+fn run_text(rt: &impl Abort, alloc: Global, program: &str, answers: &str) -> String {
+    let run = format!(in alloc; "%program\n{program}%answers\nstart 00,00 00,00\n{answers}");
+    let run = made(rt, run);
+    made(rt, format!(in alloc; "%run\n%board\n{TWO}{run}"))
 }
 
 /// The warning of a run.
-fn warning_of(alloc: Global, program: &str, answers: &str) -> Noted {
-    let run = format!(in alloc; "%program\n{program}%answers\nstart 00,00 00,00\n{answers}")?;
-    let text = format!(in alloc; "%run\n%board\n{TWO}{run}")?;
-    noted(alloc, warnings_of(alloc, &text)?.of_run)
-}
-
-fn all_are_warned_of(rt: &impl Abort, alloc: Global, rows: &[(&str, &str, &str)]) {
-    for (program, answers, want) in rows {
-        begins(rt, warning_of(alloc, program, answers), want);
-    }
-}
-
-fn all_are_spared(rt: &impl Abort, alloc: Global, rows: &[(&str, &str)]) {
-    for (program, answers) in rows {
-        notes(rt, warning_of(alloc, program, answers), None);
-    }
+fn warning_of(rt: &impl Abort, alloc: Global, program: &str, answers: &str) -> Option<Note> {
+    let text = run_text(rt, alloc, program, answers);
+    let mut warnings = warnings_of(rt, alloc, &text);
+    let warning = warnings.of_run.take();
+    drop(warnings);
+    warning
 }
 
 #[test]
 fn runs_are_warned_of(rt: HostRuntime) {
-    all_are_warned_of(&rt, rt.alloc(), &WARNED);
-    all_are_spared(&rt, rt.alloc(), &SPARED);
+    let alloc = rt.alloc();
+    for (program, answers, want) in &WARNED {
+        let warning = warning_of(&rt, alloc, program, answers);
+        begins(&rt, alloc, warning, want);
+    }
+    for (program, answers) in &SPARED {
+        notes(&rt, alloc, warning_of(&rt, alloc, program, answers), None);
+    }
 }
 
 /// How many warnings of a board there are, and whether one of them contains a text.
-fn board_warnings(alloc: Global, text: &str, part: &str) -> Result<(usize, bool), AllocError> {
-    let warnings = warnings_of(alloc, text)?.of_board;
+fn board_warnings(rt: &impl Abort, alloc: Global, text: &str, part: &str) -> (usize, bool) {
+    let warnings = warnings_of(rt, alloc, text);
     let mut is_told = false;
-    for warning in &warnings {
-        is_told |= text_of(alloc, warning)?.contains(part);
+    for warning in &warnings.of_board {
+        is_told |= text_of(rt, alloc, warning).contains(part);
     }
-    Ok((warnings.len(), is_told))
+    let count = warnings.of_board.len();
+    drop(warnings);
+    (count, is_told)
 }
 
 /// The warnings where the rails of TWO need each other.
-fn circle_warnings(alloc: Global, part: &str) -> Result<(usize, bool), AllocError> {
-    let board = TWO.replace(alloc, "1100000", "1100000\nneeds = [\"vb\"]")?;
-    let text = format!(in alloc; "%verify\n%board\n{board}%program\nend\n")?;
-    board_warnings(alloc, &text, part)
+fn circle_warnings(rt: &impl Abort, alloc: Global, part: &str) -> (usize, bool) {
+    let board = TWO.replace(alloc, "1100000", "1100000\nneeds = [\"vb\"]");
+    let board = made(rt, board);
+    let text = format!(in alloc; "%verify\n%board\n{board}%program\nend\n");
+    board_warnings(rt, alloc, &made(rt, text), part)
 }
 
 /// Rails that need each other have a warning at the first one's needs, an input with a fault none.
@@ -106,10 +113,8 @@ fn circle_warnings(alloc: Global, part: &str) -> Result<(usize, bool), AllocErro
 fn boards_are_warned_of(rt: HostRuntime) {
     let want =
         "warning: needs in a circle: \"va\" needs \"vb\" needs \"va\"\n    needs = [\"vb\"]\n";
-    same(&rt, circle_warnings(rt.alloc(), want), Ok((1, true)));
-    same(
-        &rt,
-        board_warnings(rt.alloc(), "%verify\n", ""),
-        Ok((0, false)),
-    );
+    let alloc = rt.alloc();
+    same(&rt, circle_warnings(&rt, alloc, want), (1, true));
+    let bare = board_warnings(&rt, alloc, "%verify\n", "");
+    same(&rt, bare, (0, false));
 }

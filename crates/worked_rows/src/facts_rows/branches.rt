@@ -1,7 +1,9 @@
 use super::edges::{Reached, UNCOUNTED, leads};
-use super::known::{Counted, Known, NOTHING};
+use super::known::{Counted, Known, NOTHING, rule_board};
+use crate::expected::{found, made};
+use board::Board;
 use facts::Source;
-use std::alloc::{AllocError, Global};
+use std::alloc::Global;
 use std::process::Abort;
 use std::test::*;
 
@@ -12,28 +14,22 @@ type Way = (Known, Counted);
 type Ways = (Option<Way>, Option<Way>, Option<Way>);
 
 /// Places 2 and 1, where there is such a way, and what is known there.
-fn reached(
-    alloc: Global,
-    jump: Option<Way>,
-    next: Option<Way>,
-) -> Result<Vec<Reached>, AllocError> {
+fn reached(rt: &impl Abort, alloc: Global, jump: Option<Way>, next: Option<Way>) -> Vec<Reached> {
     let mut after = Vec::new(alloc);
     if let Some((known, counted)) = jump {
-        after.push((2, known, counted))?;
+        made(rt, after.push((2, known, counted)));
     }
     if let Some((known, counted)) = next {
-        after.push((1, known, counted))?;
+        made(rt, after.push((1, known, counted)));
     }
-    Ok(after)
+    after
 }
 
 /// Tries that an instruction jumps to place 2 and goes on at place 1 like this.
-fn branches(rt: &impl Abort, alloc: Global, line: &str, ways: Ways) {
+fn branches(rt: &impl Abort, alloc: Global, board: &Board, line: &str, ways: Ways) {
     let (before, jump, next) = ways;
-    match (before, reached(alloc, jump, next)) {
-        (Some(before), Ok(after)) => leads(rt, alloc, line, before, &after),
-        _ => panic!(rt; "no memory, or nothing is known before {line}"),
-    }
+    let after = reached(rt, alloc, jump, next);
+    leads(rt, alloc, board, line, found(rt, before), &after);
 }
 
 /// The least and the greatest value of r0.
@@ -99,22 +95,30 @@ fn spanned(source: Source, ends: Option<Ends>) -> Option<Way> {
 }
 
 /// Tries rows in which r0 equals the first source before the instruction, and the second after it.
-fn all_span(rt: &impl Abort, alloc: Global, sources: (Source, Source), rows: &[Spans]) {
+fn all_span(
+    rt: &impl Abort,
+    alloc: Global,
+    board: &Board,
+    sources: (Source, Source),
+    rows: &[Spans],
+) {
     let (source, later) = sources;
     for (line, before, jump, next) in rows {
         let before = spanned(source, Some(*before));
         let ways = (before, spanned(later, *jump), spanned(later, *next));
-        branches(rt, alloc, line, ways);
+        branches(rt, alloc, board, line, ways);
     }
 }
 
 #[test]
 fn branches_on_spans(rt: HostRuntime) {
+    let alloc = rt.alloc();
     let none = Source::None;
     let stored = Source::Page(1);
-    all_span(&rt, rt.alloc(), (stored, stored), &UNTESTED);
-    all_span(&rt, rt.alloc(), (none, none), &TESTED);
-    all_span(&rt, rt.alloc(), (stored, none), &COMPUTED);
+    let board = rule_board(&rt, alloc);
+    all_span(&rt, alloc, &board, (stored, stored), &UNTESTED);
+    all_span(&rt, alloc, &board, (none, none), &TESTED);
+    all_span(&rt, alloc, &board, (stored, none), &COMPUTED);
 }
 
 /// A test of r0, the values of what it equals, and those that are left where it jumps and where it
@@ -153,18 +157,20 @@ fn stored(is_page: bool, set: &'static [u8]) -> Option<Way> {
     }
 }
 
-fn all_part(rt: &impl Abort, alloc: Global, is_page: bool, rows: &[Sets]) {
+fn all_part(rt: &impl Abort, alloc: Global, board: &Board, is_page: bool, rows: &[Sets]) {
     for (line, before, jump, next) in rows {
         let before = stored(is_page, before);
         let ways = (before, stored(is_page, jump), stored(is_page, next));
-        branches(rt, alloc, line, ways);
+        branches(rt, alloc, board, line, ways);
     }
 }
 
 #[test]
 fn branches_on_sets(rt: HostRuntime) {
-    all_part(&rt, rt.alloc(), true, &PAGES);
-    all_part(&rt, rt.alloc(), false, &PROTECTIONS);
+    let alloc = rt.alloc();
+    let board = rule_board(&rt, alloc);
+    all_part(&rt, alloc, &board, true, &PAGES);
+    all_part(&rt, alloc, &board, false, &PROTECTIONS);
 }
 
 /// A test of a status word that r0 equals, the word's values where it jumps, and the rails that are
@@ -186,16 +192,15 @@ fn reported(good: &'static [u8], ends: Ends) -> Option<Way> {
     Some(((&[0], &[0], good, ends, Source::Status(0)), UNCOUNTED))
 }
 
-fn all_report(rt: &impl Abort, alloc: Global, rows: &[Reported]) {
-    let before = reported(&[1], (0, 65535));
-    for (line, jump, good) in rows {
-        branches(rt, alloc, line, (before, reported(good, *jump), before));
-    }
-}
-
 #[test]
 fn branches_on_status(rt: HostRuntime) {
-    all_report(&rt, rt.alloc(), &STATUS);
+    let alloc = rt.alloc();
+    let board = rule_board(&rt, alloc);
+    let before = reported(&[1], (0, 65535));
+    for (line, jump, good) in &STATUS {
+        let ways = (before, reported(good, *jump), before);
+        branches(&rt, alloc, &board, line, ways);
+    }
 }
 
 /// What is counted before an instruction, where it jumps, and where it goes on.
@@ -231,14 +236,12 @@ fn counting(counted: Option<Counted>) -> Option<Way> {
     Some((NOTHING, counted?))
 }
 
-fn all_pay(rt: &impl Abort, alloc: Global, rows: &[Counts]) {
-    for (line, before, jump, next) in rows {
-        let ways = (counting(Some(*before)), counting(*jump), counting(*next));
-        branches(rt, alloc, line, ways);
-    }
-}
-
 #[test]
 fn counters_pay(rt: HostRuntime) {
-    all_pay(&rt, rt.alloc(), &COUNTS);
+    let alloc = rt.alloc();
+    let board = rule_board(&rt, alloc);
+    for (line, before, jump, next) in &COUNTS {
+        let ways = (counting(Some(*before)), counting(*jump), counting(*next));
+        branches(&rt, alloc, &board, line, ways);
+    }
 }

@@ -1,5 +1,5 @@
-use super::known::{Before, begins_with, rule_board};
-use crate::expected::same;
+use super::known::{Before, begins_with, row_before, rule_board};
+use crate::expected::{found, same};
 use board::Board;
 use facts::Rule::{self, K1, K2, K3, K4, K5};
 use facts::duty;
@@ -7,22 +7,30 @@ use std::alloc::Global;
 use std::process::Abort;
 use std::test::*;
 
-/// The duty that isn't met, if the line and what is known are good.
-fn duty_on(alloc: Global, board: &Board, line: &str, before: Before) -> Option<Option<Rule>> {
-    let (program, row) = begins_with(alloc, board, line, before)?;
-    Some(duty(board, program.at(0)?, &row))
-}
-
-// The board is read for each row, so that what goes over the rows holds none.
-fn duty_of(alloc: Global, line: &str, before: Before) -> Option<Option<Rule>> {
-    let board = rule_board(alloc).ok()?;
-    duty_on(alloc, &board, line, before)
+/// The duty that a message doesn't meet.
+fn duty_of(
+    rt: &impl Abort,
+    alloc: Global,
+    board: &Board,
+    line: &str,
+    before: Before,
+) -> Option<Rule> {
+    let program = begins_with(rt, alloc, board, line);
+    let row = row_before(rt, alloc, before);
+    duty(board, found(rt, program.at(0)), &row)
 }
 
 /// Tries which duty a message doesn't meet.
-fn owes(rt: &impl Abort, alloc: Global, line: &str, before: Before, want: Option<Rule>) {
-    let found = duty_of(alloc, line, before);
-    same(rt, (line, before, found), (line, before, Some(want)));
+fn owes(
+    rt: &impl Abort,
+    alloc: Global,
+    board: &Board,
+    line: &str,
+    before: Before,
+    want: Option<Rule>,
+) {
+    let seen = duty_of(rt, alloc, board, line, before);
+    same(rt, (line, before, seen), (line, before, want));
 }
 
 /// A message, and the duty that it doesn't meet where a stores zeros, all rails are good, and r0
@@ -81,15 +89,14 @@ static ALLOWED: [Message; 48] = [
     ("blockcall a D2 010203 r0", (0, 0), Some(K1)),
 ];
 
-fn all_owe(rt: &impl Abort, alloc: Global, rows: &[Message]) {
-    for (line, span, want) in rows {
-        owes(rt, alloc, line, (&[0], &[0], &[0, 1, 2], *span), *want);
-    }
-}
-
 #[test]
 fn what_is_allowed(rt: HostRuntime) {
-    all_owe(&rt, rt.alloc(), &ALLOWED);
+    let alloc = rt.alloc();
+    let board = rule_board(&rt, alloc);
+    for (line, span, want) in &ALLOWED {
+        let before = ([0].as_slice(), [0].as_slice(), [0, 1, 2].as_slice(), *span);
+        owes(&rt, alloc, &board, line, before, *want);
+    }
 }
 
 /// A message, what a may store, and the duty that isn't met where nothing is known to be good.
@@ -133,22 +140,18 @@ static PROTECTIONS: [Stored; 21] = [
     ("alert r0", &[0x80], None),
 ];
 
-fn pages_owe(rt: &impl Abort, alloc: Global, rows: &[Stored]) {
-    for (line, pages, want) in rows {
-        owes(rt, alloc, line, (pages, &[0], &[], (0, 0)), *want);
-    }
-}
-
-fn protections_owe(rt: &impl Abort, alloc: Global, rows: &[Stored]) {
-    for (line, protects, want) in rows {
-        owes(rt, alloc, line, (&[0], protects, &[], (0, 0)), *want);
-    }
-}
-
 #[test]
 fn what_may_be_stored(rt: HostRuntime) {
-    pages_owe(&rt, rt.alloc(), &PAGES);
-    protections_owe(&rt, rt.alloc(), &PROTECTIONS);
+    let alloc = rt.alloc();
+    let board = rule_board(&rt, alloc);
+    for (line, pages, want) in &PAGES {
+        let before = (*pages, [0].as_slice(), [].as_slice(), (0, 0));
+        owes(&rt, alloc, &board, line, before, *want);
+    }
+    for (line, protects, want) in &PROTECTIONS {
+        let before = ([0].as_slice(), *protects, [].as_slice(), (0, 0));
+        owes(&rt, alloc, &board, line, before, *want);
+    }
 }
 
 /// What is written to VOUT_COMMAND, the pages that a may store, and whether the greatest voltage is
@@ -196,42 +199,26 @@ fn unless(holds: bool, rule: Rule) -> Option<Rule> {
     if holds { None } else { Some(rule) }
 }
 
-fn voltages_owe(rt: &impl Abort, alloc: Global, rows: &[Voltage]) {
-    for (span, pages, holds) in rows {
-        let before = (*pages, [0].as_slice(), [].as_slice(), *span);
-        owes(
-            rt,
-            alloc,
-            "write a VOUT_COMMAND r0",
-            before,
-            unless(*holds, K4),
-        );
-    }
-}
-
-fn needs_owe(rt: &impl Abort, alloc: Global, rows: &[Need]) {
-    for (pages, good, holds) in rows {
-        let before = (*pages, [0].as_slice(), *good, (0, 0));
-        owes(
-            rt,
-            alloc,
-            "write a OPERATION 0x80",
-            before,
-            unless(*holds, K5),
-        );
-        owes(
-            rt,
-            alloc,
-            "write a OPERATION 0x98",
-            before,
-            unless(*holds, K5),
-        );
-        owes(rt, alloc, "write a OPERATION 0x40", before, None);
-    }
+/// Tries whether the pages may be turned on, and that they may be turned off.
+fn needs_owe(rt: &impl Abort, alloc: Global, board: &Board, need: Need) {
+    let (pages, good, holds) = need;
+    let before = (pages, [0].as_slice(), good, (0, 0));
+    let want = unless(holds, K5);
+    owes(rt, alloc, board, "write a OPERATION 0x80", before, want);
+    owes(rt, alloc, board, "write a OPERATION 0x98", before, want);
+    owes(rt, alloc, board, "write a OPERATION 0x40", before, None);
 }
 
 #[test]
 fn what_is_touched(rt: HostRuntime) {
-    voltages_owe(&rt, rt.alloc(), &VOLTAGES);
-    needs_owe(&rt, rt.alloc(), &NEEDS);
+    let alloc = rt.alloc();
+    let board = rule_board(&rt, alloc);
+    let line = "write a VOUT_COMMAND r0";
+    for (span, pages, holds) in &VOLTAGES {
+        let before = (*pages, [0].as_slice(), [].as_slice(), *span);
+        owes(&rt, alloc, &board, line, before, unless(*holds, K4));
+    }
+    for need in &NEEDS {
+        needs_owe(&rt, alloc, &board, *need);
+    }
 }

@@ -1,30 +1,44 @@
 use super::known::{Counted, Known, row_of, rule_board};
-use crate::expected::same;
+use crate::expected::{made, same};
 use board::Board;
 use facts::Source::{self, Page, Protect, Status};
 use facts::{Part, Row, duty, edges};
-use seq_program::read_program;
+use seq_program::{Program, read_program};
 use std::alloc::Global;
 use std::process::Abort;
 use std::test::*;
 
 const NO: Source = Source::None;
 
-/// The edges of a program's first instruction, with the ticks; `None` where one of its duties isn't
-/// met.
+/// The edges of a place of a program, with the ticks. The duties of its line are met.
+pub(super) fn edges_at(
+    rt: &impl Abort,
+    alloc: Global,
+    board: &Board,
+    (program, place, line): (&Program, usize, &str),
+    row: &Row,
+) -> Vec<(usize, Row, u64)> {
+    let Some(instr) = program.at(place) else {
+        panic!(rt; "no instruction");
+    };
+    assert!(rt;
+        row.is_of(board) && duty(board, instr, row).is_none(),
+        "{line}"
+    );
+    made(rt, edges(alloc, board, program, place, row))
+}
+
+/// The edges of a program's first instruction.
 pub(super) fn edges_of(
+    rt: &impl Abort,
     alloc: Global,
     board: &Board,
     line: &str,
     row: &Row,
-) -> Option<Vec<(usize, Row, u64)>> {
-    let text = format!(in alloc; "{line}\nend\nx:\nend").ok()?;
-    let program = read_program(alloc, board, &text).ok()?;
-    let instr = program.at(0)?;
-    if !row.is_of(board) || duty(board, instr, row).is_some() {
-        return None;
-    }
-    edges(alloc, board, &program, 0, row).ok()
+) -> Vec<(usize, Row, u64)> {
+    let text = made(rt, format!(in alloc; "{line}\nend\nx:\nend"));
+    let program = made(rt, read_program(alloc, board, &text));
+    edges_at(rt, alloc, board, (&program, 0, line), row)
 }
 
 fn is_same(row: &Row, other: &Row) -> bool {
@@ -39,53 +53,42 @@ fn is_same(row: &Row, other: &Row) -> bool {
 pub(super) type Reached = (usize, Known, Counted);
 
 /// Whether an edge leads to a place where this is known.
-fn reaches(alloc: Global, edge: &(usize, Row, u64), want: Reached) -> bool {
+fn reaches(rt: &impl Abort, alloc: Global, edge: &(usize, Row, u64), want: Reached) -> bool {
     let (to, reached, _ticks) = edge;
     let (place, known, counted) = want;
-    match row_of(alloc, known, counted) {
-        Some(row) => *to == place && is_same(reached, &row),
-        None => false,
-    }
+    *to == place && is_same(reached, &row_of(rt, alloc, known, counted))
 }
 
-fn all_reach(alloc: Global, edges: &[(usize, Row, u64)], wanted: &[Reached]) -> bool {
+fn all_reach(
+    rt: &impl Abort,
+    alloc: Global,
+    edges: &[(usize, Row, u64)],
+    wanted: &[Reached],
+) -> bool {
     for (edge, want) in edges.iter().zip(wanted) {
-        if !reaches(alloc, edge, *want) {
+        if !reaches(rt, alloc, edge, *want) {
             return false;
         }
     }
     edges.len() == wanted.len()
 }
 
-/// Whether an instruction leads from what is known to these places and what is known there.
-fn is_led_on(
+/// Tries that an instruction leads from what is known to these places and what is known there.
+pub(super) fn leads(
+    rt: &impl Abort,
     alloc: Global,
     board: &Board,
     line: &str,
     before: (Known, Counted),
     after: &[Reached],
-) -> Option<bool> {
-    let row = row_of(alloc, before.0, before.1)?;
-    let found = edges_of(alloc, board, line, &row)?;
-    Some(all_reach(alloc, &found, after))
-}
-
-// The board is read for each row, so that what goes over the rows holds none.
-fn is_led(alloc: Global, line: &str, before: (Known, Counted), after: &[Reached]) -> Option<bool> {
-    let board = rule_board(alloc).ok()?;
-    is_led_on(alloc, &board, line, before, after)
-}
-
-/// Tries that it does.
-pub(super) fn leads(
-    rt: &impl Abort,
-    alloc: Global,
-    line: &str,
-    before: (Known, Counted),
-    after: &[Reached],
 ) {
-    let is_so = is_led(alloc, line, before, after);
-    same(rt, (line, is_so), (line, Some(true)));
+    let row = row_of(rt, alloc, before.0, before.1);
+    let edges = edges_of(rt, alloc, board, line, &row);
+    same(
+        rt,
+        (line, all_reach(rt, alloc, &edges, after)),
+        (line, true),
+    );
 }
 
 /// Nothing is counted.
@@ -204,19 +207,11 @@ static MESSAGES: [Sent; 17] = [
     ),
 ];
 
-fn sends(rt: &impl Abort, alloc: Global, sent: Sent) {
+fn sends(rt: &impl Abort, alloc: Global, board: &Board, sent: Sent) {
     let (line, before, done, otherwise) = sent;
     let after = [(1, done, UNCOUNTED), (2, otherwise, UNCOUNTED)];
-    match format!(in alloc; "{line} else x") {
-        Ok(text) => leads(rt, alloc, &text, (before, UNCOUNTED), &after),
-        Err(_) => panic!(rt; "no memory"),
-    }
-}
-
-fn all_send(rt: &impl Abort, alloc: Global, rows: &[Sent]) {
-    for sent in rows {
-        sends(rt, alloc, *sent);
-    }
+    let text = made(rt, format!(in alloc; "{line} else x"));
+    leads(rt, alloc, board, &text, (before, UNCOUNTED), &after);
 }
 
 /// Messages that return a number, and the numbers. The register equals nothing then.
@@ -246,28 +241,25 @@ fn with_register(ends: (u16, u16), source: Source) -> Known {
     (&[0], &[0], &[0, 1, 2], ends, source)
 }
 
-fn all_load(rt: &impl Abort, alloc: Global, rows: &[Load]) {
-    let before = with_register((5, 5), Status(0));
-    for (line, ends) in rows {
-        let loaded = with_register(*ends, NO);
-        sends(rt, alloc, (line, before, loaded, before));
-    }
-}
-
-fn none_changes(rt: &impl Abort, alloc: Global, lines: &[&'static str]) {
-    let before = with_register((5, 5), Status(0));
-    for line in lines {
-        sends(rt, alloc, (line, before, before, before));
-    }
-}
-
 #[test]
 fn edges_of_messages(rt: HostRuntime) {
-    all_send(&rt, rt.alloc(), &MESSAGES);
+    let alloc = rt.alloc();
+    let board = rule_board(&rt, alloc);
+    for sent in &MESSAGES {
+        sends(&rt, alloc, &board, *sent);
+    }
 }
 
 #[test]
 fn edges_of_other_messages(rt: HostRuntime) {
-    all_load(&rt, rt.alloc(), &LOADS);
-    none_changes(&rt, rt.alloc(), &UNCHANGING);
+    let alloc = rt.alloc();
+    let board = rule_board(&rt, alloc);
+    let before = with_register((5, 5), Status(0));
+    for (line, ends) in &LOADS {
+        let loaded = with_register(*ends, NO);
+        sends(&rt, alloc, &board, (*line, before, loaded, before));
+    }
+    for line in &UNCHANGING {
+        sends(&rt, alloc, &board, (*line, before, before, before));
+    }
 }

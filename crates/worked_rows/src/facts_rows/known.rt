@@ -1,9 +1,12 @@
 //! A board with one of each duty and edge, and rows on it.
 
-use board::{Board, BoardFault, read_board};
+use crate::boards::boxed;
+use crate::expected::{found, made};
+use board::{Board, read_board};
 use facts::{GoodSet, PageSet, ProtectSet, Row, Source, Span};
 use seq_program::{Program, read_program};
 use std::alloc::Global;
+use std::process::Abort;
 
 /// Target a has a rail on its pages 0 and 1 and none on page 2. Its first rail needs b's, and its
 /// second both others.
@@ -60,15 +63,16 @@ limit_uv = 3300000
 needs = ["va", "vb"]
 "#;
 
-pub(crate) fn rule_board(alloc: Global) -> Result<Board, BoardFault> {
-    read_board(alloc, BOARD)
+pub(crate) fn rule_board(rt: &impl Abort, alloc: Global) -> Box<Board> {
+    boxed(rt, alloc, read_board(alloc, BOARD))
 }
 
 /// The same where b stretches the clock.
-pub(crate) fn slow_board(alloc: Global) -> Result<Board, BoardFault> {
+pub(crate) fn slow_board(rt: &impl Abort, alloc: Global) -> Box<Board> {
     let quick = "pages = 1\nexponent = -12\nstretch = 0";
-    let text = BOARD.replace(alloc, quick, "pages = 1\nexponent = -12\nstretch = 100")?;
-    read_board(alloc, &text)
+    let slow = "pages = 1\nexponent = -12\nstretch = 100";
+    let text = made(rt, BOARD.replace(alloc, quick, slow));
+    boxed(rt, alloc, read_board(alloc, &text))
 }
 
 /// What target a may store in PAGE and in WRITE_PROTECT, the rails that reported good, and the
@@ -98,56 +102,48 @@ fn span_of(ends: (u16, u16)) -> Span {
     }
 }
 
-/// What both targets may store in PAGE; the second has its only page.
-fn pages_of(alloc: Global, pages: &[u8]) -> Option<Vec<PageSet>> {
-    let (first, second) = (
-        PageSet::of(alloc, pages).ok()??,
-        PageSet::of(alloc, &[0]).ok()??,
-    );
-    Vec::from_array(alloc, [first, second]).ok()
+fn page_set(rt: &impl Abort, alloc: Global, pages: &[u8]) -> PageSet {
+    found(rt, made(rt, PageSet::of(alloc, pages)))
 }
 
-/// What both targets may store in WRITE_PROTECT; the second stores 00h.
-fn protects_of(alloc: Global, protects: &[u8]) -> Option<Vec<ProtectSet>> {
-    let (first, second) = (
-        ProtectSet::of(alloc, protects).ok()??,
-        ProtectSet::of(alloc, &[0]).ok()??,
-    );
-    Vec::from_array(alloc, [first, second]).ok()
+fn protect_set(rt: &impl Abort, alloc: Global, protects: &[u8]) -> ProtectSet {
+    found(rt, made(rt, ProtectSet::of(alloc, protects)))
+}
+
+/// A row for two targets, of which the second has its only page and stores 00h in WRITE_PROTECT.
+fn row_where(rt: &impl Abort, alloc: Global, first: PageSet, protects: ProtectSet) -> Row {
+    let pages = [first, page_set(rt, alloc, &[0])];
+    let protects = [protects, protect_set(rt, alloc, &[0])];
+    let pages = made(rt, Vec::from_array(alloc, pages));
+    Row::at_start(pages, made(rt, Vec::from_array(alloc, protects)))
 }
 
 /// A row for two targets, of which the second stores 00h in both. Its r7 equals what the second
 /// stores in PAGE, and c1 has a coefficient.
-pub(crate) fn row_of(alloc: Global, known: Known, counted: Counted) -> Option<Row> {
+pub(crate) fn row_of(rt: &impl Abort, alloc: Global, known: Known, counted: Counted) -> Row {
     let (pages, protects, good, span, source) = known;
     let (counter, base, coeff) = counted;
-    let good = GoodSet::of(alloc, good).ok()??;
-    let pages = pages_of(alloc, pages)?;
-    let mut row = Row::at_start(pages, protects_of(alloc, protects)?);
-    row.good = good;
+    let pages = page_set(rt, alloc, pages);
+    let mut row = row_where(rt, alloc, pages, protect_set(rt, alloc, protects));
+    row.good = found(rt, made(rt, GoodSet::of(alloc, good)));
     row.regs[0] = span_of(span);
     row.sources[0] = source;
     row.sources[7] = Source::Page(1);
     row.counters[0] = span_of(counter);
     row.base = base;
     row.coeffs = [coeff, 5, 0, 0];
-    Some(row)
+    row
 }
 
-/// A program that begins with the line, and the row before it.
-pub(crate) fn begins_with(
-    alloc: Global,
-    board: &Board,
-    line: &str,
-    before: Before,
-) -> Option<(Program, Row)> {
+/// A row that equals nothing in r0, and counts nothing.
+pub(crate) fn row_before(rt: &impl Abort, alloc: Global, before: Before) -> Row {
     let (pages, protects, good, span) = before;
-    let text = format!(in alloc; "{line} else x\nx:\nend").ok()?;
-    let program = read_program(alloc, board, &text).ok()?;
-    let row = row_of(
-        alloc,
-        (pages, protects, good, span, Source::None),
-        ((0, 0), 0, 0),
-    )?;
-    Some((program, row))
+    let known = (pages, protects, good, span, Source::None);
+    row_of(rt, alloc, known, ((0, 0), 0, 0))
+}
+
+/// A program that begins with a message.
+pub(crate) fn begins_with(rt: &impl Abort, alloc: Global, board: &Board, line: &str) -> Program {
+    let text = made(rt, format!(in alloc; "{line} else x\nx:\nend"));
+    made(rt, read_program(alloc, board, &text))
 }

@@ -2,11 +2,12 @@
 
 use super::edges::{UNCOUNTED, edges_of};
 use super::known::{NOTHING, row_of};
-use crate::boards::{shared_board, two_board};
+use crate::boards::{boxed, shared_board, two_board};
 use crate::expected::same;
 use board::Board;
 use facts::{Row, Span, foreign_ticks};
 use std::alloc::Global;
+use std::process::Abort;
 use std::test::*;
 
 /// How many arbitrations may have been lost, and the base and the ticks of an edge.
@@ -24,54 +25,46 @@ static LOST: [((u16, u16), u64, (usize, Option<Lost>)); 5] = [
 ];
 
 /// A row where so many arbitrations were lost.
-fn lost_row(alloc: Global, lost: (u16, u16), coeff: u64) -> Option<Row> {
-    let mut row = row_of(alloc, NOTHING, UNCOUNTED)?;
+fn lost_row(rt: &impl Abort, alloc: Global, lost: (u16, u16), coeff: u64) -> Row {
+    let mut row = row_of(rt, alloc, NOTHING, UNCOUNTED);
     row.lost = Span {
         lo: lost.0,
         hi: lost.1,
     };
     row.lost_coeff = coeff;
-    Some(row)
+    row
 }
 
 /// How many edges a message has, and the third one.
-fn third_edge(alloc: Global, board: &Board, row: &Row) -> Option<(usize, Option<Lost>)> {
-    let edges = edges_of(alloc, board, "write a PAGE 0 else x", row)?;
+fn third_edge(rt: &impl Abort, alloc: Global, board: &Board, row: &Row) -> (usize, Option<Lost>) {
+    let edges = edges_of(rt, alloc, board, "write a PAGE 0 else x", row);
     let third = match edges.get(2) {
         Some((_to, row, ticks)) => Some(((row.lost.lo, row.lost.hi), row.base, *ticks)),
         None => None,
     };
-    Some((edges.len(), third))
-}
-
-fn third_of(alloc: Global, lost: (u16, u16), coeff: u64) -> Option<(usize, Option<Lost>)> {
-    let board = shared_board(alloc).ok()?;
-    let row = lost_row(alloc, lost, coeff)?;
-    third_edge(alloc, &board, &row)
+    (edges.len(), third)
 }
 
 #[test]
 fn edges_of_lost_arbitrations(rt: HostRuntime) {
+    let alloc = rt.alloc();
+    let board = boxed(&rt, alloc, shared_board(alloc));
     for (lost, coeff, want) in &LOST {
-        let found = third_of(rt.alloc(), *lost, *coeff);
-        same(&rt, (*lost, *coeff, found), (*lost, *coeff, Some(*want)));
+        let row = lost_row(&rt, alloc, *lost, *coeff);
+        let third = third_edge(&rt, alloc, &board, &row);
+        same(&rt, (*lost, *coeff, third), (*lost, *coeff, *want));
     }
 }
 
-/// The ticks of the longest frame of another controller.
-fn ticks_beside(alloc: Global) -> Option<u64> {
-    let board = shared_board(alloc).ok()?;
-    Some(foreign_ticks(&board))
-}
-
-/// The same on a board that names none.
-fn ticks_alone(alloc: Global) -> Option<u64> {
-    let board = two_board(alloc).ok()?;
-    Some(foreign_ticks(&board))
-}
-
+/// Those of the longest frame of another controller; two_board names none.
 #[test]
 fn ticks_of_other_controllers(rt: HostRuntime) {
-    same(&rt, ticks_beside(rt.alloc()), Some(116));
-    same(&rt, ticks_alone(rt.alloc()), Some(32));
+    let alloc = rt.alloc();
+    let beside = boxed(&rt, alloc, shared_board(alloc));
+    let alone = boxed(&rt, alloc, two_board(alloc));
+    same(
+        &rt,
+        (foreign_ticks(&beside), foreign_ticks(&alone)),
+        (116, 32),
+    );
 }

@@ -1,5 +1,5 @@
 use super::known::{rule_board, slow_board};
-use crate::expected::same;
+use crate::expected::{found, made, same};
 use board::Board;
 use facts::own_ticks;
 use seq_program::read_program;
@@ -46,33 +46,24 @@ static TICKS: [Ticks; 29] = [
     ("fail", 1, 1),
 ];
 
-fn ticks_on(alloc: Global, board: &Board, line: &str) -> Option<u64> {
-    let text = format!(in alloc; "{line}\nx:\nend").ok()?;
-    let program = read_program(alloc, board, &text).ok()?;
-    let instr = program.at(0)?;
-    Some(own_ticks(board, instr))
-}
-
-/// The same on the board where no target stretches the clock.
-fn quick_ticks(alloc: Global, line: &str) -> Option<u64> {
-    let board = rule_board(alloc).ok()?;
-    ticks_on(alloc, &board, line)
-}
-
-/// The same on the board where one does.
-fn slow_ticks(alloc: Global, line: &str) -> Option<u64> {
-    let board = slow_board(alloc).ok()?;
-    ticks_on(alloc, &board, line)
-}
-
-fn all_take(rt: &impl Abort, alloc: Global, rows: &[Ticks]) {
-    for (line, least, most) in rows {
-        let taken = (*line, quick_ticks(alloc, line), slow_ticks(alloc, line));
-        same(rt, taken, (*line, Some(*least), Some(*most)));
-    }
+fn ticks_on(rt: &impl Abort, alloc: Global, board: &Board, line: &str) -> u64 {
+    let text = made(rt, format!(in alloc; "{line}\nx:\nend"));
+    let program = made(rt, read_program(alloc, board, &text));
+    own_ticks(board, found(rt, program.at(0)))
 }
 
 #[test]
 fn own_ticks_of_forms(rt: HostRuntime) {
-    all_take(&rt, rt.alloc(), &TICKS);
+    let alloc = rt.alloc();
+    let quick = rule_board(&rt, alloc);
+    let slow = slow_board(&rt, alloc);
+    for (line, least, most) in &TICKS {
+        let least_taken = ticks_on(&rt, alloc, &quick, line);
+        let most_taken = ticks_on(&rt, alloc, &slow, line);
+        same(
+            &rt,
+            (*line, least_taken, most_taken),
+            (*line, *least, *most),
+        );
+    }
 }

@@ -17,13 +17,11 @@ const WIDE: Way = (
 );
 
 /// The part of the first row that doesn't cover the second, where so many arbitrations were lost.
-fn uncovered(alloc: Global, row: Way, other: Way, lost: Span) -> Option<Option<RowPart>> {
-    let (row, mut other) = (
-        row_of(alloc, row.0, row.1)?,
-        row_of(alloc, other.0, other.1)?,
-    );
+fn uncovered(rt: &impl Abort, alloc: Global, row: Way, other: Way, lost: Span) -> Option<RowPart> {
+    let row = row_of(rt, alloc, row.0, row.1);
+    let mut other = row_of(rt, alloc, other.0, other.1);
     other.lost = lost;
-    Some(row.uncovered(&other))
+    row.uncovered(&other)
 }
 
 const NONE: Span = Span { lo: 0, hi: 0 };
@@ -83,17 +81,14 @@ static UNCOVERED: [Uncovered; 10] = [
     ),
 ];
 
-/// Tries each.
-fn all_uncovered(rt: &impl Abort, alloc: Global, rows: &[Uncovered]) {
-    for (other, part) in rows {
-        same(rt, uncovered(alloc, WIDE, *other, NONE), Some(*part));
-    }
-}
-
 #[test]
 fn parts_that_do_not_cover(rt: HostRuntime) {
-    all_uncovered(&rt, rt.alloc(), &UNCOVERED);
+    let alloc = rt.alloc();
+    for (other, want) in &UNCOVERED {
+        let part = uncovered(&rt, alloc, WIDE, *other, NONE);
+        same(&rt, part, *want);
+    }
     let lost = Span { lo: 0, hi: 1 };
-    let part = uncovered(rt.alloc(), WIDE, WIDE, lost);
-    same(&rt, part, Some(Some(RowPart::Lost)));
+    let part = uncovered(&rt, alloc, WIDE, WIDE, lost);
+    same(&rt, part, Some(RowPart::Lost));
 }

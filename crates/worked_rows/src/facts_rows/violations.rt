@@ -1,26 +1,23 @@
 //! What is to blame where an instruction breaks a rule.
 
-use super::known::{Before, begins_with, rule_board};
-use crate::expected::same;
+use super::known::{Before, begins_with, row_before, rule_board};
+use crate::expected::{found, same};
 use board::Board;
 use facts::{Rule, Span, Violation, violation};
 use std::alloc::Global;
 use std::process::Abort;
 use std::test::*;
 
-fn violation_on(
+fn violation_of(
+    rt: &impl Abort,
     alloc: Global,
     board: &Board,
     line: &str,
     before: Before,
-) -> Option<Option<Violation>> {
-    let (program, row) = begins_with(alloc, board, line, before)?;
-    Some(violation(board, program.at(0)?, &row))
-}
-
-fn violation_of(alloc: Global, line: &str, before: Before) -> Option<Option<Violation>> {
-    let board = rule_board(alloc).ok()?;
-    violation_on(alloc, &board, line, before)
+) -> Option<Violation> {
+    let program = begins_with(rt, alloc, board, line);
+    let row = row_before(rt, alloc, before);
+    violation(board, found(rt, program.at(0)), &row)
 }
 
 /// A message, what is known before it, and what is to blame.
@@ -111,15 +108,14 @@ static BLAMED: [Blamed; 17] = [
     ),
 ];
 
-fn all_are_blamed(rt: &impl Abort, alloc: Global, rows: &[Blamed]) {
-    for (line, before, want) in rows {
-        same(rt, violation_of(alloc, line, *before), Some(*want));
-    }
-}
-
 #[test]
 fn what_is_to_blame(rt: HostRuntime) {
-    all_are_blamed(&rt, rt.alloc(), &BLAMED);
+    let alloc = rt.alloc();
+    let board = rule_board(&rt, alloc);
+    for (line, before, want) in &BLAMED {
+        let seen = violation_of(&rt, alloc, &board, line, *before);
+        same(&rt, (*line, seen), (*line, *want));
+    }
     same(&rt, Violation::AllPages.rule(), Rule::K2);
     same(&rt, Rule::K7.name(), "K7");
 }

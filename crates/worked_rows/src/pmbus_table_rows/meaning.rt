@@ -6,8 +6,8 @@ use pmbus_table::{
     PROTECTIONS, StatusWord, carries_voltage, code, enables, is_exponent, is_protection,
     mantissas_in_volt, permits, reported_good, within,
 };
-use std::process::Abort;
 use std::test::*;
+
 /// The protection, the code of a command, and whether it may be written, if both are known.
 type Protected = (u8, u8, Option<bool>);
 
@@ -29,15 +29,11 @@ static PERMITTED: [Protected; 15] = [
     (0xC0, code::WRITE_PROTECT, None),
 ];
 
-fn each_permits(rt: &impl Abort, rows: &[Protected]) {
-    for row in rows {
-        same(rt, (row.0, row.1, permits(row.0, row.1)), *row);
-    }
-}
-
 #[test]
 fn protection(rt: HostRuntime) {
-    each_permits(&rt, &PERMITTED);
+    for row in &PERMITTED {
+        same(&rt, (row.0, row.1, permits(row.0, row.1)), *row);
+    }
 }
 
 #[test]
@@ -69,15 +65,11 @@ static OPERATIONS: [(u8, bool); 14] = [
     (0xFF, false),
 ];
 
-fn each_enables(rt: &impl Abort, rows: &[(u8, bool)]) {
-    for row in rows {
-        same(rt, (row.0, enables(row.0)), *row);
-    }
-}
-
 #[test]
 fn operations(rt: HostRuntime) {
-    each_enables(&rt, &OPERATIONS);
+    for row in &OPERATIONS {
+        same(&rt, (row.0, enables(row.0)), *row);
+    }
 }
 
 /// Codes of commands, and whether they carry a voltage.
@@ -94,15 +86,11 @@ static CARRIERS: [(u8, bool); 10] = [
     (0xFF, false),
 ];
 
-fn each_carries(rt: &impl Abort, rows: &[(u8, bool)]) {
-    for row in rows {
-        same(rt, (row.0, carries_voltage(row.0)), *row);
-    }
-}
-
 #[test]
 fn voltage_commands(rt: HostRuntime) {
-    each_carries(&rt, &CARRIERS);
+    for row in &CARRIERS {
+        same(&rt, (row.0, carries_voltage(row.0)), *row);
+    }
 }
 
 /// Status words, and whether they report a good voltage.
@@ -114,15 +102,11 @@ static STATUSES: [(u16, bool); 5] = [
     (0xF7BF, true),
 ];
 
-fn each_reports(rt: &impl Abort, rows: &[(u16, bool)]) {
-    for row in rows {
-        same(rt, (row.0, reported_good(row.0)), *row);
-    }
-}
-
 #[test]
 fn status(rt: HostRuntime) {
-    each_reports(&rt, &STATUSES);
+    for row in &STATUSES {
+        same(&rt, (row.0, reported_good(row.0)), *row);
+    }
 }
 
 #[test]
@@ -146,20 +130,16 @@ static EXPONENTS: [(i8, Option<u64>); 5] = [
     (1, None),
 ];
 
-fn each_is_exponent(rt: &impl Abort, rows: &[(i8, Option<u64>)]) {
-    for row in rows {
-        same(rt, (row.0, mantissas_in_volt(row.0)), *row);
-        same(
-            rt,
-            (row.0, is_exponent(i64::from(row.0))),
-            (row.0, row.1.is_some()),
-        );
-    }
-}
-
 #[test]
 fn exponents(rt: HostRuntime) {
-    each_is_exponent(&rt, &EXPONENTS);
+    for (number, in_volt) in &EXPONENTS {
+        let seen = (mantissas_in_volt(*number), is_exponent(i64::from(*number)));
+        same(
+            &rt,
+            (*number, seen),
+            (*number, (*in_volt, in_volt.is_some())),
+        );
+    }
 }
 
 /// The mantissa and the exponent of a voltage, a limit, and whether the voltage is within it.
@@ -177,15 +157,11 @@ static VOLTAGES: [Voltage; 9] = [
     (4506, -12, 1_100_000, false),
 ];
 
-fn each_is_limited(rt: &impl Abort, rows: &[Voltage]) {
-    for row in rows {
-        let (mantissa, exponent, limit, _) = *row;
-        let is_within = within(mantissa, exponent, limit);
-        same(rt, (mantissa, exponent, limit, is_within), *row);
-    }
-}
-
 #[test]
 fn voltages(rt: HostRuntime) {
-    each_is_limited(&rt, &VOLTAGES);
+    for row in &VOLTAGES {
+        let (mantissa, exponent, limit, _) = *row;
+        let is_within = within(mantissa, exponent, limit);
+        same(&rt, (mantissa, exponent, limit, is_within), *row);
+    }
 }

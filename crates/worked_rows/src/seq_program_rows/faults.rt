@@ -1,18 +1,17 @@
 //! Faults of programs, with the words that are to blame.
 
-use crate::boards::two_board;
-use crate::expected::same;
-use board::BoardFault;
+use crate::boards::{boxed, two_board};
+use crate::expected::{found, made, same};
+use board::Board;
 use seq_program::{Misfit, Operand, ProgramFault, other_faults, read_program};
 use smbus::Form;
 use std::alloc::Global;
 use std::process::Abort;
 use std::test::*;
 
-/// The fault of a text on TWO.
-fn fault_of(alloc: Global, text: &str) -> Result<Option<ProgramFault>, BoardFault> {
-    let board = two_board(alloc)?;
-    Ok(read_program(alloc, &board, text).err())
+/// The fault of a text.
+fn fault_of(alloc: Global, board: &Board, text: &str) -> Option<ProgramFault> {
+    read_program(alloc, board, text).err()
 }
 
 /// Five lines that can't be read, one of them twice a label.
@@ -26,27 +25,17 @@ set r9 1
 fail
 ";
 
-/// The faults of the other lines than this: so many of them at most, and how many there are more.
-fn others_than(
-    alloc: Global,
-    line: usize,
-    most: usize,
-) -> Result<(Vec<ProgramFault>, usize), BoardFault> {
-    let board = two_board(alloc)?;
-    let faults = other_faults(alloc, &board, FIVE_FAULTS, line, most)?;
-    Ok((faults.first, faults.more))
-}
-
+/// Tries the faults of the other lines than this: so many of them at most, and how many there are
+/// more.
 fn others_are(
     rt: &impl Abort,
     alloc: Global,
+    board: &Board,
     (line, most): (usize, usize),
     want: (&[ProgramFault], usize),
 ) {
-    match others_than(alloc, line, most) {
-        Ok((first, more)) => same(rt, (first.as_slice(), more), want),
-        Err(_) => panic!(rt; "no memory"),
-    }
+    let faults = made(rt, other_faults(alloc, board, FIVE_FAULTS, line, most));
+    same(rt, (faults.first.as_slice(), faults.more), want);
 }
 
 static BEHIND_THE_FIRST: [ProgramFault; 4] = [
@@ -63,31 +52,31 @@ static BEHIND_THE_FIRST: [ProgramFault; 4] = [
 
 #[test]
 fn faults_of_other_lines(rt: HostRuntime) {
+    let alloc = rt.alloc();
+    let board = boxed(&rt, alloc, two_board(alloc));
     let all = BEHIND_THE_FIRST.as_slice();
-    let first = Ok(Some(ProgramFault::UnknownWord(1)));
-    same(&rt, fault_of(rt.alloc(), FIVE_FAULTS), first);
-    others_are(&rt, rt.alloc(), (1, 19), (all, 0));
-    others_are(&rt, rt.alloc(), (1, 4), (all, 0));
-    others_are(&rt, rt.alloc(), (1, 3), (&all[..3], 1));
-    others_are(&rt, rt.alloc(), (4, 0), (&[], 5));
+    let first = Some(ProgramFault::UnknownWord(1));
+    same(&rt, fault_of(alloc, &board, FIVE_FAULTS), first);
+    others_are(&rt, alloc, &board, (1, 19), (all, 0));
+    others_are(&rt, alloc, &board, (1, 4), (all, 0));
+    others_are(&rt, alloc, &board, (1, 3), (&all[..3], 1));
+    others_are(&rt, alloc, &board, (4, 0), (&[], 5));
 }
 
-/// A carriage return is a character like any other.
+/// Texts, and their faults. A carriage return is a character like any other.
+static FAULTS: [(&str, ProgramFault); 3] = [
+    ("end\r\n", ProgramFault::UnknownWord(1)),
+    ("end # a comment\r\nend\r", ProgramFault::UnknownWord(2)),
+    ("", ProgramFault::NoEnd(0)),
+];
+
 #[test]
 fn faults(rt: HostRuntime) {
-    let first = ProgramFault::UnknownWord(1);
-    same(&rt, fault_of(rt.alloc(), "end\r\n"), Ok(Some(first)));
-    let second = ProgramFault::UnknownWord(2);
-    same(
-        &rt,
-        fault_of(rt.alloc(), "end # a comment\r\nend\r"),
-        Ok(Some(second)),
-    );
-    same(
-        &rt,
-        fault_of(rt.alloc(), ""),
-        Ok(Some(ProgramFault::NoEnd(0))),
-    );
+    let alloc = rt.alloc();
+    let board = boxed(&rt, alloc, two_board(alloc));
+    for (text, want) in &FAULTS {
+        same(&rt, fault_of(alloc, &board, text), Some(*want));
+    }
 }
 
 #[test]
@@ -98,7 +87,7 @@ fn numbers_and_names_of_faults(rt: HostRuntime) {
 }
 
 /// Operands that can't stand in their places, or are too many or too few.
-const MISFITS: [(&str, Misfit); 16] = [
+static MISFITS: [(&str, Misfit); 16] = [
     ("quick a r", Misfit::Count(4)),
     ("alert r0 else bad now", Misfit::Count(3)),
     ("call a D0 1 r0 r1 else bad", Misfit::Count(6)),
@@ -129,21 +118,18 @@ const MISFITS: [(&str, Misfit); 16] = [
     ("write a VOUT_MAX r0 else bad", Misfit::NoVoltage),
 ];
 
-/// Tries what is wrong with the operands of each line.
-fn all_misfit(rt: &impl Abort, alloc: Global, lines: &[(&str, Misfit)]) {
-    for (line, misfit) in lines {
-        let want = ProgramFault::BadOperand(1, *misfit);
-        same(rt, fault_of(alloc, line), Ok(Some(want)));
+#[test]
+fn misfits(rt: HostRuntime) {
+    let alloc = rt.alloc();
+    let board = boxed(&rt, alloc, two_board(alloc));
+    for (line, misfit) in &MISFITS {
+        let fault = fault_of(alloc, &board, line);
+        same(&rt, fault, Some(ProgramFault::BadOperand(1, *misfit)));
     }
 }
 
-#[test]
-fn misfits(rt: HostRuntime) {
-    all_misfit(&rt, rt.alloc(), &MISFITS);
-}
-
 /// Lines with a word that is to blame for another fault, and that word's number.
-const BLAMED: [(&str, &str, Option<usize>); 9] = [
+static BLAMED: [(&str, &str, Option<usize>); 9] = [
     ("go", "UnknownWord", Some(0)),
     ("quick nobody r else bad", "UnknownTarget", Some(1)),
     ("send a PAGE else bad", "UnknownCommand", Some(2)),
@@ -155,37 +141,29 @@ const BLAMED: [(&str, &str, Option<usize>); 9] = [
     ("set r0 1", "NoEnd", None),
 ];
 
-/// The name of a line's fault, and the number of the word that is to blame.
-fn blamed_in(alloc: Global, line: &str) -> Option<(&'static str, Option<usize>)> {
-    let fault = fault_of(alloc, line).ok()??;
-    Some((fault.name(), fault.word()))
-}
-
-/// Tries which word of each line is to blame, and for which fault.
-fn all_blamed(rt: &impl Abort, alloc: Global, lines: &[(&str, &'static str, Option<usize>)]) {
-    for (line, name, word) in lines {
-        same(rt, blamed_in(alloc, line), Some((*name, *word)));
-    }
-}
-
 #[test]
 fn blamed_words(rt: HostRuntime) {
-    all_blamed(&rt, rt.alloc(), &BLAMED);
+    let alloc = rt.alloc();
+    let board = boxed(&rt, alloc, two_board(alloc));
+    for (line, name, word) in &BLAMED {
+        let fault = found(&rt, fault_of(alloc, &board, line));
+        same(
+            &rt,
+            (*line, fault.name(), fault.word()),
+            (*line, *name, *word),
+        );
+    }
 }
 
 /// The forms of which a command has to take one.
 #[test]
 fn unknown_commands(rt: HostRuntime) {
+    let alloc = rt.alloc();
+    let board = boxed(&rt, alloc, two_board(alloc));
     let sent = ProgramFault::UnknownCommand(1, Form::SendByte, Form::SendByte);
-    same(
-        &rt,
-        fault_of(rt.alloc(), "send a PAGE else bad"),
-        Ok(Some(sent)),
-    );
+    let fault = fault_of(alloc, &board, "send a PAGE else bad");
+    same(&rt, fault, Some(sent));
     let read = ProgramFault::UnknownCommand(1, Form::ReadByte, Form::ReadWord);
-    same(
-        &rt,
-        fault_of(rt.alloc(), "read a D0 r0 else bad"),
-        Ok(Some(read)),
-    );
+    let fault = fault_of(alloc, &board, "read a D0 r0 else bad");
+    same(&rt, fault, Some(read));
 }

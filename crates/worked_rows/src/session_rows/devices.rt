@@ -110,17 +110,12 @@ fn the_size_limit(rt: HostRuntime) {
     replies(&rt, rt.alloc(), &mut Lines { left: 16_777_217 }, want);
 }
 
-/// Tries a reader that fails at each of so many calls.
-fn each_fails(rt: &impl Abort, alloc: Global, calls: usize) {
-    for calls_left in 0..calls {
-        fails(rt, alloc, &mut slow_reader(0, calls_left));
-    }
-}
-
 #[test]
 fn the_reader_fails_at_each_call(rt: HostRuntime) {
     let calls = FRAME.len() + 1;
-    each_fails(&rt, rt.alloc(), calls);
+    for calls_left in 0..calls {
+        fails(&rt, rt.alloc(), &mut slow_reader(0, calls_left));
+    }
     let want = (Status::Accepted, FRAME_REPLY);
     replies(&rt, rt.alloc(), &mut slow_reader(0, calls), want);
 }
@@ -185,29 +180,23 @@ fn the_writer_fails_at_each_call(rt: HostRuntime) {
     all_stop(&rt, rt.alloc(), ASKING.as_bytes(), ASKED.as_bytes());
 }
 
-/// How a message is answered by a reader and a writer that fail after so many calls, and what the
-/// writer has got.
-fn served(alloc: Global, reads: usize, writes: usize) -> (Result<Status, DeviceFault>, Vec<u8>) {
-    let mut output = SlowWriter {
-        taken: Vec::new(alloc),
-        calls_left: writes,
-        fails: true,
-    };
-    let status = serve(alloc, &mut slow_reader(0, reads), &mut output);
-    (status, output.taken)
-}
-
-/// Tries how it is answered.
+/// Tries how a message is answered by a reader and a writer that fail after so many calls, and what
+/// the writer has got.
 fn serves(
     rt: &impl Abort,
     alloc: Global,
     calls: (usize, usize),
     want: (Result<Status, DeviceFault>, &[u8]),
 ) {
-    let (status, taken) = served(alloc, calls.0, calls.1);
+    let mut output = SlowWriter {
+        taken: Vec::new(alloc),
+        calls_left: calls.1,
+        fails: true,
+    };
+    let status = serve(alloc, &mut slow_reader(0, calls.0), &mut output);
     same(
         rt,
-        (calls, status, taken.as_slice()),
+        (calls, status, output.taken.as_slice()),
         (calls, want.0, want.1),
     );
 }

@@ -1,78 +1,56 @@
-//! What is found of an input beside the reply to it: what was read, where its sections and places
-//! stand, and the first breach of its run.
+//! What is found of an input beside the reply to it: what was read, where its sections stand, and
+//! the first breach of its run.
 
 use crate::boards::TWO;
-use crate::expected::{holds, same};
+use crate::expected::{found, made, same};
 use crate::session_rows::input_of;
 use bundles::Section;
 use facts::Rule;
 use run_monitor::Breach;
-use seq_program::{ProgramFault, place_line, place_lines};
+use seq_program::ProgramFault;
 use session::{InputFault, Outcome, Ran, judge, section_of};
-use std::alloc::{AllocError, Global};
+use std::alloc::Global;
 use std::process::Abort;
 use std::test::*;
 
 const BUNDLE: &str = "%check\n%board\n# none\n%program\nend\n\nfail\n%table\n";
 
-/// The text of a section, and the number of its first line.
-fn part_in(
-    alloc: Global,
-    sections: &[Section<'_>],
-    index: usize,
-) -> Result<Option<(String, usize)>, AllocError> {
-    let text = section_of(alloc, sections, index)?;
-    match (text, sections.get(index)) {
-        (Some(text), Some(section)) => Ok(Some((text, section.first_line))),
-        _ => Ok(None),
-    }
-}
-
-/// The same of a section of the bundle.
-fn part_of(alloc: Global, index: usize) -> Result<Option<(String, usize)>, AllocError> {
-    let input = input_of(alloc, BUNDLE)?;
-    let case = judge(alloc, &input)?;
-    let part = part_in(alloc, &case.sections, index);
-    // by a call, since the proof has a path for each part that may be there to drop
-    drop(case);
-    part
+/// Tries the text of a section and the number of its first line, and that there are three.
+fn are_three(rt: &impl Abort, alloc: Global, sections: &[Section<'_>], want: (&str, usize)) {
+    let text = found(rt, made(rt, section_of(alloc, sections, 1)));
+    let program = found(rt, sections.get(1));
+    same(rt, (text.as_str(), program.first_line), want);
+    let past = made(rt, section_of(alloc, sections, 3));
+    same(rt, past.as_deref(), None);
 }
 
 #[test]
 fn sections(rt: HostRuntime) {
-    let program = String::from_str(rt.alloc(), "end\n\nfail\n").map(|text| Some((text, 5)));
-    same(&rt, part_of(rt.alloc(), 1), program);
-    same(&rt, part_of(rt.alloc(), 3), Ok(None));
-}
-
-/// A place is an instruction: no label is one, and no line without words.
-const PLACES: &str = "# first\nend\n\nthen:\nfail # last\n";
-
-#[test]
-fn places(rt: HostRuntime) {
-    holds(&rt, place_lines(rt.alloc(), PLACES), &[2, 5]);
-    same(&rt, place_line(rt.alloc(), PLACES, 1), Ok(Some(5)));
-    same(&rt, place_line(rt.alloc(), PLACES, 2), Ok(None));
+    let input = input_of(&rt, rt.alloc(), BUNDLE);
+    let case = made(&rt, judge(rt.alloc(), &input));
+    are_three(&rt, rt.alloc(), &case.sections, ("end\n\nfail\n", 5));
+    // by a call, since the proof has a path for each part that may be there to drop
+    drop(case);
 }
 
 /// The fault of an input of which nothing is done.
-fn unread(alloc: Global, text: &str) -> Result<Option<InputFault>, AllocError> {
-    let input = input_of(alloc, text)?;
-    let case = judge(alloc, &input)?;
+fn unread(rt: &impl Abort, alloc: Global, text: &str) -> Option<InputFault> {
+    let input = input_of(rt, alloc, text);
+    let case = made(rt, judge(alloc, &input));
     let fault = match &case.outcome {
         Outcome::Unread(unread) => Some(unread.fault()),
         _ => None,
     };
     drop(case);
-    Ok(fault)
+    fault
 }
 
 #[test]
 fn faults(rt: HostRuntime) {
     let text = format!(in rt.alloc(); "%verify\n%board\n{TWO}%program\nfail\nstop\n");
-    let found = text.and_then(|text| unread(rt.alloc(), &text));
+    let text = made(&rt, text);
     let fault = InputFault::Program(ProgramFault::UnknownWord(2));
-    same(&rt, found, Ok(Some(fault)));
+    same(&rt, unread(&rt, rt.alloc(), &text), Some(fault));
 }
 
 /// The second rail needs the first, which wasn't turned on.
@@ -101,27 +79,30 @@ fn run_of(ran: &Ran<'_>) -> (bool, Option<Breach>) {
     (ran.told.is_ok(), breach)
 }
 
-/// The same of the run of a bundle.
-fn early_run(alloc: Global, answers: &str) -> Result<(bool, Option<Breach>), AllocError> {
-    let run = format!(in alloc; "%program\n{EARLY}%answers\nstart 00,00 00,00\n{answers}")?;
-    let text = format!(in alloc; "%run\n%board\n{TWO}{run}")?;
-    let input = input_of(alloc, &text)?;
-    let case = judge(alloc, &input)?;
+/// The same of a bundle that is run.
+fn run_in(rt: &impl Abort, alloc: Global, text: &str) -> Option<(bool, Option<Breach>)> {
+    let input = input_of(rt, alloc, text);
+    let case = made(rt, judge(alloc, &input));
     let run = match &case.outcome {
-        Outcome::Ran(ran) => Ok(run_of(ran)),
-        _ => Err(AllocError),
+        Outcome::Ran(ran) => Some(run_of(ran)),
+        _ => None,
     };
     drop(case);
     run
 }
 
-fn all_are_found(rt: &impl Abort, alloc: Global, rows: &[(&str, (bool, Option<Breach>))]) {
-    for (answers, want) in rows {
-        same(rt, early_run(alloc, answers), Ok(*want));
-    }
+/// A bundle of EARLY with answers.
+fn early_text(rt: &impl Abort, alloc: Global, answers: &str) -> String {
+    let run = format!(in alloc; "%program\n{EARLY}%answers\nstart 00,00 00,00\n{answers}");
+    let run = made(rt, run);
+    made(rt, format!(in alloc; "%run\n%board\n{TWO}{run}"))
 }
 
 #[test]
 fn breaches(rt: HostRuntime) {
-    all_are_found(&rt, rt.alloc(), &FOUND);
+    for (answers, want) in &FOUND {
+        let text = early_text(&rt, rt.alloc(), answers);
+        let run = run_in(&rt, rt.alloc(), &text);
+        same(&rt, (*answers, run), (*answers, Some(*want)));
+    }
 }

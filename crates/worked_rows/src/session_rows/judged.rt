@@ -1,6 +1,6 @@
 //! Sessions that judge a program: one that ends at once, on a board of one target.
 
-use crate::expected::same;
+use crate::expected::{made, same};
 use session::{Status, session};
 use std::alloc::Global;
 use std::process::Abort;
@@ -54,22 +54,19 @@ fn accepts(rt: &impl Abort, alloc: Global, input: &str, want: &str) {
 }
 
 #[test]
-fn a_program_is_verified(rt: HostRuntime) -> Result<(), Fail> {
-    let input = format!(in rt.alloc(); "%verify\n{SECTIONS}")?;
+fn a_program_is_verified(rt: HostRuntime) {
+    let input = made(&rt, format!(in rt.alloc(); "%verify\n{SECTIONS}"));
     accepts(&rt, rt.alloc(), &input, "accepted bound 1\n");
-    Ok(())
 }
 
 #[test]
-fn a_table_is_found(rt: HostRuntime) -> Result<(), Fail> {
-    let input = format!(in rt.alloc(); "%find\n{SECTIONS}")?;
+fn a_table_is_found(rt: HostRuntime) {
+    let input = made(&rt, format!(in rt.alloc(); "%find\n{SECTIONS}"));
     accepts(&rt, rt.alloc(), &input, TABLE);
-    Ok(())
 }
 
 #[test]
-fn a_table_is_checked(rt: HostRuntime) -> Result<(), Fail> {
-    let input = format!(in rt.alloc(); "%check\n{SECTIONS}%table\n{TABLE}")?;
-    accepts(&rt, rt.alloc(), &input, "accepted bound 1\n");
-    Ok(())
+fn a_table_is_checked(rt: HostRuntime) {
+    let input = format!(in rt.alloc(); "%check\n{SECTIONS}%table\n{TABLE}");
+    accepts(&rt, rt.alloc(), &made(&rt, input), "accepted bound 1\n");
 }

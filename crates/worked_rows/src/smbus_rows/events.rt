@@ -1,12 +1,12 @@
 //! Events that are no frames, segments by themselves, and the words of forms.
 
 use super::{observed, reads};
-use crate::expected::same;
+use crate::expected::{made, same};
 use smbus::{
-    Form, ObserveFault, Segment, carries_code, form_named, is_numbered, observe, only_frame,
+    Form, Frame, ObserveFault, Segment, carries_code, form_named, is_numbered, observe, only_frame,
     only_frame_in,
 };
-use std::alloc::{AllocError, Global};
+use std::alloc::Global;
 use std::process::Abort;
 use std::test::*;
 use wires::{Event, Runs, Sample};
@@ -34,19 +34,12 @@ static STRAYS: [(&[Event], Option<ObserveFault>); 6] = [
     (&[], None),
 ];
 
-fn all_stray(rt: &impl Abort, alloc: Global, rows: &[(&[Event], Option<ObserveFault>)]) {
-    for (events, want) in rows {
-        same(
-            rt,
-            (*events, observe(alloc, events).err()),
-            (*events, *want),
-        );
-    }
-}
-
 #[test]
 fn places_of_stray_events(rt: HostRuntime) {
-    all_stray(&rt, rt.alloc(), &STRAYS);
+    for (events, want) in &STRAYS {
+        let fault = observe(rt.alloc(), events).err();
+        same(&rt, (*events, fault), (*events, *want));
+    }
 }
 
 #[test]
@@ -59,33 +52,27 @@ fn stray_events_are_named(rt: HostRuntime) {
 static BARE: [Event; 5] = [Event::Start, HIGH, Event::Start, LOW, Event::Stop];
 
 /// The address and the direction of the first segment.
-fn first_address(alloc: Global) -> Result<Option<(Option<u8>, Option<bool>)>, ObserveFault> {
-    let frames = observe(alloc, &BARE)?;
-    let Some(frame) = frames.first() else {
-        return Ok(None);
-    };
-    let Some(segment) = frame.segments.first() else {
-        return Ok(None);
-    };
-    Ok(Some((segment.address(), segment.read())))
-}
-
-#[test]
-fn empty_segments(rt: HostRuntime) {
-    same(&rt, first_address(rt.alloc()), Ok(Some((None, None))));
-    reads(&rt, observed(rt.alloc(), &BARE), Ok("S Sr P"));
-}
-
-/// The address and the direction of a segment.
-fn address_of(alloc: Global) -> Option<(Option<u8>, Option<bool>)> {
-    let bytes = vec![in alloc; (0x81, true), (0x5A, false)].ok()?;
-    let segment = Segment { bytes };
+fn first_address(frames: &[Frame]) -> Option<(Option<u8>, Option<bool>)> {
+    let segment = frames.first()?.segments.first()?;
     Some((segment.address(), segment.read()))
 }
 
 #[test]
+fn empty_segments(rt: HostRuntime) {
+    let frames = made(&rt, observe(rt.alloc(), &BARE));
+    same(&rt, first_address(&frames), Some((None, None)));
+    reads(&rt, observed(rt.alloc(), &BARE), Ok("S Sr P"));
+}
+
+#[test]
 fn addresses(rt: HostRuntime) {
-    same(&rt, address_of(rt.alloc()), Some((Some(0x40), Some(true))));
+    let bytes = made(&rt, vec![in rt.alloc(); (0x81, true), (0x5A, false)]);
+    let segment = Segment { bytes };
+    same(
+        &rt,
+        (segment.address(), segment.read()),
+        (Some(0x40), Some(true)),
+    );
 }
 
 #[test]
@@ -111,14 +98,11 @@ fn refusals_of_three_bytes(rt: HostRuntime) {
     same(&rt, is_numbered(Some(3), 3), false);
 }
 
-fn is_one_frame(alloc: Global, events: &[Event]) -> Result<bool, AllocError> {
-    Ok(only_frame(alloc, events)?.is_some())
-}
-
 #[test]
 fn events_of_one_frame(rt: HostRuntime) {
-    same(&rt, is_one_frame(rt.alloc(), &BARE), Ok(true));
-    same(&rt, is_one_frame(rt.alloc(), &[]), Ok(false));
+    let frame = made(&rt, only_frame(rt.alloc(), &BARE));
+    let none = made(&rt, only_frame(rt.alloc(), &[]));
+    same(&rt, (frame.is_some(), none.is_some()), (true, false));
 }
 
 /// SCL and SDA of a START, a repeated START and a STOP, tick by tick.
@@ -134,36 +118,25 @@ static BARE_LINES: [(bool, bool); 8] = [
 ];
 
 /// A few samples.
-fn push_lines(
-    rt: &impl Abort,
-    samples: &mut Runs,
-    lines: &[(bool, bool)],
-) -> Result<(), AllocError> {
+fn push_lines(rt: &impl Abort, samples: &mut Runs, lines: &[(bool, bool)]) {
     for (scl, sda) in lines {
         assert!(rt; samples.total() < 1000);
         let (scl, sda, alert) = (*scl, *sda, true);
-        samples.push(Sample { scl, sda, alert }, 1)?;
+        made(rt, samples.push(Sample { scl, sda, alert }, 1));
     }
-    Ok(())
 }
 
-/// Whether these lines have one frame, and whether they have one when they come twice.
-fn are_one_frame(
-    rt: &impl Abort,
-    alloc: Global,
-    lines: &[(bool, bool)],
-) -> Result<(bool, bool), AllocError> {
-    let mut samples = Runs::new(alloc);
-    push_lines(rt, &mut samples, lines)?;
-    let once = only_frame_in(alloc, &samples)?.is_some();
-    push_lines(rt, &mut samples, lines)?;
-    Ok((once, only_frame_in(alloc, &samples)?.is_some()))
+fn is_one_frame(rt: &impl Abort, alloc: Global, samples: &Runs) -> bool {
+    made(rt, only_frame_in(alloc, samples)).is_some()
 }
 
+/// Lines of one frame have none when they come twice.
 #[test]
 fn samples_of_one_frame(rt: HostRuntime) {
-    let bare = are_one_frame(&rt, rt.alloc(), &BARE_LINES);
-    same(&rt, bare, Ok((true, false)));
-    let none = are_one_frame(&rt, rt.alloc(), &[]);
-    same(&rt, none, Ok((false, false)));
+    let mut samples = Runs::new(rt.alloc());
+    same(&rt, is_one_frame(&rt, rt.alloc(), &samples), false);
+    push_lines(&rt, &mut samples, &BARE_LINES);
+    same(&rt, is_one_frame(&rt, rt.alloc(), &samples), true);
+    push_lines(&rt, &mut samples, &BARE_LINES);
+    same(&rt, is_one_frame(&rt, rt.alloc(), &samples), false);
 }

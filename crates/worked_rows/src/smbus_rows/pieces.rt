@@ -1,7 +1,7 @@
 //! Frames of a stream of events that comes in pieces.
 
 use super::{reads, status_events, texts_of};
-use crate::expected::same;
+use crate::expected::{found, same};
 use smbus::{ObserveFault, Observer};
 use std::alloc::Global;
 use std::process::Abort;
@@ -61,17 +61,12 @@ fn last_ends(rt: &impl Abort, alloc: Global, before: &[Event], last: Event, ende
     feeds(rt, alloc, &mut observer, (&[last], Ok(STATUS_FRAME), ended));
 }
 
-fn all_are_fed(rt: &impl Abort, alloc: Global) -> Option<()> {
-    let events = status_events(alloc)?;
-    let ended = (events.len() as u64, Ok(()));
-    let (last, before) = events.split_last()?;
-    last_ends(rt, alloc, before, *last, ended);
-    Some(())
-}
-
 #[test]
 fn event_by_event(rt: HostRuntime) {
-    same(&rt, all_are_fed(&rt, rt.alloc()), Some(()));
+    let events = status_events(&rt, rt.alloc());
+    let ended = (events.len() as u64, Ok(()));
+    let (last, before) = found(&rt, events.split_last());
+    last_ends(&rt, rt.alloc(), before, *last, ended);
 }
 
 /// Feeds one frame in two pieces: it ends in the later one, unless that is empty.
@@ -86,19 +81,14 @@ fn feeds_both(rt: &impl Abort, alloc: Global, first: &[Event], later: &[Event], 
     feeds(rt, alloc, &mut observer, (later, Ok(texts.1), ended));
 }
 
-fn each_cut(rt: &impl Abort, alloc: Global) -> Option<()> {
-    let events = status_events(alloc)?;
+#[test]
+fn cut_in_two(rt: HostRuntime) {
+    let events = status_events(&rt, rt.alloc());
     let ended = (events.len() as u64, Ok(()));
     for place in 0..=events.len() {
         let (first, later) = events.split_at(place);
-        feeds_both(rt, alloc, first, later, ended);
+        feeds_both(&rt, rt.alloc(), first, later, ended);
     }
-    Some(())
-}
-
-#[test]
-fn cut_in_two(rt: HostRuntime) {
-    same(&rt, each_cut(&rt, rt.alloc()), Some(()));
 }
 
 /// A fault before all events.

@@ -1,8 +1,8 @@
 //! Waveforms: the whole text of a dump, step by step.
 
 use super::{IDLE, Ticks, runs_of};
-use crate::expected::same;
-use std::alloc::{AllocError, Global};
+use crate::expected::{made, same};
+use std::alloc::Global;
 use std::process::Abort;
 use std::test::*;
 use wires::{Sample, Wave};
@@ -25,35 +25,31 @@ $end
 ";
 
 /// Tries what is dumped behind the header.
-fn draws(rt: &impl Abort, wave: Result<Wave, AllocError>, steps: &str) {
-    match wave {
-        Ok(wave) => same(rt, wave.into_text().strip_prefix(HEADER), Some(steps)),
-        Err(_) => panic!(rt; "no memory"),
-    }
+fn draws(rt: &impl Abort, wave: Wave, steps: &str) {
+    same(rt, wave.into_text().strip_prefix(HEADER), Some(steps));
 }
 
 #[test]
 fn a_dump_of_no_steps(rt: HostRuntime) {
-    draws(&rt, Wave::new(rt.alloc()), "");
+    draws(&rt, made(&rt, Wave::new(rt.alloc())), "");
 }
 
 /// The place of a step, and its samples.
 type Step<'a> = (usize, &'a [Ticks]);
 
 /// A wave of two short steps.
-fn wave_of(
-    rt: &impl Abort,
-    alloc: Global,
-    first: Step<'_>,
-    later: Step<'_>,
-) -> Result<Wave, AllocError> {
-    let before = runs_of(rt, alloc, first.1)?;
-    let behind = runs_of(rt, alloc, later.1)?;
+fn wave_of(rt: &impl Abort, alloc: Global, first: Step<'_>, later: Step<'_>) -> Wave {
+    let before = runs_of(rt, alloc, first.1);
+    let behind = runs_of(rt, alloc, later.1);
     assert!(rt; before.total().max(behind.total()) < 1000);
-    let mut wave = Wave::new(alloc)?;
-    wave.push(first.0, &before)?;
-    wave.push(later.0, &behind)?;
-    Ok(wave)
+    let Ok(mut wave) = Wave::new(alloc) else {
+        panic!(rt; "no memory");
+    };
+    let Ok(()) = wave.push(first.0, &before) else {
+        panic!(rt; "no memory");
+    };
+    made(rt, wave.push(later.0, &behind));
+    wave
 }
 
 /// A START, SCL low, and an alert meanwhile.
