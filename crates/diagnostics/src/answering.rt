@@ -14,9 +14,10 @@ use crate::bound::{Beside, bound_on};
 use crate::input::note_on;
 use crate::other_errors::{OtherErrors, other_errors_on};
 use crate::warning::{Warnings, warnings_on};
-use notes::Note;
+use notes::{InFile, Note};
 use session::{Case, DeviceFault, Reply, Status, deliver, judge, read_input, reply_of};
 use std::alloc::Global;
+use std::fmt;
 use std::io::{Read, Write};
 
 /// What a person is told of an input, beside the reply.
@@ -29,6 +30,42 @@ pub struct Notes {
     pub warnings: Warnings,
     /// Where the ticks of its bound go, where it is accepted and that is asked for.
     pub bound: Option<Note>,
+}
+
+/// Some notes, each on its section.
+#[derive(Clone, Copy)]
+struct OnSections<'a>(&'a [Note]);
+
+impl fmt::Display for OnSections<'_> {
+    fn fmt<W: fmt::Write>(&self, f: &mut fmt::Formatter<W>) -> fmt::Result {
+        for note in self.0 {
+            let name = &note.section;
+            let note = InFile { name, note };
+            write!(f, "{note}")?;
+        }
+        Ok(())
+    }
+}
+
+/// The notes as standard error has them, each on its section: what to mend, and then what is
+/// warned of.
+impl fmt::Display for Notes {
+    fn fmt<W: fmt::Write>(&self, f: &mut fmt::Formatter<W>) -> fmt::Result {
+        let (error, others) = (
+            OnSections(self.error.as_slice()),
+            OnSections(&self.others.notes),
+        );
+        let untold = self.others.untold;
+        let of_board = OnSections(&self.warnings.of_board);
+        let of_program = OnSections(&self.warnings.of_program);
+        let of_labels = OnSections(&self.warnings.of_labels);
+        let of_run = OnSections(self.warnings.of_run.as_slice());
+        let bound = OnSections(self.bound.as_slice());
+        write!(
+            f,
+            "{error}{others}{untold}{of_board}{of_program}{of_labels}{of_run}{bound}"
+        )
+    }
 }
 
 /// What a person is told of an input, by what became of it: what to mend, and what is warned of.

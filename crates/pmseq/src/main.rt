@@ -3,32 +3,10 @@
 //! program is suspicious, and where a run does what a checked program never does.
 #![tactic(auto)]
 
-use diagnostics::{Beside, Notes, answer};
-use notes::{InFile, Note};
+use diagnostics::{Beside, answer};
 use session::Status;
-use std::io::{Stderr, Write};
+use std::io::Write;
 use std::process::ExitCode;
-
-/// Writes some notes. What becomes of them changes nothing.
-fn write_notes(errors: &mut Stderr, notes: &[Note]) {
-    for note in notes {
-        let name = &note.section;
-        let note = InFile { name, note };
-        let _written = write!(errors, "{note}");
-    }
-}
-
-/// Tells a person what to mend, and then what is warned of.
-fn tell(errors: &mut Stderr, notes: &Notes) {
-    let untold = notes.others.untold;
-    write_notes(errors, notes.error.as_slice());
-    write_notes(errors, &notes.others.notes);
-    let _written = write!(errors, "{untold}");
-    write_notes(errors, &notes.warnings.of_board);
-    write_notes(errors, &notes.warnings.of_program);
-    write_notes(errors, &notes.warnings.of_labels);
-    write_notes(errors, notes.warnings.of_run.as_slice());
-}
 
 fn main(rt: HostRuntime) -> ExitCode {
     let status = match answer(
@@ -38,7 +16,8 @@ fn main(rt: HostRuntime) -> ExitCode {
         Beside::Nothing,
     ) {
         Ok(answered) => {
-            tell(&mut rt.stderr(), &answered.notes);
+            // what becomes of the notes changes nothing
+            let _written = write!(&mut rt.stderr(), "{}", answered.notes);
             let status = answered.status;
             // by a call, since the proof has a path for each part that may be there to drop
             drop(answered);
