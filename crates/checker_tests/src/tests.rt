@@ -1,0 +1,5 @@
+mod boards;
+mod expected;
+mod growths;
+mod joins;
+mod search;

@@ -1,0 +1,5 @@
+mod boards;
+mod devices;
+mod expected;
+mod names;
+mod runs;

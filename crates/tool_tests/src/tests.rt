@@ -1,0 +1,10 @@
+mod boards;
+mod breaches;
+mod devices;
+mod expected;
+mod paths;
+mod played;
+mod refused;
+mod sentence_words;
+mod sessions;
+mod text_faults;

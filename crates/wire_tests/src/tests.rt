@@ -1,0 +1,10 @@
+mod bundle_texts;
+mod devices;
+mod expected;
+mod frames;
+mod note_forms;
+mod pieces;
+mod samples;
+mod sending;
+mod slots;
+mod waves;
