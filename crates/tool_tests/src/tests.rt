@@ -2,6 +2,7 @@ mod boards;
 mod breaches;
 mod devices;
 mod expected;
+mod laws;
 mod paths;
 mod played;
 mod refused;
