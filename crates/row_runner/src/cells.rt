@@ -9,7 +9,7 @@ use std::fmt::Debug;
 use table_check::Table;
 use texts::{ReadError, pairs_of};
 
-/// What a letter behind a backslash stands for.
+/// The character that a letter after a backslash means.
 fn meaning(letter: char) -> char {
     match letter {
         'n' => '\n',
@@ -55,12 +55,12 @@ pub(crate) fn escaped(alloc: Global, text: &str) -> Result<String, AllocError> {
     Ok(cell)
 }
 
-/// A number, decimal or behind `0x`.
+/// A number, decimal or after `0x`.
 pub(crate) fn number(cell: &str, most: u32) -> Outcome<u32> {
     number_within(0, most, cell).ok_or(Flaw::Cell("number").error())
 }
 
-/// A byte, decimal or behind `0x`.
+/// A byte, decimal or after `0x`.
 pub(crate) fn byte(cell: &str) -> Outcome<u8> {
     match u8::try_from(number(cell, 255)?) {
         Ok(byte) => Ok(byte),
@@ -68,7 +68,7 @@ pub(crate) fn byte(cell: &str) -> Outcome<u8> {
     }
 }
 
-/// A number of 16 bits, decimal or behind `0x`.
+/// A number of 16 bits, decimal or after `0x`.
 pub(crate) fn word(cell: &str) -> Outcome<u16> {
     match u16::try_from(number(cell, 65_535)?) {
         Ok(word) => Ok(word),

@@ -1,4 +1,4 @@
-//! Rows of what is suspicious in accepted programs, and of the states of rails behind it.
+//! Rows of what is suspicious in accepted programs, and of the states of rails that show it.
 
 use crate::cells::{board, byte, found_table, number, program};
 use crate::row::{Flaw, Outcome, Row};

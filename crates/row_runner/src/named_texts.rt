@@ -68,7 +68,7 @@ impl<'a> Texts<'a> {
         Ok(())
     }
 
-    /// Puts a text in the place of another in the last text; whether it stands there.
+    /// Puts a text in the place of another in the last text; whether it is there.
     pub(crate) fn replace(
         &mut self,
         alloc: Global,

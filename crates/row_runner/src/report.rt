@@ -29,7 +29,7 @@ impl Report {
         self.text.push_str(lines)
     }
 
-    /// Counts a failure that stands on a line of a file.
+    /// Counts a failure on a line of a file.
     pub(crate) fn fail_at(
         &mut self,
         alloc: Global,

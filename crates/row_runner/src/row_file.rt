@@ -97,7 +97,7 @@ impl<'a> RowFile<'a> {
         }
     }
 
-    /// Adds a text that stands already to the one that is being written.
+    /// Adds an earlier text to the one that is being written.
     fn use_text(&mut self, alloc: Global, name: &str) -> Result<bool, AllocError> {
         let Some(text) = self.texts.find(name) else {
             return Ok(false);

@@ -7,7 +7,7 @@ use crate::report::Report;
 use crate::row_file::run_file;
 use std::alloc::{AllocError, Global};
 
-/// What is known behind some items: the texts that rows may name, the case that ran last, and what
+/// What is known after some items: the texts that rows may name, the case that ran last, and what
 /// came out.
 #[derive(Drop)]
 struct Run<'a> {

@@ -1,5 +1,4 @@
-//! Assertions that stand in functions of their own are proved once, and calls of them are proved
-//! quickly.
+//! Assertions in functions of their own are proved once, and calls of them are proved quickly.
 
 use std::fmt::Debug;
 use std::process::Abort;

@@ -1,5 +1,5 @@
-//! What tests share to try values: an assertion that stands in a function of its own is proved
-//! once, and calls of it are proved quickly.
+//! What tests share to try values: an assertion in a function of its own is proved once, and
+//! calls of it are proved quickly.
 
 use notes::{InFile, Note};
 use std::alloc::{AllocError, Global};
