@@ -9,3 +9,4 @@ mod refused;
 mod sentence_words;
 mod sessions;
 mod text_faults;
+mod whole_inputs;
